@@ -1,13 +1,7 @@
-// A library with one function.
+//! Words and a small type that the streams, disks and doors of the service share: counts of faults, and lists that
+//! an object may tell.
 #![tactic(auto)]
 
-ghost use Rattle.std.specs.Prelude.{◌≡◌};
-ghost use Rattle.byte_streams.specs.Echo.{echo_of};
+mod faults;
 
-// The `ensures` clause is the contract: what `echo` returns is `echo_of` of its argument, a definition
-// in `specs/Echo.antt`, which a caller's clause can cite too.
-pub fn echo(x: usize) -> usize
-    ensures { result ≡ echo_of x }
-{
-    x
-}
+pub use faults::FaultCount;
