@@ -1,13 +1,11 @@
-// A library with one function.
+//! Maps from texts and from byte strings, which contracts see as finite maps.
+//!
+//! A key is looked up by a borrowed text or a borrowed byte string, which takes no memory.
 #![tactic(auto)]
 
-ghost use Rattle.std.specs.Prelude.{◌≡◌};
-ghost use Rattle.text_maps.specs.Echo.{echo_of};
+mod byte_map;
+mod joined;
+mod text_map;
 
-// The `ensures` clause is the contract: what `echo` returns is `echo_of` of its argument, a definition
-// in `specs/Echo.antt`, which a caller's clause can cite too.
-pub fn echo(x: usize) -> usize
-    ensures { result ≡ echo_of x }
-{
-    x
-}
+pub use byte_map::ByteMap;
+pub use text_map::TextMap;

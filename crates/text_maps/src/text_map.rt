@@ -1,0 +1,148 @@
+// Maps from texts.
+ghost use Rattle.std.specs.Prelude.{◌≡◌, ◌++◌, ◌↔◌, List, ℕ, OnOk, OnErr, IfSome, IfNone, IfOk, IsTrue, string_bytes, is_some};
+ghost use Rattle.std.specs.FinMap as map;
+ghost use Rattle.std.specs.Option.{option_copied};
+ghost use Rattle.std.specs.BTreeMap.{UpdatesBy, IsUnchanged, get_by_text};
+ghost use Rattle.std.specs.Cmp.Lexicographic.{slice_cmp};
+ghost use Rattle.std.specs.Ordering.{nat_cmp};
+ghost use Rattle.std.specs.String.{string_cmp};
+ghost use Rattle.text_maps.specs.Keyed.{text_order};
+
+use crate::joined::is_joined;
+use std::alloc::{AllocError, Global};
+use std::collections::BTreeMap;
+use std::marker::Model;
+
+/// A map from texts to values, in the order of the texts' bytes.
+#[derive(Drop)]
+pub struct TextMap<V> {
+    alloc: Global,
+    entries: BTreeMap<String, V>,
+}
+
+impl<V> Model for TextMap<V> {
+    ghost use Rattle.std.specs.Prelude.{List, ℕ, string_bytes};
+    ghost use Rattle.std.specs.FinMap as map;
+    ghost use Rattle.std.specs.Coded.{coded_ℕ, coded_list};
+    ghost use Rattle.text_maps.specs.Keyed.{text_order, keyed};
+
+    ghost Value = { map.FinMap text_order V };
+
+    ghost coded = { map.code (coded_list coded_ℕ) V.code };
+
+    ghost view = { λ a. map.from_entries (keyed string_bytes a.entries.entries) };
+}
+
+impl<V> TextMap<V> {
+    /// A map without entries. It takes no memory.
+    pub fn new(alloc: Global) -> Self
+        ensures { result ≡ map.empty }
+    {
+        TextMap {
+            alloc,
+            entries: BTreeMap::new(alloc),
+        }
+    }
+
+    /// How many keys the map has.
+    pub fn len(&self) -> usize
+        ensures { result ≡ map.len self.now }
+    {
+        self.entries.len()
+    }
+
+    /// Whether the map has no key.
+    pub fn is_empty(&self) -> bool
+        ensures { IsTrue result ↔ (map.len self.now ≡ 0) }
+    {
+        self.len() == 0
+    }
+
+    /// The value at a text.
+    pub fn get(&self, key: &str) -> Option<&V>
+        ensures { option_copied result ≡ map.get self.now key.now }
+    {
+        self.entries.get(key)
+    }
+
+    /// The value at the text that is `front` and then `rest`, without making that text. It looks at each entry.
+    pub fn get_joined(&self, front: &str, rest: &str) -> Option<&V>
+        ensures { option_copied result ≡ map.get self.now (front.now ++ rest.now) }
+    {
+        find_joined(&self.entries, front, rest)
+    }
+
+    /// Whether the map has a value at a text.
+    pub fn contains_key(&self, key: &str) -> bool
+        ensures { result ≡ map.contains_key self.now key.now }
+    {
+        self.entries.contains_key(key)
+    }
+}
+
+impl<V: Drop> TextMap<V> {
+    /// Puts a value at a text, in place of any that is there. An error leaves the map as it was, and comes only where
+    /// the text is new.
+    pub fn put(&mut self, key: String, value: V) -> Result<(), AllocError>
+        ensures ok { OnOk result (self.new ≡ map.insert self.old (string_bytes key) value) }
+        ensures err { OnErr result (self.new ≡ self.old) }
+        ensures absent { OnErr result (map.get self.old (string_bytes key) ≡ None) }
+    {
+        self.entries.insert(key, value)?;
+        Ok(())
+    }
+
+    /// As `put`, at a copy of a borrowed text, which is made only where the text is new.
+    pub fn put_copy(&mut self, key: &str, value: V) -> Result<(), AllocError>
+        ensures ok { OnOk result (self.new ≡ map.insert self.old key.now value) }
+        ensures err { OnErr result (self.new ≡ self.old) }
+        ensures absent { OnErr result (map.get self.old key.now ≡ None) }
+    {
+        match replace(&mut self.entries, key, value) {
+            Some(value) => {
+                let copy = String::from_str(self.alloc, key)?;
+                self.put(copy, value)
+            }
+            None => Ok(()),
+        }
+    }
+
+    /// Takes a text and its value out of the map, and gives the value.
+    pub fn remove(&mut self, key: &str) -> Option<V>
+        ensures value { result ≡ map.get self.old key.now }
+        ensures rest { self.new ≡ map.remove self.old key.now }
+    {
+        self.entries.remove(key)
+    }
+}
+
+// The value at the text that is `front` and then `rest`.
+fn find_joined<'a, V>(entries: &'a BTreeMap<String, V>, front: &str, rest: &str) -> Option<&'a V>
+    ensures { option_copied result ≡ get_by_text entries.now (front.now ++ rest.now) }
+{
+    for (key, value) in entries {
+        if is_joined(key.as_str(), front, rest) {
+            return Some(value);
+        }
+    }
+    None
+}
+
+// Writes a value at a text that the map has, or gives the value back.
+fn replace<V: Drop>(entries: &mut BTreeMap<String, V>, key: &str, value: V) -> Option<V>
+    ensures there { IfNone result (UpdatesBy string_cmp (λ k. slice_cmp nat_cmp key.now (string_bytes k)) entries.old entries.new (Some value)) }
+    ensures unchanged { IfSome result (λ _. IsUnchanged entries.old entries.new) }
+    ensures absent { IfSome result (λ _. get_by_text entries.old key.now ≡ None) }
+    ensures given_back { IfSome result (λ v. v ≡ value) }
+{
+    match entries.get_mut(key) {
+        Some(slot) => {
+            *slot = value;
+            None
+        }
+        None => Some(value),
+    }
+}
+
+#[cfg(test)]
+mod tests;

@@ -1,0 +1,19 @@
+use super::*;
+use std::test::Fail;
+
+#[test]
+fn keeps_the_last_value_of_each_text(rt: HostRuntime) -> Result<(), Fail> {
+    let mut map = TextMap::new(rt.alloc());
+    assert!(rt; map.is_empty());
+    map.put(String::from_str(rt.alloc(), "b")?, 1_u64)?;
+    map.put_copy("a", 2)?;
+    map.put_copy("b", 3)?;
+    map.put_copy("g:x", 4)?;
+    assert_eq!(rt; map.len(), 3);
+    assert_eq!(rt; map.get("b").copied(), Some(3));
+    assert_eq!(rt; map.get_joined("g:", "x").copied(), Some(4));
+    assert_eq!(rt; map.get_joined("g", "x").copied(), None);
+    assert_eq!(rt; map.remove("b"), Some(3));
+    assert!(rt; !map.contains_key("b"));
+    Ok(())
+}
