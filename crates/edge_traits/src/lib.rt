@@ -1,13 +1,36 @@
-// A library with one function.
+//! What lies outside the service, as traits with a written meaning: sources and sinks of bytes, links, disks and
+//! doors, each with a count of faults that never falls. For each of them but the disk there is one in memory, whose
+//! calls fail where a test says so; a source and a sink stand over std's readers and writers.
 #![tactic(auto)]
 
-ghost use Rattle.std.specs.Prelude.{◌≡◌};
-ghost use Rattle.edge_traits.specs.Echo.{echo_of};
+mod disk;
+mod door;
+mod failed;
+mod link;
+mod mem_door;
+mod mem_link;
+mod mem_sink;
+mod mem_source;
+mod no_disk;
+mod schedule;
+mod sink;
+mod source;
+mod std_sink;
+mod std_source;
 
-// The `ensures` clause is the contract: what `echo` returns is `echo_of` of its argument, a definition
-// in `specs/Echo.antt`, which a caller's clause can cite too.
-pub fn echo(x: usize) -> usize
-    ensures { result ≡ echo_of x }
-{
-    x
-}
+pub use disk::Disk;
+pub use door::Door;
+pub use failed::Failed;
+pub use link::Link;
+pub use mem_door::MemDoor;
+pub use mem_link::MemLink;
+pub use mem_sink::MemSink;
+pub use mem_source::MemSource;
+pub use no_disk::NoDisk;
+pub use sink::{Sink, write_all};
+pub use source::Source;
+pub use std_sink::StdSink;
+pub use std_source::StdSource;
+
+#[cfg(test)]
+mod tests;

@@ -1,0 +1,149 @@
+use super::*;
+use std::process::Abort;
+use std::test::Fail;
+
+fn source(
+    rt: &HostRuntime,
+    bytes: &[u8],
+    piece: usize,
+    failing: &[u64],
+) -> Result<MemSource, Fail> {
+    let alloc = rt.alloc();
+    let bytes = Vec::from_slice(alloc, bytes)?;
+    let failing = Vec::from_slice(alloc, failing)?;
+    Ok(MemSource::new(bytes, piece.max(1), failing))
+}
+
+fn sink(rt: &HostRuntime, failing: &[u64]) -> Result<MemSink, Fail> {
+    let alloc = rt.alloc();
+    let failing = Vec::from_slice(alloc, failing)?;
+    Ok(MemSink::new(alloc, failing))
+}
+
+// Reads once into a buffer of four bytes, and compares what came.
+fn expect_read<S: Source>(rt: &impl Abort, source: &mut S, wanted: &[u8]) {
+    let mut buf = [0; 4];
+    let read = source.read(&mut buf);
+    assert_eq!(rt; read, Ok(wanted.len()));
+    if let Ok(count) = read {
+        assert!(rt; &buf[..count] == wanted);
+    }
+}
+
+// Writes back what one read of the link gives.
+fn echo<L: Link>(link: &mut L) -> Result<usize, Failed> {
+    let mut buf = [0; 8];
+    let count = link.read(&mut buf)?;
+    write_all(link, &buf[..count])?;
+    Ok(count)
+}
+
+#[test]
+fn a_source_gives_its_bytes_in_pieces_and_fails_at_its_numbers(
+    rt: HostRuntime,
+) -> Result<(), Fail> {
+    let mut source = source(&rt, b"abcdefg", 3, &[1, 4])?;
+    expect_read(&rt, &mut source, b"abc");
+    assert_eq!(rt; source.read(&mut [0; 4]), Err(Failed));
+    expect_read(&rt, &mut source, b"def");
+    expect_read(&rt, &mut source, b"g");
+    assert_eq!(rt; source.read(&mut [0; 4]), Err(Failed));
+    expect_read(&rt, &mut source, b"");
+    expect_read(&rt, &mut source, b"");
+    Ok(())
+}
+
+#[test]
+fn a_sink_fails_at_its_numbers_and_keeps_what_it_holds(rt: HostRuntime) -> Result<(), Fail> {
+    let mut sink = sink(&rt, &[1])?;
+    assert_eq!(rt; write_all(&mut sink, b"ab"), Ok(()));
+    assert_eq!(rt; write_all(&mut sink, b"cd"), Err(Failed));
+    assert_eq!(rt; write_all(&mut sink, b""), Ok(()));
+    assert_eq!(rt; write_all(&mut sink, b"ef"), Ok(()));
+    assert!(rt; sink.bytes() == b"abef".as_slice());
+    Ok(())
+}
+
+#[test]
+fn a_link_answers_at_its_own_sink(rt: HostRuntime) -> Result<(), Fail> {
+    let mut link = MemLink::new(source(&rt, b"abcde", 4, &[1])?, sink(&rt, &[1])?);
+    assert_eq!(rt; echo(&mut link), Ok(4));
+    assert_eq!(rt; echo(&mut link), Err(Failed));
+    assert_eq!(rt; echo(&mut link), Err(Failed));
+    assert_eq!(rt; echo(&mut link), Ok(0));
+    assert!(rt; link.bytes() == b"abcd".as_slice());
+    Ok(())
+}
+
+#[test]
+fn a_door_gives_its_links_in_order_and_keeps_them_once_ended(rt: HostRuntime) -> Result<(), Fail> {
+    let alloc = rt.alloc();
+    let mut links = Vec::new(alloc);
+    links.push(MemLink::new(source(&rt, b"first", 8, &[])?, sink(&rt, &[])?))?;
+    links.push(MemLink::new(source(&rt, b"second", 8, &[])?, sink(&rt, &[])?))?;
+    let mut door = MemDoor::new(alloc, links, Vec::from_slice(alloc, &[1])?)?;
+    for wanted in [true, false, true] {
+        match door.next() {
+            Ok(Some(mut link)) => {
+                assert!(rt; wanted);
+                assert!(rt; echo(&mut link).is_ok());
+                door.give_back(link);
+            }
+            Ok(None) => assert!(rt; false),
+            Err(Failed) => assert!(rt; !wanted),
+        }
+    }
+    assert!(rt; matches!(door.next(), Ok(None)));
+    assert_eq!(rt; door.ended().len(), 2);
+    assert!(rt; door.ended()[0].bytes() == b"first".as_slice());
+    assert!(rt; door.ended()[1].bytes() == b"second".as_slice());
+    Ok(())
+}
+
+#[test]
+fn a_door_without_links_gives_none(rt: HostRuntime) -> Result<(), Fail> {
+    let alloc = rt.alloc();
+    let mut door = MemDoor::new(alloc, Vec::new(alloc), Vec::new(alloc))?;
+    assert!(rt; matches!(door.next(), Ok(None)));
+    assert!(rt; matches!(door.next(), Ok(None)));
+    assert!(rt; door.ended().is_empty());
+    Ok(())
+}
+
+#[test]
+fn no_disk_fails_at_each_call(rt: HostRuntime) {
+    let mut disk = NoDisk::new();
+    assert_eq!(rt; disk.room(), 0);
+    assert_eq!(rt; disk.length(), Err(Failed));
+    assert_eq!(rt; disk.read_at(0, &mut [0; 4]), Err(Failed));
+    assert_eq!(rt; disk.write_at(0, &[]), Err(Failed));
+    assert_eq!(rt; disk.sync(), Err(Failed));
+}
+
+#[test]
+fn readers_and_writers_of_std_serve_as_ends(rt: HostRuntime) -> Result<(), Fail> {
+    let mut source = StdSource::new(b"abcdef".as_slice());
+    expect_read(&rt, &mut source, b"abcd");
+    expect_read(&rt, &mut source, b"ef");
+    expect_read(&rt, &mut source, b"");
+    let mut sink = StdSink::new(Vec::<u8>::new(rt.alloc()));
+    assert_eq!(rt; write_all(&mut sink, b"abc"), Ok(()));
+    let mut full = StdSink::new(Full);
+    assert_eq!(rt; write_all(&mut full, b"abc"), Err(Failed));
+    assert_eq!(rt; write_all(&mut full, b""), Ok(()));
+    Ok(())
+}
+
+// A writer that takes nothing.
+#[derive(Drop)]
+struct Full;
+
+impl std::io::Write for Full {
+    fn write(&mut self, _buf: &[u8]) -> std::io::Result<usize> {
+        Ok(0)
+    }
+
+    fn flush(&mut self) -> std::io::Result<()> {
+        Ok(())
+    }
+}
