@@ -1,13 +1,17 @@
-// A library with one function.
+//! Names, the paths of folders and domains, and the ids of objects.
 #![tactic(auto)]
 
-ghost use Rattle.std.specs.Prelude.{◌≡◌};
-ghost use Rattle.object_ids.specs.Echo.{echo_of};
+mod ids;
+mod names;
+mod paths;
+mod texts;
 
-// The `ensures` clause is the contract: what `echo` returns is `echo_of` of its argument, a definition
-// in `specs/Echo.antt`, which a caller's clause can cite too.
-pub fn echo(x: usize) -> usize
-    ensures { result ≡ echo_of x }
-{
-    x
-}
+pub use ids::{Kind, ObjectId};
+pub use names::{Name, NameFault};
+pub use paths::{
+    DomainPath, MAX_PART_LEN, MAX_PATH_LEN, PathFault, parent_text, path_text, read_path,
+};
+pub use texts::id_text;
+
+#[cfg(test)]
+mod tests;

@@ -1,0 +1,158 @@
+use crate::{Kind, Name, NameFault, ObjectId, PathFault, id_text, path_text, read_path};
+use std::alloc::Global;
+
+#[test]
+fn names_are_read_and_copied(rt: HostRuntime) {
+    let alloc = rt.alloc();
+    for (text, most, is_name) in [
+        ("ab", 1usize, false),
+        ("ab", 2, true),
+        ("", 9, false),
+        ("a b", 3, true),
+        ("a\u{1f}", 9, false),
+        ("a\u{7f}", 9, false),
+        ("a\nb", 9, false),
+        ("\u{e9}t\u{e9}", 5, true),
+        ("\u{e9}t\u{e9}", 4, false),
+    ] {
+        match Name::read(alloc, text, most) {
+            Ok(name) => {
+                assert!(rt; is_name, "{text}");
+                assert_eq!(rt; name.text(), text);
+                match name.copy() {
+                    Ok(copy) => assert_eq!(rt; copy.text(), text),
+                    Err(_) => panic!(rt; "no copy of {text}"),
+                }
+            }
+            Err(fault) => {
+                assert!(rt; !is_name, "{text}");
+                assert!(rt; fault == NameFault::BadName, "{text}");
+            }
+        }
+    }
+}
+
+/// The text of the path that a text spells, and the text of its parent.
+fn read_twice(alloc: Global, text: &str) -> Result<(String, String), PathFault> {
+    let path = read_path(alloc, text)?;
+    let copy = path.copy()?;
+    let parent = path.parent()?;
+    if parent.text() != path.parent_text() || copy.text() != path.text() {
+        return Err(PathFault::NoMemory);
+    }
+    Ok((
+        String::from_str(alloc, copy.text())?,
+        String::from_str(alloc, parent.text())?,
+    ))
+}
+
+#[test]
+fn paths_are_read(rt: HostRuntime) {
+    let alloc = rt.alloc();
+    for (text, path, parent) in [
+        ("/", "/", "/"),
+        ("//", "/", "/"),
+        ("/a", "/a", "/"),
+        ("/a/", "/a", "/"),
+        ("/a/b", "/a/b", "/a"),
+        ("/a/b/", "/a/b", "/a"),
+        ("/home/lab/y26", "/home/lab/y26", "/home/lab"),
+        ("/.a/..b/...", "/.a/..b/...", "/.a/..b"),
+        ("/a b/%2f", "/a b/%2f", "/a b"),
+        ("/\u{e9}", "/\u{e9}", "/"),
+        ("", "", ""),
+        ("a", "", ""),
+        ("a/", "", ""),
+        ("///", "", ""),
+        ("/a//", "", ""),
+        ("/a//b", "", ""),
+        ("//a", "", ""),
+        ("/.", "", ""),
+        ("/a/../b", "", ""),
+        ("/a/..", "", ""),
+        ("/a\tb", "", ""),
+        ("/a\u{7f}", "", ""),
+        (" /a", "", ""),
+    ] {
+        match read_twice(alloc, text) {
+            Ok((read, above)) => {
+                assert_eq!(rt; read.as_str(), path, "{text}");
+                assert_eq!(rt; above.as_str(), parent, "{text}");
+            }
+            Err(fault) => {
+                assert!(rt; fault == PathFault::BadPath, "{text}");
+                assert_eq!(rt; "", path, "{text}");
+            }
+        }
+    }
+}
+
+/// A path of parts of `part` bytes each, and then of `last` bytes.
+fn long_path(alloc: Global, parts: u8, part: u16, last: u16) -> Result<String, PathFault> {
+    let mut text = String::new(alloc);
+    for _ in 0..parts {
+        text.push('/')?;
+        for _ in 0..part {
+            text.push('a')?;
+        }
+    }
+    text.push('/')?;
+    for _ in 0..last {
+        text.push('b')?;
+    }
+    Ok(text)
+}
+
+#[test]
+fn paths_have_a_greatest_length(rt: HostRuntime) {
+    let alloc = rt.alloc();
+    for (parts, part, last, is_path) in [
+        (0u8, 0u16, 255u16, true),
+        (0, 0, 256, false),
+        (3, 255, 255, true),
+        (4, 255, 0, true),
+        (4, 204, 203, true),
+        (4, 204, 204, false),
+    ] {
+        match long_path(alloc, parts, part, last) {
+            Ok(text) => assert!(rt;
+                path_text(text.as_str()).is_some() == is_path,
+                "{parts} {part} {last}"
+            ),
+            Err(_) => panic!(rt; "no memory"),
+        }
+    }
+}
+
+#[test]
+fn ids_are_written(rt: HostRuntime) {
+    let alloc = rt.alloc();
+    let first = ObjectId {
+        kind: Kind::Group,
+        domain: 1,
+        run: 1,
+        serial: 2,
+    };
+    let last = ObjectId {
+        kind: Kind::Dataset,
+        domain: 2,
+        run: 4_194_303,
+        serial: 1_099_511_627_775,
+    };
+    let root = ObjectId {
+        kind: Kind::Datatype,
+        domain: 1,
+        run: 0,
+        serial: 0,
+    };
+    for (id, text) in [
+        (first, "g-00000000-0001-8000-8000-010000000002"),
+        (last, "d-00000000-0002-8000-bfff-ffffffffffff"),
+        (root, "t-00000000-0001-8000-8000-000000000000"),
+    ] {
+        match id_text(alloc, &id) {
+            Ok(written) => assert_eq!(rt; written.as_str(), text),
+            Err(_) => panic!(rt; "no memory"),
+        }
+    }
+}
