@@ -1,13 +1,18 @@
-// A library with one function.
+//! Access control lists: who may do what at a folder or a domain.
+//!
+//! An access list maps names of users and groups to entries, and an entry is a set of six rights, as in the
+//! documentation of HSDS on ACLs.
 #![tactic(auto)]
 
-ghost use Rattle.std.specs.Prelude.{◌≡◌};
-ghost use Rattle.access_lists.specs.Echo.{echo_of};
+mod decision;
+mod list;
+mod people;
+mod rule;
 
-// The `ensures` clause is the contract: what `echo` returns is `echo_of` of its argument, a definition
-// in `specs/Echo.antt`, which a caller's clause can cite too.
-pub fn echo(x: usize) -> usize
-    ensures { result ≡ echo_of x }
-{
-    x
-}
+pub use decision::decide;
+pub use list::{AccessList, ListFault, MAX_ENTRIES};
+pub use people::{Caller, Names};
+pub use rule::{Right, Rights};
+
+#[cfg(test)]
+mod tests;

@@ -1,0 +1,129 @@
+ghost use Rattle.std.specs.Prelude.{◌≡◌, ◌↔◌, ◌≤◌, ◌++◌, OnOk, OnErr, IsErrOf, IsTrue};
+ghost use Rattle.std.specs.FinMap as map;
+ghost use Rattle.std.specs.Option.{option_copied};
+ghost use Rattle.access_lists.specs.declared.list.ListFault.TheVariants.{NoMemory};
+
+use crate::rule::Rights;
+use object_ids::Name;
+use std::alloc::{AllocError, Global};
+use std::marker::Model;
+use text_maps::TextMap;
+
+/// The most entries of a list.
+pub const MAX_ENTRIES: usize = 1024;
+
+/// An access list: an entry for each of some names. A user's name stands for that user, `g:` and a group's name for the
+/// users of that group, and `default` for everybody else.
+#[derive(Drop)]
+pub struct AccessList {
+    entries: TextMap<Rights>,
+}
+
+impl Model for AccessList {
+    ghost use Rattle.std.specs.Prelude.{◌≤◌, ℕ, List};
+    ghost use Rattle.std.specs.FinMap as map;
+    ghost use Rattle.std.specs.Coded.{coded_ℕ, coded_list};
+    ghost use Rattle.text_maps.specs.Keyed.{text_order};
+    ghost use Rattle.access_lists.specs.declared.rule.Rights.{Rights};
+    ghost use Rattle.access_lists.specs.contracts.rule.Rights as rights;
+    ghost use Rattle.access_lists.specs.declared.list.TheConstants.{MAX_ENTRIES};
+
+    ghost Value = { map.FinMap text_order Rights };
+
+    ghost coded = { map.code (coded_list coded_ℕ) rights.the_row.coded };
+
+    ghost view = { λ a. a.entries };
+
+    ghost invariant = { λ a. map.len a.entries ≤ MAX_ENTRIES };
+}
+
+/// Why an entry was not put into a list.
+#[derive(Clone, Copy, Debug, PartialEq, Eq)]
+pub enum ListFault {
+    /// The name is new, and the list has its most entries.
+    Limit,
+    /// There was no memory for the entry.
+    NoMemory,
+}
+
+impl From<AllocError> for ListFault {
+    ghost from_gives = { λ _ e. e ≡ NoMemory };
+
+    fn from(_error: AllocError) -> ListFault {
+        ListFault::NoMemory
+    }
+}
+
+impl AccessList {
+    /// A list without entries. It takes no memory.
+    pub fn new(alloc: Global) -> AccessList
+        ensures { result ≡ map.empty }
+    {
+        AccessList {
+            entries: TextMap::new(alloc),
+        }
+    }
+
+    /// How many entries the list has.
+    pub fn len(&self) -> usize
+        ensures len { result ≡ map.len self.now }
+        ensures most { map.len self.now ≤ MAX_ENTRIES }
+    {
+        self.entries.len()
+    }
+
+    /// Whether the list has no entry.
+    pub fn is_empty(&self) -> bool
+        ensures { IsTrue result ↔ (map.len self.now ≡ 0) }
+    {
+        self.entries.is_empty()
+    }
+
+    /// The entry of a name.
+    pub fn get(&self, name: &Name) -> Option<Rights>
+        ensures { result ≡ map.get self.now name.now }
+    {
+        self.entry(name.text())
+    }
+
+    /// Puts an entry under a name, in place of any that is there. After an error the list is as it was.
+    pub fn put(&mut self, name: Name, rights: Rights) -> Result<(), ListFault>
+        ensures ok { OnOk result (self.new ≡ map.insert self.old name rights) }
+        ensures err { OnErr result (self.new ≡ self.old) }
+        ensures limit { IsErrOf result ListFault.Limit ↔ ((map.get self.old name ≡ None) × (MAX_ENTRIES ≤ map.len self.old)) }
+        ensures memory { IsErrOf result ListFault.NoMemory → map.get self.old name ≡ None }
+    {
+        if self.is_full_for(name.text()) {
+            return Err(ListFault::Limit);
+        }
+        self.entries.put_copy(name.text(), rights)?;
+        Ok(())
+    }
+
+    // Whether the text has no entry, and there is no room for one.
+    fn is_full_for(&self, text: &str) -> bool
+        ensures { IsTrue result ↔ ((map.get self.now text.now ≡ None) × (MAX_ENTRIES ≤ map.len self.now)) }
+    {
+        !self.entries.contains_key(text) && self.entries.len() >= MAX_ENTRIES
+    }
+
+    // The entry that stands under a text.
+    pub(crate) fn entry(&self, text: &str) -> Option<Rights>
+        ensures { result ≡ map.get self.now text.now }
+    {
+        match self.entries.get(text) {
+            Some(rights) => Some(*rights),
+            None => None,
+        }
+    }
+
+    // The entry that stands under one text and then another.
+    pub(crate) fn entry_joined(&self, front: &str, rest: &str) -> Option<Rights>
+        ensures { result ≡ map.get self.now (front.now ++ rest.now) }
+    {
+        match self.entries.get_joined(front, rest) {
+            Some(rights) => Some(*rights),
+            None => None,
+        }
+    }
+}
