@@ -1,13 +1,14 @@
-// A library with one function.
+//! The catalogue: which folders and domains there are, whose they are, and their access lists.
+//!
+//! Folders and domains are those of HSDS: a domain is an HDF5 file's worth of objects under a root group, and folders
+//! hold domains and folders.
 #![tactic(auto)]
 
-ghost use Rattle.std.specs.Prelude.{◌≡◌};
-ghost use Rattle.domains.specs.Echo.{echo_of};
+mod classes;
+mod nodes;
 
-// The `ensures` clause is the contract: what `echo` returns is `echo_of` of its argument, a definition
-// in `specs/Echo.antt`, which a caller's clause can cite too.
-pub fn echo(x: usize) -> usize
-    ensures { result ≡ echo_of x }
-{
-    x
-}
+pub use classes::{Node, NodeClass};
+pub use nodes::{Catalogue, MAX_NODES};
+
+#[cfg(test)]
+mod tests;
