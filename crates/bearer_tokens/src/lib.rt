@@ -1,13 +1,11 @@
-// A library with one function.
+//! Bearer tokens: who sends a request, by its Authorization header (RFC 9110, section 11.6.2; RFC 6750, section 2.1).
 #![tactic(auto)]
 
-ghost use Rattle.std.specs.Prelude.{◌≡◌};
-ghost use Rattle.bearer_tokens.specs.Echo.{echo_of};
+mod header;
+mod table;
 
-// The `ensures` clause is the contract: what `echo` returns is `echo_of` of its argument, a definition
-// in `specs/Echo.antt`, which a caller's clause can cite too.
-pub fn echo(x: usize) -> usize
-    ensures { result ≡ echo_of x }
-{
-    x
-}
+pub use header::bearer_token;
+pub use table::Tokens;
+
+#[cfg(test)]
+mod tests;
