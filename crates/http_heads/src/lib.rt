@@ -1,13 +1,19 @@
-// A library with one function.
+//! The head of one HTTP/1.x request after another, read from a source into a buffer that is made once (RFC 9112).
+//! Which heads there are is `httparse`'s grammar, within the limits of this crate; the answer depends on the bytes
+//! alone, and not on the pieces in which they come.
 #![tactic(auto)]
 
-ghost use Rattle.std.specs.Prelude.{◌≡◌};
-ghost use Rattle.http_heads.specs.Echo.{echo_of};
+mod asks;
+mod buffer;
+mod fields;
+mod found;
+mod limits;
+mod parse;
+mod reading;
 
-// The `ensures` clause is the contract: what `echo` returns is `echo_of` of its argument, a definition
-// in `specs/Echo.antt`, which a caller's clause can cite too.
-pub fn echo(x: usize) -> usize
-    ensures { result ≡ echo_of x }
-{
-    x
-}
+pub use buffer::HeadBuffer;
+pub use found::Found;
+pub use limits::{FIELD_LIMIT, HEAD_LIMIT};
+
+#[cfg(test)]
+mod tests;

@@ -1,0 +1,120 @@
+ghost use Rattle.std.specs.Prelude.{◌≡◌, ℕ, ◌+◌, ◌-◌, ◌<◌, ◌≤◌, List, length, take, drop, slice_range, IfOk};
+ghost use Rattle.std.specs.Io.KnownBytes.{Keeps, ReadConsumes, prepend_known};
+ghost use Rattle.byte_streams.specs.Causes.{Rose, HasCause};
+ghost use Rattle.httparse.specs.Grammar.{RequestHead, ReadsRequest};
+ghost use Rattle.http_heads.specs.Found.{IsFound, IsEnded};
+
+use crate::found::Found;
+use crate::limits::{FIELD_LIMIT, HEAD_LIMIT};
+use crate::parse::{Standing, parse};
+use edge_traits::{Failed, Source};
+use httparse::spans::HeaderSpan;
+
+/// A found head or end, and the range of the unused bytes in the buffer.
+#[derive(Clone, Copy)]
+pub struct Search {
+    pub found: Found,
+    pub start: usize,
+    pub end: usize,
+}
+
+/// Finds what stands at the front of the unused bytes, `start` to `end` of `bytes`, and of what the source has left.
+/// It reads only while the unused bytes do not decide that.
+pub fn find_head<S: Source>(
+    source: &mut S,
+    bytes: &mut [u8],
+    headers: &mut [HeaderSpan],
+    start: usize,
+    end: usize,
+) -> Search
+    requires room { length bytes.old ≡ HEAD_LIMIT }
+    requires header_room { length headers.old ≡ FIELD_LIMIT }
+    requires ordered { start ≤ end }
+    requires within { end ≤ length bytes.old }
+    ensures ordered { result.start ≤ result.end }
+    ensures within { result.end ≤ length bytes.new }
+    ensures kept { Keeps (prepend_known (slice_range bytes.old start end) (S.left source.old))
+        (prepend_known (slice_range bytes.new result.start result.end) (S.left source.new)) }
+    ensures found { IsFound (slice_range bytes.new result.start result.end) headers.new (S.left source.new) result.found }
+    ensures beside { S.beside source.new ≡ S.beside source.old }
+    ensures later { S.faults source.old ≤ S.faults source.new }
+    ensures fault { result.found ≡ Found.Fault → Rose (S.faults source.old) (S.faults source.new) }
+    ensures unread { (h : RequestHead) (rest : List ℕ) → ReadsRequest (slice_range bytes.old start end) h rest
+        → source.new ≡ source.old }
+{
+    let mut start = start;
+    let mut end = end;
+    'reads: loop {
+        match parse(&bytes[start..end], headers) {
+            Standing::Whole(spans) => {
+                return Search {
+                    found: Found::Head(spans),
+                    start,
+                    end,
+                };
+            }
+            Standing::Never => return Search {
+                found: Found::NoHead,
+                start,
+                end,
+            },
+            Standing::Unfinished => match fill(source, bytes, start, end) {
+                Err(Failed) => return Search {
+                    found: Found::Fault,
+                    start: 0,
+                    end: end - start,
+                },
+                Ok(0) => return ended(end - start),
+                Ok(count) => {
+                    end = end - start + count;
+                    start = 0;
+                }
+            },
+        }
+    }
+}
+
+// The input ended, with that many unused bytes.
+fn ended(unused: usize) -> Search
+    ensures start { result.start ≡ 0 }
+    ensures end { result.end ≡ unused }
+    ensures found { IsEnded unused result.found }
+{
+    let found = if unused == 0 { Found::End } else { Found::Cut };
+    Search {
+        found,
+        start: 0,
+        end: unused,
+    }
+}
+
+// Moves the unused bytes to the front, and reads as many as the source gives behind them.
+fn fill<S: Source>(
+    source: &mut S,
+    bytes: &mut [u8],
+    start: usize,
+    end: usize,
+) -> Result<usize, Failed>
+    requires ordered { start ≤ end }
+    requires within { end ≤ length bytes.old }
+    ensures bound { IfOk result (λ n. end - start + n ≤ length bytes.new) }
+    ensures stays { take (end - start) bytes.new ≡ slice_range bytes.old start end }
+    ensures given { ReadConsumes (S.left source.old) (S.left source.new) result (drop (end - start) bytes.new) }
+    ensures beside { S.beside source.new ≡ S.beside source.old }
+    ensures cause { HasCause (S.faults source.old) (S.faults source.new) result }
+{
+    bytes[..end].rotate_left(start);
+    read_behind(source, bytes, end - start)
+}
+
+// Reads as many bytes as the source gives behind the first `at`.
+fn read_behind<S: Source>(source: &mut S, bytes: &mut [u8], at: usize) -> Result<usize, Failed>
+    requires { at ≤ length bytes.old }
+    ensures bound { IfOk result (λ n. at + n ≤ length bytes.new) }
+    ensures stays { take at bytes.new ≡ take at bytes.old }
+    ensures given { ReadConsumes (S.left source.old) (S.left source.new) result (drop at bytes.new) }
+    ensures beside { S.beside source.new ≡ S.beside source.old }
+    ensures cause { HasCause (S.faults source.old) (S.faults source.new) result }
+{
+    source.read(&mut bytes[at..])
+}
