@@ -1,13 +1,24 @@
-// A library with one function.
+//! The configuration of the service: who may show which token, and which folders and domains there are.
+//!
+//! A configuration is a TOML document with the tables `tokens`, `groups`, `folders` and `domains`.
 #![tactic(auto)]
 
-ghost use Rattle.std.specs.Prelude.{◌≡◌};
-ghost use Rattle.configuration.specs.Echo.{echo_of};
+mod config;
+mod fault;
+mod limits;
+mod owned;
+mod people;
+mod places;
+mod reading;
+mod rights;
+mod settings;
+mod tables;
+mod trees;
 
-// The `ensures` clause is the contract: what `echo` returns is `echo_of` of its argument, a definition
-// in `specs/Echo.antt`, which a caller's clause can cite too.
-pub fn echo(x: usize) -> usize
-    ensures { result ≡ echo_of x }
-{
-    x
-}
+pub use config::Config;
+pub use fault::ConfigFault;
+pub use limits::{MAX_GROUP_LEN, MAX_NAME_LEN, MAX_PLACES, MAX_TOKEN_LEN};
+pub use reading::read_config;
+
+#[cfg(test)]
+mod tests;

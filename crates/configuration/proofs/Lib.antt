@@ -1,0 +1,4 @@
+pub mod PeopleLemmas
+pub mod PlaceLemmas
+pub mod TableLemmas
+pub mod TreeLemmas

@@ -1,0 +1,11 @@
+use Rattle.std.proofs.Common.{◌∙◌, ap, sym, string_bytes}
+use Rattle.std.specs.List.{list_all}
+use Rattle.std.specs.FinMap.{entries}
+use Rattle.configuration.specs.Trees.{has_home}
+use Rattle.text_maps.proofs.KeyedMaps.{entries-keyed}
+use Rattle.configuration.proofs.trees.have_homes.Goals as goal
+
+pub returns : goal.returns
+returns c =
+    c.are_homed.ensures
+    ∙ ap (list_all (λ e. has_home c.args.folders.now e.0)) (sym (ap entries (sym c.places.view_is) ∙ entries-keyed string_bytes c.places.inside.entries.entries c.len-ordered.ensures.ordered))
