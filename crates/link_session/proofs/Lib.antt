@@ -1,0 +1,3 @@
+mod StepLemmas
+mod Progress
+pub mod Readings
