@@ -1,13 +1,76 @@
-// A library with one function.
+//! Looking into a tree of JSON (RFC 8259): its whole numbers, its lists, the texts at its keys.
+//!
+//! `specs/` has the words that contracts on trees share, and `Fault` those by which a contract says
+//! which of several faults comes first.
 #![tactic(auto)]
 
-ghost use Rattle.std.specs.Prelude.{◌≡◌};
-ghost use Rattle.trees.specs.Echo.{echo_of};
+ghost use Rattle.std.specs.Prelude.{◌≡◌, map, option_map};
+ghost use Rattle.serde_json.specs.View.{view};
+ghost use Rattle.trees.specs.Trees.{whole_in, list_in, text_at, is_text};
 
-// The `ensures` clause is the contract: what `echo` returns is `echo_of` of its argument, a definition
-// in `specs/Echo.antt`, which a caller's clause can cite too.
-pub fn echo(x: usize) -> usize
-    ensures { result ≡ echo_of x }
+use serde_json::Value;
+
+/// The number of a tree that is a whole number from 0 to 2^64 - 1, written without a fraction or
+/// an exponent.
+pub fn whole_number(tree: &Value) -> Option<u64>
+    ensures { result ≡ whole_in (view tree.now) }
 {
-    x
+    tree.as_u64()
+}
+
+/// Whether a tree is this text.
+pub fn tree_is(tree: &Value, text: &str) -> bool
+    ensures { result ≡ is_text text.now (view tree.now) }
+{
+    match tree.as_str() {
+        Some(found) => found == text,
+        None => false,
+    }
+}
+
+/// The items of a tree that is a list.
+pub fn list_items(tree: &Value) -> Option<&[Value]>
+    ensures { option_map (λ items. map view items.now) result ≡ list_in (view tree.now) }
+{
+    let list = tree.as_array()?;
+    Some(list.as_slice())
+}
+
+/// The text at a key of a tree that is an object.
+pub fn member_text<'a>(tree: &'a Value, key: &str) -> Option<&'a str>
+    ensures { option_map (λ text. text.now) result ≡ text_at key.now (view tree.now) }
+{
+    tree.get(key).and_then(Value::as_str)
+}
+
+#[cfg(test)]
+mod tests {
+    use super::*;
+    use serde_json::json;
+
+    #[test]
+    fn looks_into_trees(rt: HostRuntime) -> Result<(), std::alloc::AllocError> {
+        let tree =
+            json!(in rt.alloc(); {"class": "H5S_SIMPLE", "dims": [1, 18446744073709551615u64, -1, 0.5]})?;
+        assert!(rt; member_text(&tree, "class") == Some("H5S_SIMPLE"));
+        assert!(rt; member_text(&tree, "dims").is_none());
+        let Some(dims) = tree.get("dims") else {
+            return Ok(());
+        };
+        assert!(rt; whole_number(dims).is_none());
+        let Some(items) = list_items(dims) else {
+            return Ok(());
+        };
+        let mut found = 0u8;
+        let mut last = 0;
+        for item in items {
+            if let Some(n) = whole_number(item) {
+                found = found.saturating_add(1);
+                last = n;
+            }
+        }
+        assert_eq!(rt; found, 2);
+        assert_eq!(rt; last, u64::MAX);
+        Ok(())
+    }
 }

@@ -1,0 +1,36 @@
+-- Trees of JSON: what stands in them, with lists as lists.
+use Rattle.std.specs.Prelude.{ℕ, Bool, false, List, [], ◌∷◌, Option, Some, option_map, option_and_then}
+use Rattle.std.specs.Option.{option_map_or}
+use Rattle.std.specs.Str.{bytes_eq}
+use Rattle.serde_json.specs.Data.{Data, Items, no_items, item}
+use Rattle.serde_json.specs.Find.{get, as_number, as_u64, as_array, as_str}
+
+-- the items in order
+abbrev pub list_of : Items → List Data
+list_of no_items = []
+list_of (item d ds) = d ∷ list_of ds
+
+-- the items of a list
+abbrev pub list_in : Data → Option (List Data)
+list_in d = option_map list_of (as_array d)
+
+-- a whole number that is not negative
+abbrev pub whole_in : Data → Option ℕ
+whole_in d = option_and_then as_u64 (as_number d)
+
+-- a text
+abbrev pub text_in : Data → Option (List ℕ)
+text_in d = as_str d
+
+-- the text at a key of an object
+abbrev pub text_at : List ℕ → Data → Option (List ℕ)
+text_at key d = option_and_then as_str (get key d)
+
+-- whether the tree is this text
+abbrev pub is_text : List ℕ → Data → Bool
+is_text text d = option_map_or (λ s. bytes_eq s text) (as_str d) false
+
+-- what each member of a list is read as; none where one member can't be read
+abbrev pub all_in : {A B : Type 0} → (A → Option B) → List A → Option (List B)
+all_in f [] = Some []
+all_in f (x ∷ xs) = option_and_then (λ y. option_map (λ ys. y ∷ ys) (all_in f xs)) (f x)
