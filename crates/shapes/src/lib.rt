@@ -1,13 +1,63 @@
-// A library with one function.
+//! Shapes of arrays: none, one cell, or a grid of cells with a dim for each axis and a limit to
+//! which the dim may grow; how JSON spells them, and the row-major order of their cells.
+//!
+//! The forms are those of the HDF5/JSON specification and the HDF REST API, "Shape".
 #![tactic(auto)]
 
-ghost use Rattle.std.specs.Prelude.{◌≡◌};
-ghost use Rattle.shapes.specs.Echo.{echo_of};
+use few::Few;
 
-// The `ensures` clause is the contract: what `echo` returns is `echo_of` of its argument, a definition
-// in `specs/Echo.antt`, which a caller's clause can cite too.
-pub fn echo(x: usize) -> usize
-    ensures { result ≡ echo_of x }
-{
-    x
+mod places;
+mod printing;
+mod reading;
+#[cfg(test)]
+mod tests;
+
+pub use places::{coords_at, count, place_of};
+pub use printing::{Form, shape_json};
+pub use reading::{read_dims, read_shape, resized, shape_or_fault};
+
+/// The most axes that a shape has (HDF5's `H5S_MAX_RANK`).
+pub const MAX_RANK: usize = 32;
+
+/// The largest dim, and the largest limit of a dim: 2^31 - 1.
+pub const MAX_EXTENT: u64 = 2_147_483_647;
+
+/// The most cells of a shape, with a dim of 0 counted as 1: 2^48.
+pub const MAX_CELLS: u64 = 281_474_976_710_656;
+
+/// A number for each axis: dims, limits or coordinates, the slowest axis first.
+pub type Dims = Few<MAX_RANK>;
+
+/// The shape of an array.
+#[derive(Clone, Copy, Debug, PartialEq, Eq)]
+pub enum Shape {
+    /// No cell (`H5S_NULL`).
+    Null,
+    /// One cell and no axis (`H5S_SCALAR`).
+    Scalar,
+    /// A cell for each choice of a coordinate below the dim on each axis (`H5S_SIMPLE`).
+    Simple {
+        /// The extent of each axis.
+        dims: Dims,
+        /// The limit to which each dim may grow; 0 is no limit.
+        maxdims: Dims,
+    },
+}
+
+/// Why trees spell no shape, or why a shape can't take other dims. Of several faults the one that
+/// stands first here is told.
+#[derive(Clone, Copy, Debug, PartialEq, Eq)]
+pub enum ShapeFault {
+    /// A tree is outside the grammar, a number is negative or above [`MAX_EXTENT`], or limits
+    /// stand beside a shape without dims.
+    NotAShape,
+    /// There are no dims, more than [`MAX_RANK`], or more or fewer limits than dims.
+    Rank,
+    /// A dim is above its limit; this is the first such axis.
+    DimOverMax {
+        /// The axis, from 0.
+        axis: u8,
+    },
+    /// The dims, with 0 counted as 1, have a product above [`MAX_CELLS`].
+    TooLarge,
 }

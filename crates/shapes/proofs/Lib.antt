@@ -1,0 +1,5 @@
+pub mod PlaceLemmas
+pub mod GridLemmas
+pub mod SpelledLemmas
+pub mod ExtentLemmas
+pub mod ShapeLemmas

@@ -1,0 +1,48 @@
+-- The cells of a grid in row-major order: the last axis is the fastest.
+use Rattle.std.specs.Prelude.{ℕ, zero, suc, ◌+◌, ◌*◌, ◌<◌, max, List, [], ◌∷◌, map, length, slice_index}
+use Rattle.std.specs.List.{flat_map}
+use Rattle.std.specs.List.{AllZip}
+
+-- how many cells a grid of these dims has
+abbrev pub cell_count : List ℕ → ℕ
+cell_count [] = 1
+cell_count (n ∷ ns) = n * cell_count ns
+
+-- the same, with a dim of 0 counted as 1
+abbrev pub room_of : List ℕ → ℕ
+room_of [] = 1
+room_of (n ∷ ns) = max n 1 * room_of ns
+
+-- coordinates inside the dims
+abbrev pub IsInside : List ℕ → List ℕ → Type 0
+IsInside at dims = AllZip (λ x n. x < n) at dims
+
+-- the place of coordinates
+abbrev pub place : List ℕ → List ℕ → ℕ
+place [] ns = 0
+place (x ∷ xs) [] = 0
+place (x ∷ xs) (n ∷ ns) = x * cell_count ns + place xs ns
+
+-- all choices of one number from each axis, the last axis the fastest
+abbrev pub grid : List (List ℕ) → List (List ℕ)
+grid [] = [] ∷ []
+grid (axis ∷ axes) = flat_map (λ x. map (λ rest. x ∷ rest) (grid axes)) axis
+
+-- how many numbers each axis has
+abbrev pub extents_of : List (List ℕ) → List ℕ
+extents_of axes = map length axes
+
+-- the numbers at these places of the axes
+abbrev pub picked : List ℕ → List (List ℕ) → List ℕ
+picked [] axes = []
+picked (k ∷ ks) [] = []
+picked (k ∷ ks) (axis ∷ axes) = slice_index axis k ∷ picked ks axes
+
+-- the numbers from `start` on, `n` of them
+abbrev pub run_from : ℕ → ℕ → List ℕ
+run_from start zero = []
+run_from start (suc n) = start ∷ run_from (suc start) n
+
+-- all coordinates inside the dims, in row-major order
+abbrev pub coordinates : List ℕ → List (List ℕ)
+coordinates dims = grid (map (λ n. run_from 0 n) dims)
