@@ -1,0 +1,123 @@
+//! Types of elements, as a tree of compounds.
+
+ghost use Rattle.std.specs.Prelude.{◌≡◌, ◌<◌, ◌^◌, IfOk};
+ghost use Rattle.hdf_types.specs.Views.{elem, field_list};
+ghost use Rattle.hdf_types.specs.Reading.{size_of};
+
+use crate::walks::{capped_size, copied};
+use crate::{IntType, TextType};
+use std::alloc::{AllocError, Global};
+use std::marker::Model;
+
+/// The type of an element.
+#[cycle(elem)]
+#[derive(Debug, Drop)]
+pub enum ElemType {
+    /// A whole number.
+    Int(IntType),
+    /// A text of fixed length.
+    Text(TextType),
+    /// Named parts, one after another without gaps.
+    Compound(Fields),
+}
+
+/// The fields of a compound, in order.
+#[cycle(elem)]
+#[derive(Debug, Drop)]
+pub struct Fields {
+    list: Vec<Field>,
+}
+
+/// A named part of a compound.
+#[cycle(elem)]
+#[derive(Debug, Drop)]
+pub struct Field {
+    /// Its name.
+    pub name: FieldName,
+    /// Its type.
+    pub elem: ElemType,
+}
+
+/// A field's name: a text of 1 to 255 bytes.
+#[derive(Debug, Drop)]
+pub struct FieldName {
+    text: String,
+}
+
+impl Model for FieldName {
+    ghost use Rattle.std.specs.Prelude.{List, ℕ, string_bytes};
+
+    ghost Value = { List ℕ };
+
+    ghost view = { λ a. string_bytes a.text };
+}
+
+impl Model for Fields {
+    ghost use Rattle.hdf_types.specs.Elems.{FieldList, coded_fields, fields_depth};
+
+    ghost Value = { FieldList };
+
+    ghost coded = { coded_fields };
+
+    ghost use Rattle.hdf_types.specs.Views.{field_list};
+
+    ghost view = { λ a. field_list a.list.items };
+
+    ghost size = { fields_depth };
+
+    ghost use Rattle.hdf_types.specs.Depths.{most_le-fields_depth};
+
+    ghost size_decreases = { λ a h. most_le-fields_depth a.list.items };
+}
+
+impl ElemType {
+    /// How many bytes an element takes: the sum of its parts, with no gap between them.
+    pub fn size(&self) -> u32
+        requires { size_of (elem self.now) < 2 ^ 32 }
+        ensures { result ≡ size_of (elem self.now) }
+    {
+        capped_size(self) as u32
+    }
+
+    /// A type with the same content.
+    ///
+    /// # Errors
+    ///
+    /// Only where memory runs out.
+    pub fn copy(&self, alloc: Global) -> Result<ElemType, AllocError>
+        ensures { IfOk result (λ e. e ≡ self.now) }
+    {
+        copied(alloc, self)
+    }
+}
+
+impl FieldName {
+    pub(crate) fn from_text(alloc: Global, text: &str) -> Result<FieldName, AllocError>
+        ensures { IfOk result (λ n. n ≡ text.now) }
+    {
+        let text = String::from_str(alloc, text)?;
+        Ok(FieldName { text })
+    }
+
+    /// The name's text.
+    pub fn text(&self) -> &str
+        ensures { result.now ≡ self.now }
+    {
+        self.text.as_str()
+    }
+}
+
+impl Fields {
+    pub(crate) fn from_list(list: Vec<Field>) -> Fields
+        ensures { result ≡ field_list list.items }
+    {
+        Fields { list }
+    }
+
+    /// The fields in order.
+    pub fn as_slice(&self) -> &[Field]
+        ensures { field_list result.now ≡ self.now }
+    {
+        self.list.as_slice()
+    }
+}
