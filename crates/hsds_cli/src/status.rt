@@ -1,0 +1,55 @@
+ghost use Rattle.std.specs.Prelude.{◌≡◌};
+ghost use Rattle.hsds_cli.specs.Status.{number_of};
+
+/// How a run of the program ends.
+#[derive(Clone, Copy, Debug, PartialEq, Eq)]
+pub enum Status {
+    /// All that was asked is done.
+    Done,
+    /// The words are no command.
+    Words,
+    /// The configuration can't be used.
+    Configuration,
+    /// The configuration or the input had a fault.
+    ReadFault,
+    /// The output had a fault.
+    WriteFault,
+    /// The input ended inside a request, or at one that ends the link.
+    InputCut,
+    /// The link made as many requests as it may.
+    Budget,
+    /// There was no memory to begin with.
+    NoMemory,
+}
+
+impl Status {
+    /// The number with which the program exits.
+    pub fn number(self) -> u8
+        ensures { result ≡ number_of self }
+    {
+        match self {
+            Status::Done => 0,
+            Status::Words => 1,
+            Status::Configuration => 2,
+            Status::ReadFault => 3,
+            Status::WriteFault => 4,
+            Status::InputCut => 10,
+            Status::Budget => 12,
+            Status::NoMemory => 13,
+        }
+    }
+}
+
+/// The word for an exit number, which the program prints to standard error.
+pub fn status_word(number: u8) -> &'static str {
+    match number {
+        0 => "done",
+        1 => "words",
+        2 => "configuration",
+        3 => "read-fault",
+        4 => "write-fault",
+        10 => "input-cut",
+        12 => "budget",
+        _ => "no-memory",
+    }
+}

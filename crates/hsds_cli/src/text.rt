@@ -1,0 +1,99 @@
+ghost use Rattle.std.specs.Prelude.{◌≡◌, ◌<◌, ◌≤◌, [], length, IfOk, OnOk, IsErrOf};
+ghost use Rattle.hsds_cli.specs.Texts.{IsWholeText, IsLongText, Gained};
+ghost use Rattle.edge_traits.specs.Causes.{Rose};
+ghost use Rattle.hsds_cli.specs.declared.text.TextFault.TheVariants.{ReadFault, NoMemory};
+
+use edge_traits::{Failed, Source};
+use std::alloc::{AllocError, Global};
+
+/// The most bytes of a configuration.
+pub const CONFIG_LIMIT: usize = 1 << 20;
+
+/// How many bytes one read may give.
+const PIECE: usize = 4096;
+
+/// Why a text was not read whole.
+#[derive(Clone, Copy, Debug, PartialEq, Eq)]
+pub enum TextFault {
+    /// It has more than `CONFIG_LIMIT` bytes.
+    TooLong,
+    /// The source had a fault.
+    ReadFault,
+    /// There was no memory for the text.
+    NoMemory,
+}
+
+impl From<AllocError> for TextFault {
+    ghost from_gives = { λ _ e. e ≡ NoMemory };
+
+    fn from(_error: AllocError) -> TextFault {
+        TextFault::NoMemory
+    }
+}
+
+impl From<Failed> for TextFault {
+    ghost from_gives = { λ _ e. e ≡ ReadFault };
+
+    fn from(_failed: Failed) -> TextFault {
+        TextFault::ReadFault
+    }
+}
+
+/// Reads a source to its end.
+///
+/// # Errors
+///
+/// `TooLong` where the source has more than `CONFIG_LIMIT` bytes; `ReadFault` where it had a fault; `NoMemory`.
+pub fn read_text<C: Source>(alloc: Global, source: &mut C) -> Result<Vec<u8>, TextFault>
+    ensures ok { IfOk result (λ text. IsWholeText (C.left source.old) (C.left source.new) text.items) }
+    ensures too_long { IsErrOf result TextFault.TooLong → IsLongText (C.left source.old) (C.left source.new) }
+    ensures read_fault { IsErrOf result TextFault.ReadFault → Rose (C.faults source.old) (C.faults source.new) }
+    ensures later { C.faults source.old ≤ C.faults source.new }
+{
+    let mut text = Vec::new(alloc);
+    let mut piece = vec![in alloc; 0u8; PIECE]?;
+    match read_pieces(source, &mut piece, &mut text) {
+        Ok(()) => Ok(text),
+        Err(fault) => Err(fault),
+    }
+}
+
+/// Reads a source to its end, piece after piece, behind a text that is empty.
+fn read_pieces<C: Source>(
+    source: &mut C,
+    piece: &mut [u8],
+    text: &mut Vec<u8>,
+) -> Result<(), TextFault>
+    requires room { 0 < length piece.old }
+    requires empty { text.old.items ≡ [] }
+    ensures ok { OnOk result (IsWholeText (C.left source.old) (C.left source.new) text.new.items) }
+    ensures too_long { IsErrOf result TextFault.TooLong → IsLongText (C.left source.old) (C.left source.new) }
+    ensures read_fault { IsErrOf result TextFault.ReadFault → Rose (C.faults source.old) (C.faults source.new) }
+    ensures later { C.faults source.old ≤ C.faults source.new }
+{
+    'pieces: loop {
+        if read_piece(source, piece, text)? == 0 {
+            return Ok(());
+        }
+        if text.len() > CONFIG_LIMIT {
+            return Err(TextFault::TooLong);
+        }
+    }
+}
+
+/// Adds what one read gives to the text, and answers how many bytes that is.
+fn read_piece<C: Source>(
+    source: &mut C,
+    piece: &mut [u8],
+    text: &mut Vec<u8>,
+) -> Result<usize, TextFault>
+    requires { 0 < length piece.old }
+    ensures ok { IfOk result (λ n. Gained (C.left source.old) (C.left source.new) text.old.items text.new.items n) }
+    ensures not_too_long { IsErrOf result TextFault.TooLong → ⊥ }
+    ensures read_fault { IsErrOf result TextFault.ReadFault → Rose (C.faults source.old) (C.faults source.new) }
+    ensures later { C.faults source.old ≤ C.faults source.new }
+{
+    let count = source.read(piece)?;
+    text.extend_from_slice(&piece[..count])?;
+    Ok(count)
+}
