@@ -1,0 +1,4 @@
+mod SizeLemmas
+pub mod CellLemmas
+pub mod DefaultLemmas
+pub mod LayoutLemmas

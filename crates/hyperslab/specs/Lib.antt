@@ -1,0 +1,10 @@
+pub mod Selected
+pub mod Judged
+pub mod Steps
+pub mod Grammar
+pub use Rattle.shapes.specs.Shapes
+pub use Rattle.shapes.specs.Places
+pub use Rattle.shapes.specs.Extents
+pub use Rattle.shapes.specs.Spelled
+pub use Rattle.serde_json.specs.View
+pub use Rattle.serde_json.specs.Data

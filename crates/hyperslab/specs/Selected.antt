@@ -1,0 +1,76 @@
+-- Which cells a selection selects.
+use Rattle.std.specs.Prelude.{◌≡◌, ℕ, ◌+◌, ◌-◌, ◌*◌, ◌/◌, ◌%◌, ◌≤◌, ◌&&◌, Bool, true, false, List, [], ◌∷◌, map, length, nat_le, nat_lt, nat_eq, if◌then◌else◌}
+use Rattle.std.specs.List.{filter, AllZip}
+use Rattle.shapes.specs.Places.{coordinates, room_of, run_from}
+use Rattle.shapes.specs.declared.TheConstants.{MAX_RANK, MAX_EXTENT}
+use Rattle.hyperslab.specs.declared.Slab.{Slab}
+use Rattle.hyperslab.specs.declared.TheConstants.{MAX_SELECTED}
+
+-- the numbers from `lo` on, `by` apart, that are below `hi`
+pub record Axis : Type 0 where
+  pub lo : ℕ
+  pub hi : ℕ
+  pub by : ℕ
+
+abbrev pub axes : List ℕ → List ℕ → List ℕ → List Axis
+axes (a ∷ starts) (b ∷ stops) (c ∷ steps) = record { lo = a; hi = b; by = c } ∷ axes starts stops steps
+axes starts stops steps = []
+
+abbrev pub axes_of : Slab → List Axis
+axes_of s = axes s.start s.stop s.step
+
+-- the axis selects this number
+abbrev pub is_on : Axis → ℕ → Bool
+is_on x n = nat_le x.lo n && nat_lt n x.hi && nat_eq ((n - x.lo) % x.by) 0
+
+-- each axis selects its coordinate
+abbrev pub is_at : List Axis → List ℕ → Bool
+is_at [] [] = true
+is_at [] (n ∷ ns) = false
+is_at (x ∷ xs) [] = false
+is_at (x ∷ xs) (n ∷ ns) = is_on x n && is_at xs ns
+
+-- the selected cells of a grid of these dims, in row-major order
+abbrev pub selected : Slab → List ℕ → List (List ℕ)
+selected s dims = filter (is_at (axes_of s)) (coordinates dims)
+
+-- each axis ends within its dim
+abbrev pub FitsIn : Slab → List ℕ → Type 0
+FitsIn s dims = AllZip (λ x n. x.hi ≤ n) (axes_of s) dims
+
+-- how many numbers an axis selects
+abbrev pub on_count : Axis → ℕ
+on_count x = length (filter (is_on x) (run_from 0 x.hi))
+
+-- the same, by a division
+abbrev pub extent : Axis → ℕ
+extent x = if nat_lt x.lo x.hi then (x.hi - x.lo - 1) / x.by + 1 else 0
+
+abbrev pub extents : Slab → List ℕ
+extents s = map extent (axes_of s)
+
+-- `k` steps from the start of each axis
+abbrev pub point : List ℕ → List Axis → List ℕ
+point (k ∷ ks) (x ∷ xs) = (x.lo + k * x.by) ∷ point ks xs
+point ks xs = []
+
+-- ---- what a slab is
+
+abbrev pub IsAxis : Axis → Type 0
+IsAxis x = (x.lo ≤ x.hi) × (x.hi ≤ MAX_EXTENT) × (1 ≤ x.by)
+
+abbrev pub AreAxes : List Axis → Type 0
+AreAxes [] = Unit {0}
+AreAxes (x ∷ xs) = IsAxis x × AreAxes xs
+
+-- each list has a number for each axis
+pub record IsRanked (s : Slab) : Type 0 where
+  pub few_axes : length s.start ≤ MAX_RANK
+  pub stops : length s.stop ≡ length s.start
+  pub steps : length s.step ≡ length s.start
+
+-- a selection that texts or lists can spell
+pub record IsSlab (s : Slab) : Type 0 where
+  pub ranked : IsRanked s
+  pub sound : AreAxes (axes_of s)
+  pub room : room_of (extents s) ≤ MAX_SELECTED

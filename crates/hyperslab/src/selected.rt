@@ -1,0 +1,104 @@
+//! How many cells a selection has, and which one comes where in row-major order.
+
+ghost use Rattle.std.specs.Prelude.{◌≡◌, ◌≤◌, ◌<◌, ℕ, List, [], map, length, slice_index_or};
+ghost use Rattle.shapes.specs.Places.{cell_count, room_of, IsInside};
+ghost use Rattle.shapes.specs.Shapes.{IsSound, dims_of, count_of};
+ghost use Rattle.shapes.specs.declared.TheConstants.{MAX_RANK};
+ghost use Rattle.hyperslab.specs.Selected.{AreAxes, IsRanked, IsSlab, axes_of, extents, extent as extent_of, on_count, point, selected, FitsIn};
+ghost use Rattle.hyperslab.specs.declared.TheConstants.{MAX_SELECTED};
+
+use crate::Slab;
+use shapes::{Dims, Shape, coords_at, count};
+
+impl Slab {
+    /// How many numbers of each axis are selected.
+    pub fn extents(&self) -> Dims
+        requires { IsSlab self.now }
+        ensures counted { result ≡ map on_count (axes_of self.now) }
+        ensures divided { result ≡ extents self.now }
+    {
+        extents_of(self)
+    }
+
+    /// How many cells are selected: one for each choice of a selected number on each axis.
+    pub fn count(&self) -> u64
+        requires { IsSlab self.now }
+        ensures listed { (dims : List ℕ) → FitsIn self.now dims → result ≡ length (selected self.now dims) }
+        ensures product { result ≡ cell_count (extents self.now) }
+        ensures bounded { result ≤ MAX_SELECTED }
+    {
+        count(&grid(self.extents()))
+    }
+
+    /// The selected cell that comes at a place, in row-major order.
+    pub fn coords(&self, k: u64) -> Dims
+        requires slab { IsSlab self.now }
+        requires below { k < cell_count (extents self.now) }
+        ensures listed { (dims : List ℕ) → FitsIn self.now dims → slice_index_or (selected self.now dims) k [] ≡ result }
+    {
+        stepped(self, &coords_at(&grid(self.extents()), k))
+    }
+}
+
+/// A shape whose cells are the choices of a number below each extent.
+fn grid(extents: Dims) -> Shape
+    requires rank { length extents ≤ MAX_RANK }
+    requires room { room_of extents ≤ MAX_SELECTED }
+    ensures sound { IsSound result }
+    ensures dims { dims_of result ≡ extents }
+    ensures cells { count_of result ≡ cell_count extents }
+{
+    let rank = extents.len();
+    if rank == 0 {
+        Shape::Scalar
+    } else {
+        Shape::Simple {
+            dims: extents,
+            maxdims: extents,
+        }
+    }
+}
+
+/// As many steps from each start as `at` says.
+fn stepped(slab: &Slab, at: &Dims) -> Dims
+    requires ranked { IsRanked slab.now }
+    requires axes { AreAxes (axes_of slab.now) }
+    requires inside { IsInside at.now (extents slab.now) }
+    ensures { result ≡ point at.now (axes_of slab.now) }
+{
+    let mut coords = Dims::new();
+    for axis in 0..slab.start.len() {
+        let x = slab.start.get(axis) + at.get(axis) * slab.step.get(axis);
+        coords.push(x);
+    }
+    coords
+}
+
+/// How many numbers each axis of a selection has.
+pub(crate) fn extents_of(slab: &Slab) -> Dims
+    requires ranked { IsRanked slab.now }
+    requires axes { AreAxes (axes_of slab.now) }
+    ensures { result ≡ extents slab.now }
+{
+    let mut found = Dims::new();
+    for axis in 0..slab.start.len() {
+        let n = extent(
+            slab.start.get(axis),
+            slab.stop.get(axis),
+            slab.step.get(axis),
+        );
+        found.push(n);
+    }
+    found
+}
+
+fn extent(start: u64, stop: u64, step: u64) -> u64
+    requires { 1 ≤ step }
+    ensures { result ≡ extent_of (record { lo = start; hi = stop; by = step }) }
+{
+    if start < stop {
+        (stop - start - 1) / step + 1
+    } else {
+        0
+    }
+}

@@ -1,0 +1,64 @@
+-- The tests of points in order: the first that fails decides.
+use Rattle.std.specs.Prelude.{◌≡◌, ℕ, suc, ◌&&◌, Bool, true, false, List, [], ◌∷◌, ◌++◌, length, Option, Some, None, option_and_then, Result, Ok, Err, nat_lt, nat_eq, if◌then◌else◌}
+use Rattle.serde_json.specs.Data.{Data}
+use Rattle.trees.specs.Trees.{list_in}
+use Rattle.trees.specs.Faults.{◌>>=◌}
+use Rattle.shapes.specs.declared.Shape.{Shape}
+use Rattle.shapes.specs.declared.Shape.TheVariants.{Null, Scalar, Simple}
+use Rattle.shapes.specs.Extents.{dims_in}
+use Rattle.shapes.specs.Spelled.{few_of}
+use Rattle.point_select.specs.declared.TheConstants.{MAX_POINTS}
+use Rattle.point_select.specs.declared.PointFault.{PointFault}
+use Rattle.point_select.specs.declared.PointFault.TheVariants.{Syntax, TooMany, Rank, Past, NoMemory}
+
+-- the coordinates that a tree spells
+abbrev pub coords_in : Data → Option (List ℕ)
+coords_in d = option_and_then few_of (dims_in d)
+
+-- whether each coordinate is below its dim
+abbrev pub is_inside : List ℕ → List ℕ → Bool
+is_inside [] [] = true
+is_inside [] (n ∷ ns) = false
+is_inside (x ∷ xs) [] = false
+is_inside (x ∷ xs) (n ∷ ns) = nat_lt x n && is_inside xs ns
+
+-- the point with number `k`
+abbrev pub point_at : List ℕ → ℕ → Option (List ℕ) → Result (List ℕ) PointFault
+point_at dims k None = Err (Syntax k)
+point_at dims k (Some at) = if nat_eq (length at) (length dims) then (if is_inside at dims then Ok at else Err (Past k)) else Err (Rank k)
+
+unfoldable pub point_of : List ℕ → ℕ → Data → Result (List ℕ) PointFault
+point_of dims k d = point_at dims k (coords_in d)
+
+-- these points, and then those
+abbrev pub followed : List (List ℕ) → Result (List (List ℕ)) PointFault → Result (List (List ℕ)) PointFault
+followed points (Ok more) = Ok (points ++ more)
+followed points (Err fault) = Err fault
+
+-- the points from number `k` on: the first bad one decides
+abbrev pub points_from : List ℕ → ℕ → List Data → Result (List (List ℕ)) PointFault
+points_from dims k [] = Ok []
+points_from dims k (d ∷ ds) = point_of dims k d >>= λ at. followed (at ∷ []) (points_from dims (suc k) ds)
+
+-- a shape without an axis is refused whatever the points are
+abbrev pub points_in : Shape → List Data → Result (List (List ℕ)) PointFault
+points_in Null ds = Err (Rank 0)
+points_in Scalar ds = Err (Rank 0)
+points_in (Simple dims limits) ds = points_from dims 0 ds
+
+abbrev pub counted_points : Shape → Option (List Data) → Result (List (List ℕ)) PointFault
+counted_points shape None = Err (Syntax 0)
+counted_points shape (Some ds) = if nat_lt MAX_POINTS (length ds) then Err (TooMany (length ds)) else points_in shape ds
+
+-- the points that a tree spells on a shape, or its first fault
+unfoldable pub points_of : Data → Shape → Result (List (List ℕ)) PointFault
+points_of d shape = counted_points shape (list_in d)
+
+-- an answer is the one wanted, but that memory may run out instead
+abbrev pub Tells : PointFault → Result (List (List ℕ)) PointFault → Type 0
+Tells NoMemory want = Unit {0}
+Tells fault want = want ≡ Err fault
+
+abbrev pub Answers : Result (List (List ℕ)) PointFault → Result (List (List ℕ)) PointFault → Type 0
+Answers (Ok points) want = want ≡ Ok points
+Answers (Err fault) want = Tells fault want
