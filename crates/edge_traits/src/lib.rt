@@ -1,12 +1,14 @@
 //! What lies outside the service, as traits with a written meaning: sources and sinks of bytes, links, disks and
-//! doors, each with a count of faults that never falls. For each of them but the disk there is one in memory, whose
-//! calls fail where a test says so; a source and a sink stand over std's readers and writers.
+//! doors, each with a count of faults that never falls. For each of them there is one in memory, whose calls fail where
+//! a test says so; a source, a sink and a disk stand over std's readers, writers and files.
 #![tactic(auto)]
 
 mod disk;
 mod door;
 mod failed;
+mod file_disk;
 mod link;
+mod mem_disk;
 mod mem_door;
 mod mem_link;
 mod mem_sink;
@@ -21,7 +23,9 @@ mod std_source;
 pub use disk::Disk;
 pub use door::Door;
 pub use failed::Failed;
+pub use file_disk::FileDisk;
 pub use link::Link;
+pub use mem_disk::MemDisk;
 pub use mem_door::MemDoor;
 pub use mem_link::MemLink;
 pub use mem_sink::MemSink;

@@ -1,4 +1,5 @@
 use super::*;
+use std::alloc::{AllocError, Global};
 use std::process::Abort;
 use std::test::Fail;
 
@@ -146,4 +147,33 @@ impl std::io::Write for Full {
     fn flush(&mut self) -> std::io::Result<()> {
         Ok(())
     }
+}
+
+// What a crash that keeps so many bytes leaves, after a sync and two writes.
+fn crashed(alloc: Global, kept: u64) -> Result<Vec<u8>, AllocError> {
+    let mut disk = MemDisk::new(alloc, b"abcd".to_vec(alloc)?, 16, Vec::new(alloc))?;
+    let _ = disk.write_at(0, b"A");
+    let _ = disk.sync();
+    let _ = disk.write_at(1, b"BC");
+    if disk.bytes().len() == 4 {
+        let _ = disk.write_at(4, b"EF");
+    }
+    disk.crash(kept)?.bytes().to_vec(alloc)
+}
+
+#[test]
+fn a_crash_keeps_the_first_bytes_written(rt: HostRuntime) -> Result<(), Fail> {
+    let alloc = rt.alloc();
+    for (kept, want) in [
+        (0, b"Abcd\0\0"),
+        (1, b"ABcd\0\0"),
+        (2, b"ABCd\0\0"),
+        (3, b"ABCdE\0"),
+        (9, b"ABCdEF"),
+    ] {
+        assert_eq!(rt; crashed(alloc, kept)?.as_slice(), want.as_slice());
+    }
+    let empty = MemDisk::new(alloc, Vec::new(alloc), 16, Vec::new(alloc))?;
+    assert_eq!(rt; empty.crash(0)?.bytes(), b"".as_slice());
+    Ok(())
 }
