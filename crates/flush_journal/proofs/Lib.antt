@@ -1,0 +1,15 @@
+pub mod RecordLemmas
+pub mod FileLemmas
+pub mod ContentLemmas
+pub mod GateLemmas
+pub mod Moments
+pub mod Results
+pub mod StandLemmas
+pub mod BatchLemmas
+pub mod JournalLemmas
+pub mod StandingLemmas
+pub mod NumberLemmas
+pub mod PayloadLemmas
+pub mod ReadLemmas
+pub mod NewLemmas
+pub mod NextLemmas

@@ -1,0 +1,65 @@
+-- How a journal stands after a call.
+use Rattle.std.proofs.Common.{◌≡◌, ◌≢◌, ℕ, ◌+◌, ◌<◌, ◌^◌, Bool, true, false, List, [], length, Option, Some, None, refl, sym, ◌∙◌, ap, arith}
+use Rattle.std.specs.Prelude.{option_map, IsTrue, ◌↔◌}
+use Rattle.edge_traits.specs.declared.disk.Disk.{Ghosts}
+use Rattle.flush_journal.specs.declared.journal.Journal.{Journal}
+use Rattle.flush_journal.specs.declared.batch.Batch.{Batch}
+use Rattle.flush_journal.specs.Batches.{records, owed_size}
+use Rattle.flush_journal.specs.Records.{Record, records_of, encoded_all, put_all}
+use Rattle.flush_journal.specs.Files.{Content}
+use Rattle.flush_journal.specs.Frames.{frame_of}
+use Rattle.flush_journal.specs.Gates.{Opened, Either, AllHave, OnlyHas}
+use Rattle.flush_journal.specs.Moments.{Leaves}
+use Rattle.flush_journal.specs.Standing.{pending_of, with_batch, Numbers, IsSettled, IsOwed, HoldsEither}
+use Rattle.flush_journal.proofs.ContentLemmas.{IsFront, content-shut}
+use Rattle.flush_journal.proofs.JournalLemmas.{AreBatch, opened_content, either_held, with_batch-lanes, with_batch-batches, with_batch-end}
+use Rattle.flush_journal.proofs.Moments.{weaker}
+
+pub is_false : {P : Type 0} (b : Bool) → (IsTrue b ↔ P) → b ≡ false → P → ⊥
+is_false b both e p = let yes : b ≡ true = both.1 p in absurd (cc)
+
+pub are_batch : (rs : List Record) (bytes : List ℕ) → rs ≢ [] → bytes ≡ frame_of rs → length bytes < 2 ^ 63 → records_of (encoded_all rs) ≡ Some rs → AreBatch rs
+are_batch rs bytes some is small read = record { some = some; small = omega (arith, small, ap length is); read = read }
+
+pub none_owed : (p : Option Batch) → option_map records p ≡ None → owed_size p ≡ 0
+none_owed None e = refl
+none_owed (Some b) e = absurd (cc)
+
+module _ {D : Type 0} {met : Ghosts D} (reads : D → List ℕ) (images : D → List ℕ → Type 0) (j : Journal D met) (c : Content) (rs : List Record) (front : List ℕ) (is : IsFront front c) (are : AreBatch rs) where
+  pub owed_by : pending_of j ≡ Some rs → Numbers j c → AllHave (Either front (frame_of rs)) (reads j.disk) (images j.disk) → IsOwed reads images j c rs
+  owed_by pending numbers has = record {
+    pending = pending;
+    some = are.some;
+    numbers = numbers;
+    front = front;
+    closed = content-shut front c is 0 [] (omega arith);
+    place = is.place;
+    now = has.now;
+    each = has.each;
+  }
+
+  pub settled_by : pending_of j ≡ None → j.lanes ≡ c.lanes → j.batches ≡ c.batches + 1 → j.end ≡ c.end + length (frame_of rs)
+      → OnlyHas (Opened front (frame_of rs)) (reads j.disk) (images j.disk) → IsSettled reads images j (with_batch c rs)
+  settled_by idle lanes batches end has = record {
+    idle = idle;
+    numbers = record {
+      lanes = lanes ∙ sym (with_batch-lanes c rs);
+      batches = batches ∙ sym (with_batch-batches c rs are.some);
+      end = end ∙ sym (with_batch-end c rs are.some);
+    };
+    file = opened_content front c is rs are (reads j.disk) has.now;
+    only = has.only;
+  }
+
+  pub leaves_either : (moment : D → ℕ) (left_since : D → ℕ → List ℕ → Type 0) (old new : D) → Leaves moment left_since old new (Either front (frame_of rs)) → Leaves moment left_since old new (HoldsEither c.held (put_all rs c.held))
+  leaves_either moment left_since old new l = weaker moment left_since old new (Either front (frame_of rs)) (HoldsEither c.held (put_all rs c.held)) (either_held front c is rs are) l
+
+-- the batch that is pending has some record
+pub some_pending : (p : Option Batch) (b : Batch) → option_map records p ≢ Some [] → p ≡ Some b → records b ≢ []
+some_pending p b some is none = some (ap (option_map records) is ∙ ap (λ (l : List Record). Some l) none)
+
+pub pending_records : (p : Option Batch) (b : Batch) (rs : List Record) → p ≡ Some b → option_map records p ≡ Some rs → records b ≡ rs
+pending_records p b rs is are = let both : Some (records b) ≡ Some rs = sym (ap (option_map records) is) ∙ are in cc
+
+pub some_batch : (rs : List Record) → rs ≢ [] → ◌≢◌ {A = Option (List Record)} (Some rs) (Some [])
+some_batch rs some e = some (let same : rs ≡ [] = cc in same)

@@ -1,0 +1,23 @@
+-- A batch as it is written: its payload with its length in front and a closed gate behind.
+use Rattle.std.specs.Prelude.{ℕ, ◌+◌, ◌-◌, List, [], ◌∷◌, ◌++◌, length, take, drop, unwrap_or}
+use Rattle.flush_journal.specs.Records.{Record, records_of, encoded_all, eight_bytes}
+
+unfoldable pub framed : List ℕ → List ℕ
+framed payload = eight_bytes (length payload) ++ payload ++ 0 ∷ []
+
+-- no byte for no record
+abbrev pub frame_of : List Record → List ℕ
+frame_of [] = []
+frame_of (r ∷ rs) = framed (encoded_all (r ∷ rs))
+
+-- the payload of such bytes
+abbrev pub payload_of : List ℕ → List ℕ
+payload_of frame = take (length frame - 9) (drop 8 frame)
+
+-- the records of such bytes
+unfoldable pub framed_records : List ℕ → List Record
+framed_records frame = unwrap_or (records_of (payload_of frame)) []
+
+-- how many bytes a batch with these records adds to a journal behind its end, the gate at the end among them
+abbrev pub need_of : List Record → ℕ
+need_of rs = length (encoded_all rs) + 10

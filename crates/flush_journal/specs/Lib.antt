@@ -1,0 +1,14 @@
+pub mod Files
+pub mod Batches
+pub mod Frames
+pub mod Gates
+pub mod Moments
+pub mod Nexts
+pub mod Reading
+pub mod Records
+pub mod Refusals
+pub mod Standing
+pub mod Windows
+pub use Rattle.edge_traits.specs.Disks
+pub use Rattle.byte_streams.specs.Causes
+pub use Rattle.text_maps.specs.Keyed

@@ -1,0 +1,42 @@
+-- What a reading of a file shows, and why it may be refused.
+use Rattle.std.specs.Prelude.{◌≡◌, ◌≢◌, ℕ, ◌+◌, ◌<◌, ◌≤◌, List, length, take, drop, slice_index, Result, Err, Option, Some, None}
+use Rattle.byte_streams.specs.Causes.{Rose}
+use Rattle.flush_journal.specs.Records.{Record, Held, put_all}
+use Rattle.flush_journal.specs.Files.{Content, content, first_batch, read_on}
+use Rattle.flush_journal.specs.declared.read.Gate.{Gate}
+use Rattle.flush_journal.specs.declared.read.Gate.TheVariants.{Missing, Closed, Open}
+use Rattle.flush_journal.specs.declared.why.Why.{Why}
+use Rattle.flush_journal.specs.declared.why.Why.TheVariants.{DiskFault, NotAJournal, JournalFull, Exists, NoMemory}
+
+-- these bytes are those of the file from this place on, as far as they go
+abbrev pub Shows : List ℕ → ℕ → List ℕ → Type 0
+Shows file from bytes = bytes ≡ take (length bytes) (drop from file)
+
+-- so many bytes at this place are among those from that one
+abbrev pub Covers : (at size from : ℕ) → List ℕ → Type 0
+Covers at size from bytes = (from ≤ at) × (at + size ≤ from + length bytes)
+
+-- A reading may be refused by a fault only where the disk's count rose from `before` to `now`, and with a place only where the file
+-- is no journal for what stands there.
+abbrev pub MayRefuseReading : Type 0 → List ℕ → (before now : ℕ) → Why → Type 0
+MayRefuseReading told file before now DiskFault = Rose before now
+MayRefuseReading told file before now (NotAJournal at) = told → content file ≡ Err at
+MayRefuseReading told file before now NoMemory = Unit {0}
+MayRefuseReading told file before now (JournalFull e n r) = ⊥
+MayRefuseReading told file before now Exists = ⊥
+
+-- what is read from a gate on, where c is what stands before it
+abbrev pub read_from : Content → List ℕ → Result Content ℕ
+read_from c bytes = read_on (length bytes) c bytes
+
+-- the gate at a place
+abbrev pub GateIs : List ℕ → ℕ → Gate → Type 0
+GateIs file at Missing = length file ≤ at
+GateIs file at Closed = (at < length file) × (slice_index file at ≢ 1)
+GateIs file at Open = (at < length file) × (slice_index file at ≡ 1)
+
+-- the batch behind an open gate, and what a map was and is
+abbrev pub PayloadIs : List ℕ → ℕ → Held → Held → Option ℕ → Type 0
+PayloadIs file at old new None = first_batch (drop (at + 1) file) ≡ None
+PayloadIs file at old new (Some size) = (rs : List Record)
+    × (first_batch (drop (at + 1) file) ≡ Some (record { size = size; records = rs; rest = drop (at + 9 + size) file })) × (new ≡ put_all rs old)

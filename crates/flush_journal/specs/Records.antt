@@ -1,0 +1,100 @@
+-- Records, and the map that they make.
+--     A record is four bytes key length, the key, four bytes body length, the body. Numbers are big-endian.
+--     A key has 1 to 65,535 bytes. An empty body takes the key out of the map.
+use Rattle.std.specs.Prelude.{ℕ, zero, suc, Bool, List, [], ◌∷◌, ◌++◌, length, Option, Some, None, option_and_then, option_map, nat_lt, ◌&&◌, if◌then◌else◌}
+use Rattle.std.specs.Int.{w32, w64, from_be_bytes, to_be_bytes}
+use Rattle.std.specs.FinMap as map
+use Rattle.text_maps.specs.Keyed.{text_order}
+
+infixl 10 ◌>>=◌
+abbrev pub ◌>>=◌ : {A B : Type 0} → Option A → (A → Option B) → Option B
+o >>= f = option_and_then f o
+
+-- a key and a body
+abbrev pub Record : Type 0
+Record = List ℕ × List ℕ
+
+-- what is held: bodies by their keys
+abbrev pub Held : Type 0
+Held = map.FinMap text_order (List ℕ)
+
+-- the first n elements, and the others; None where there are fewer
+unfoldable pub cut : ℕ → List ℕ → Option (List ℕ × List ℕ)
+cut zero bytes = Some ([], bytes)
+cut (suc n) [] = None
+cut (suc n) (b ∷ bytes) = option_map (λ p. (b ∷ p.0, p.1)) (cut n bytes)
+
+-- the number that four bytes spell, and what follows
+unfoldable pub cut_number_4 : List ℕ → Option (ℕ × List ℕ)
+cut_number_4 bytes = do
+  p ← cut 4 bytes
+  Some (from_be_bytes w32 p.0, p.1)
+
+-- the number that eight bytes spell, and what follows
+unfoldable pub cut_number_8 : List ℕ → Option (ℕ × List ℕ)
+cut_number_8 bytes = do
+  p ← cut 8 bytes
+  Some (from_be_bytes w64 p.0, p.1)
+
+-- whether a key may have this many bytes
+abbrev pub is_key_length : ℕ → Bool
+is_key_length n = nat_lt 0 n && nat_lt n 65536
+
+-- a key, and what follows
+unfoldable pub cut_key : List ℕ → Option (List ℕ × List ℕ)
+cut_key bytes = do
+  n ← cut_number_4 bytes
+  if is_key_length n.0 then cut n.0 n.1 else None
+
+-- a body, and what follows
+unfoldable pub cut_body : List ℕ → Option (List ℕ × List ℕ)
+cut_body bytes = do
+  n ← cut_number_4 bytes
+  cut n.0 n.1
+
+-- the record at the front, and what follows; None where none stands there
+unfoldable pub first_record : List ℕ → Option (Record × List ℕ)
+first_record bytes = do
+  k ← cut_key bytes
+  b ← cut_body k.1
+  Some ((k.0, b.0), b.1)
+
+-- the records that bytes are, of which there are at most as many as steps; None where they are no list of records
+unfoldable pub records_in : ℕ → List ℕ → Option (List Record)
+records_in steps [] = Some []
+records_in zero (b ∷ bytes) = None
+records_in (suc steps) (b ∷ bytes) = do
+  r ← first_record (b ∷ bytes)
+  rs ← records_in steps r.1
+  Some (r.0 ∷ rs)
+
+-- the records that a payload is; None where it is no list of records
+abbrev pub records_of : List ℕ → Option (List Record)
+records_of payload = records_in (length payload) payload
+
+-- a map after a record: the body stands at the key, and an empty one takes the key out
+abbrev pub put_record : Record → Held → Held
+put_record (key, []) m = map.remove m key
+put_record (key, b ∷ body) m = map.insert m key (b ∷ body)
+
+-- a map after these records, in their order: the last of a key wins
+abbrev pub put_all : List Record → Held → Held
+put_all [] m = m
+put_all (r ∷ rs) m = put_all rs (put_record r m)
+
+-- the four bytes of a number
+unfoldable pub four_bytes : ℕ → List ℕ
+four_bytes n = to_be_bytes w32 n
+
+-- the eight bytes of a number
+unfoldable pub eight_bytes : ℕ → List ℕ
+eight_bytes n = to_be_bytes w64 n
+
+-- the bytes of a record
+abbrev pub encoded : Record → List ℕ
+encoded r = four_bytes (length r.0) ++ r.0 ++ four_bytes (length r.1) ++ r.1
+
+-- the bytes of some records, in order
+abbrev pub encoded_all : List Record → List ℕ
+encoded_all [] = []
+encoded_all (r ∷ rs) = encoded r ++ encoded_all rs

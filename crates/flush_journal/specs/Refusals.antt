@@ -1,0 +1,40 @@
+-- When a journal may refuse.
+use Rattle.std.specs.Prelude.{◌≡◌, ◌≢◌, ℕ, ◌+◌, ◌<◌, List, [], ◌∷◌, ◌++◌, take, Result, Ok, Err}
+use Rattle.byte_streams.specs.Causes.{Rose}
+use Rattle.flush_journal.specs.declared.why.Why.{Why}
+use Rattle.flush_journal.specs.declared.why.Why.TheVariants.{DiskFault, NotAJournal, JournalFull, Exists, NoMemory}
+
+-- A write of `need` bytes behind `end` may be refused so, where the disk's count was `before` and is `now`: by a fault only where
+-- the count rose, and for want of room only where there is too little, with these numbers.
+abbrev pub MayRefuse : (end need room before now : ℕ) → Why → Type 0
+MayRefuse end need room before now DiskFault = Rose before now
+MayRefuse end need room before now (JournalFull e n r) = (e ≡ end) × (n ≡ need) × (r ≡ room) × (room < end + need)
+MayRefuse end need room before now (NotAJournal at) = ⊥
+MayRefuse end need room before now Exists = ⊥
+MayRefuse end need room before now NoMemory = ⊥
+
+-- Every answer of a write says why
+abbrev pub Answers : (end need room before now : ℕ) → Result (Unit {0}) Why → Type 0
+Answers end need room before now (Ok _) = Unit {0}
+Answers end need room before now (Err why) = MayRefuse end need room before now why
+
+-- the first bytes of a journal
+abbrev pub magic : List ℕ
+magic = 0x68 ∷ 0x73 ∷ 0x64 ∷ 0x73 ∷ 0x6a ∷ 0x72 ∷ 0x6e ∷ 0x31 ∷ []
+
+-- that a disk which tells its bytes has no journal's first bytes
+abbrev pub NoMagic : Type 0 → List ℕ → Type 0
+NoMagic told file = told → take 8 file ≢ magic
+
+-- Making a journal may be refused so: where one stands, else where there is no room for the header and a gate, and by a fault only
+-- where the count rose.
+abbrev pub MayRefuseCreate : Type 0 → List ℕ → (room before now : ℕ) → Why → Type 0
+MayRefuseCreate told file room before now DiskFault = Rose before now
+MayRefuseCreate told file room before now Exists = told → take 8 file ≡ magic
+MayRefuseCreate told file room before now (JournalFull e n r) = (e ≡ 0) × (n ≡ 17) × (r ≡ room) × (room < 17) × NoMagic told file
+MayRefuseCreate told file room before now (NotAJournal at) = ⊥
+MayRefuseCreate told file room before now NoMemory = ⊥
+
+-- a new journal's bytes
+abbrev pub new_file : ℕ → List ℕ
+new_file lanes = magic ++ (0 ∷ 0 ∷ 0 ∷ lanes ∷ 0 ∷ 0 ∷ 0 ∷ 0 ∷ 0 ∷ [])

@@ -1,0 +1,54 @@
+-- How a journal stands with its disk.
+use Rattle.std.specs.Prelude.{◌≡◌, ◌≢◌, ◌⊎◌, ℕ, List, [], ◌∷◌, ◌++◌, length, Option, Some, None, option_map, Ok}
+use Rattle.edge_traits.specs.declared.disk.Disk.{Ghosts}
+use Rattle.edge_traits.specs.Disks.{Only}
+use Rattle.flush_journal.specs.Records.{Record, Held, encoded_all}
+use Rattle.flush_journal.specs.Frames.{frame_of}
+use Rattle.flush_journal.specs.Gates.{Either}
+use Rattle.flush_journal.specs.Files.{Content, content, held, grown}
+use Rattle.flush_journal.specs.Batches.{records}
+use Rattle.flush_journal.specs.declared.journal.Journal.{Journal}
+
+abbrev pub disk_of : {D : Type 0} {met : Ghosts D} → Journal D met → D
+disk_of j = j.disk
+
+-- the place of the closed gate
+abbrev pub end_of : {D : Type 0} {met : Ghosts D} → Journal D met → ℕ
+end_of j = j.end
+
+-- the records of the batch that is pending
+abbrev pub pending_of : {D : Type 0} {met : Ghosts D} → Journal D met → Option (List Record)
+pending_of j = option_map records j.pending
+
+-- the content with the batch of these records, where there are some
+abbrev pub with_batch : Content → List Record → Content
+with_batch c [] = c
+with_batch c (r ∷ rs) = grown c (length (encoded_all (r ∷ rs))) (r ∷ rs)
+
+-- the numbers that the journal has are those of the content
+pub record Numbers {D : Type 0} {met : Ghosts D} (j : Journal D met) (c : Content) : Type 0 where
+  pub lanes : j.lanes ≡ c.lanes
+  pub batches : j.batches ≡ c.batches
+  pub end : j.end ≡ c.end
+
+-- nothing is pending, and the file has this content, all of it on the disk
+pub record IsSettled {D : Type 0} {met : Ghosts D} (reads : D → List ℕ) (images : D → List ℕ → Type 0) (j : Journal D met) (c : Content) : Type 0 where
+  pub idle : pending_of j ≡ None
+  pub numbers : Numbers j c
+  pub file : content (reads j.disk) ≡ Ok c
+  pub only : Only (reads j.disk) (images j.disk)
+
+-- These records are pending. What reads give, and each image, is a file with this content, or with the batch too.
+pub record IsOwed {D : Type 0} {met : Ghosts D} (reads : D → List ℕ) (images : D → List ℕ → Type 0) (j : Journal D met) (c : Content) (rs : List Record) : Type 0 where
+  pub pending : pending_of j ≡ Some rs
+  pub some : rs ≢ []
+  pub numbers : Numbers j c
+  pub front : List ℕ
+  pub closed : content (front ++ 0 ∷ []) ≡ Ok c
+  pub place : length front ≡ c.end
+  pub now : Either front (frame_of rs) (reads j.disk)
+  pub each : (i : List ℕ) → images j.disk i → Either front (frame_of rs) i
+
+-- a file holds the one map or the other
+abbrev pub HoldsEither : Held → Held → List ℕ → Type 0
+HoldsEither m n bytes = (held bytes ≡ Some m) ⊎ (held bytes ≡ Some n)

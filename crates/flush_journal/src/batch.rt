@@ -1,0 +1,146 @@
+// Records that are to be written in one piece.
+ghost use Rattle.std.specs.Prelude.{◌≡◌, ◌+◌, ◌-◌, ◌^◌, ◌<◌, ◌≤◌, ◌↔◌, [], ◌∷◌, ◌++◌, length, drop, max, vec_len, vec_capacity, IsTrue, IsOk, OnOk, OnErr, Some};
+ghost use Rattle.flush_journal.specs.Frames.{frame_of, framed, framed_records, payload_of};
+ghost use Rattle.flush_journal.specs.Records.{encoded, encoded_all, records_of};
+
+use std::alloc::{AllocError, Global};
+
+/// Records in the order in which they were put in. Its bytes stand as `Journal::append` writes them: no byte, or the
+/// payload with its length in front and a closed gate behind.
+#[derive(Drop)]
+pub struct Batch {
+    frame: Vec<u8>,
+    ghost whole: { frame.items ≡ frame_of (framed_records frame.items) },
+}
+
+impl Batch {
+    ghost use Rattle.flush_journal.specs.Batches.{records, spare};
+
+    /// A batch with no record. It takes no memory.
+    pub fn new(alloc: Global) -> Batch
+        ensures { records result ≡ [] }
+    {
+        Batch {
+            frame: Vec::new(alloc),
+        }
+    }
+
+    /// Whether the batch has no record.
+    pub fn is_empty(&self) -> bool
+        ensures { IsTrue result ↔ (records self.now ≡ []) }
+    {
+        self.frame.as_slice().is_empty()
+    }
+
+    /// Takes room for this many more bytes of records. A record has eight bytes beside its key and its body.
+    pub fn reserve(&mut self, bytes: usize) -> Result<(), AllocError>
+        ensures ok { OnOk result (bytes ≤ spare self.new) }
+        ensures records { records self.new ≡ records self.old }
+    {
+        reserve_frame(&mut self.frame, bytes)
+    }
+
+    /// Adds a record. An error leaves the records as they were, and doesn't come where room was taken before.
+    pub fn push(&mut self, key: &[u8], body: &[u8]) -> Result<(), AllocError>
+        requires some_key { 0 < length key.now }
+        requires short_key { length key.now < 65536 }
+        requires short_body { length body.now < 2 ^ 32 }
+        ensures ok { OnOk result (records self.new ≡ records self.old ++ (key.now, body.now) ∷ []) }
+        ensures err { OnErr result (records self.new ≡ records self.old) }
+        ensures reserved { 8 + length key.now + length body.now ≤ spare self.old → IsOk result }
+        ensures spare { OnOk result (spare self.old ≤ spare self.new + (8 + length key.now + length body.now)) }
+    {
+        reserve_frame(&mut self.frame, 8 + key.len() + body.len())?;
+        add_record(&mut self.frame, key, body);
+        Ok(())
+    }
+
+    /// The bytes as they are written.
+    pub(crate) fn frame(&self) -> &[u8]
+        ensures bytes { result.now ≡ frame_of (records self.now) }
+        ensures read { records_of (encoded_all (records self.now)) ≡ Some (records self.now) }
+        ensures length { length result.now < 2 ^ 63 }
+    {
+        self.frame.as_slice()
+    }
+}
+
+// How many bytes a frame has beside its payload.
+const BESIDE: usize = 9;
+
+// Takes room in a frame for so many more bytes of payload.
+fn reserve_frame(frame: &mut Vec<u8>, bytes: usize) -> Result<(), AllocError>
+    ensures items { frame.new.items ≡ frame.old.items }
+    ensures ok { OnOk result (max 9 (vec_len frame.new) + bytes ≤ vec_capacity frame.new) }
+    ensures capacity { vec_capacity frame.old ≤ vec_capacity frame.new }
+    ensures succeeds { bytes < 2 ^ 63 → max 9 (vec_len frame.old) + bytes ≤ vec_capacity frame.old → IsOk result }
+{
+    let beside = BESIDE.saturating_sub(frame.len());
+    if bytes > usize::MAX - beside {
+        return Err(AllocError);
+    }
+    frame.reserve(beside + bytes)
+}
+
+// Adds bytes where there is room.
+fn extend_reserved(frame: &mut Vec<u8>, bytes: &[u8])
+    requires room { vec_len frame.old + length bytes.now ≤ vec_capacity frame.old }
+    ensures items { frame.new.items ≡ frame.old.items ++ bytes.now }
+    ensures len { vec_len frame.new ≡ vec_len frame.old + length bytes.now }
+    ensures capacity { vec_capacity frame.old ≤ vec_capacity frame.new }
+{
+    let _ = frame.extend_from_slice(bytes);
+}
+
+// Takes the closed gate off a frame; no frame becomes the room for a length.
+fn open_frame(frame: &mut Vec<u8>)
+    requires room { 8 ≤ vec_capacity frame.old }
+    ensures payload { drop 8 frame.new.items ≡ payload_of frame.old.items }
+    ensures len { vec_len frame.new ≡ max 9 (vec_len frame.old) - 1 }
+    ensures capacity { vec_capacity frame.old ≤ vec_capacity frame.new }
+{
+    if frame.len() < BESIDE {
+        frame.clear();
+        extend_reserved(frame, &[0; 8]);
+    } else {
+        frame.pop();
+    }
+}
+
+// Puts the closed gate behind a payload, and its length in front.
+fn close_frame(frame: &mut Vec<u8>)
+    requires room { vec_len frame.old < vec_capacity frame.old }
+    requires front { 8 ≤ vec_len frame.old }
+    ensures items { frame.new.items ≡ framed (drop 8 frame.old.items) }
+    ensures len { vec_len frame.new ≡ vec_len frame.old + 1 }
+    ensures capacity { vec_capacity frame.new ≡ vec_capacity frame.old }
+{
+    let size = frame.len() - 8;
+    frame.push_reserved(0);
+    set_front(frame.as_mut_slice(), (size as u64).to_be_bytes());
+}
+
+// Puts eight bytes in the place of the first eight.
+fn set_front(bytes: &mut [u8], front: [u8; 8])
+    requires { 8 ≤ length bytes.old }
+    ensures { bytes.new ≡ front ++ drop 8 bytes.old }
+{
+    bytes[..8].copy_from_slice(&front);
+}
+
+// Adds a record to a frame where there is room.
+fn add_record(frame: &mut Vec<u8>, key: &[u8], body: &[u8])
+    requires room { max 9 (vec_len frame.old) + (8 + length key.now + length body.now) ≤ vec_capacity frame.old }
+    requires short_key { length key.now < 65536 }
+    requires short_body { length body.now < 2 ^ 32 }
+    ensures items { frame.new.items ≡ framed (payload_of frame.old.items ++ encoded (key.now, body.now)) }
+    ensures len { vec_len frame.new ≡ max 9 (vec_len frame.old) + (8 + length key.now + length body.now) }
+    ensures capacity { vec_capacity frame.old ≤ vec_capacity frame.new }
+{
+    open_frame(frame);
+    extend_reserved(frame, &(key.len() as u32).to_be_bytes());
+    extend_reserved(frame, key);
+    extend_reserved(frame, &(body.len() as u32).to_be_bytes());
+    extend_reserved(frame, body);
+    close_frame(frame);
+}

@@ -1,0 +1,56 @@
+// A journal's first bytes, written.
+ghost use Rattle.std.specs.Prelude.{◌≡◌, ◌≢◌, ℕ, ◌+◌, ◌<◌, ◌≤◌, ◌↔◌, List, [], ◌∷◌, ◌++◌, length, take, drop, IfOk, IfErr, OnOk, Ok, IsTrue};
+ghost use Rattle.edge_traits.specs.Disks.{Only};
+ghost use Rattle.flush_journal.specs.Files.{content, fresh};
+ghost use Rattle.flush_journal.specs.Gates.{GateStands};
+ghost use Rattle.flush_journal.specs.Refusals.{magic, new_file, NoMagic, MayRefuseCreate};
+
+use crate::Why;
+use edge_traits::Disk;
+
+// The first bytes of a journal.
+const MAGIC: [u8; 8] = [0x68, 0x73, 0x64, 0x73, 0x6a, 0x72, 0x6e, 0x31];
+
+// How many bytes a new journal has: the header and a closed gate.
+pub const NEW_SIZE: u64 = 17;
+
+// Whether a disk begins with a journal's first bytes.
+fn has_magic<D: Disk>(disk: &mut D) -> Result<bool, Why>
+    ensures yes { D.honest → IfOk result (λ b. IsTrue b ↔ (take 8 (D.reads disk.old) ≡ magic)) }
+    ensures reads { D.honest → D.reads disk.new ≡ D.reads disk.old }
+    ensures most { D.most disk.new ≡ D.most disk.old }
+    ensures why { IfErr result (MayRefuseCreate D.honest (D.reads disk.old) (D.most disk.old) (D.faults disk.old) (D.faults disk.new)) }
+    ensures later { D.faults disk.old ≤ D.faults disk.new }
+{
+    let mut first = [0; 8];
+    let count = disk.read_at(0, &mut first)?;
+    Ok(count == 8 && first == MAGIC)
+}
+
+// Writes the header and a closed gate, where no journal stands, and syncs.
+pub fn write_new<D: Disk>(disk: &mut D, lanes: u32) -> Result<(), Why>
+    requires few { lanes ≤ 16 }
+    ensures file { D.honest → OnOk result (D.reads disk.new ≡ new_file lanes ++ drop 17 (D.reads disk.old)) }
+    ensures only { D.honest → OnOk result (Only (D.reads disk.new) (D.images disk.new)) }
+    ensures room { OnOk result (17 ≤ D.most disk.old) }
+    ensures none { OnOk result (NoMagic D.honest (D.reads disk.old)) }
+    ensures why { IfErr result (MayRefuseCreate D.honest (D.reads disk.old) (D.most disk.old) (D.faults disk.old) (D.faults disk.new)) }
+    ensures later { D.faults disk.old ≤ D.faults disk.new }
+{
+    if has_magic(disk)? {
+        return Err(Why::Exists);
+    }
+    let room = disk.room();
+    if room < NEW_SIZE {
+        return Err(Why::JournalFull {
+            end: 0,
+            need: NEW_SIZE,
+            room,
+        });
+    }
+    let [a, b, c, d, e, f, g, h] = MAGIC;
+    let bytes = [a, b, c, d, e, f, g, h, 0, 0, 0, lanes as u8, 0, 0, 0, 0, 0];
+    disk.write_at(0, &bytes)?;
+    disk.sync()?;
+    Ok(())
+}

@@ -1,0 +1,21 @@
+//! A journal of batches of records on a disk. After `append` answers Ok, whatever a crash leaves holds the batch; and
+//! at each moment before, what a crash leaves holds what was held, with the whole batch or without it.
+#![tactic(auto)]
+
+mod batch;
+mod create;
+mod gates;
+mod journal;
+mod read;
+mod records;
+mod recovered;
+mod why;
+mod window;
+
+pub use batch::Batch;
+pub use journal::{Journal, Report};
+pub use recovered::Recovered;
+pub use why::{JournalRefused, Why};
+
+#[cfg(test)]
+mod tests;
