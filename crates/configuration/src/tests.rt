@@ -340,14 +340,17 @@ fn lines(
 }
 
 #[test]
-fn lists_have_a_limit(rt: HostRuntime) {
+fn lists_and_catalogues_have_limits(rt: HostRuntime) {
     let alloc = rt.alloc();
-    for (before, most, front, back) in [(
-        "[folders.'/a']\nowner = 'u'\n[folders.'/a'.acls]\n",
-        1024u32,
-        "u",
-        " = {}",
-    )] {
+    for (before, most, front, back) in [
+        (
+            "[folders.'/a']\nowner = 'u'\n[folders.'/a'.acls]\n",
+            1024u32,
+            "u",
+            " = {}",
+        ),
+        ("[folders]\n", 65_535, "'/", "' = { owner = 'u' }"),
+    ] {
         for (count, wanted) in [(most, "ok"), (most + 1, "key")] {
             match lines(alloc, before, count, front, back) {
                 Ok(text) => assert_eq!(rt; outcome(alloc, text.as_bytes()), wanted, "{count}"),

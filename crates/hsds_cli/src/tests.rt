@@ -164,6 +164,48 @@ fn a_stream_has_its_answers_in_whatever_pieces_it_comes(rt: HostRuntime) -> Resu
     Ok(())
 }
 
+/// A text of a front, a piece so many times, and an end.
+fn repeated(
+    alloc: Global,
+    front: &str,
+    piece: &str,
+    count: usize,
+    end: &str,
+) -> Result<String, AllocError> {
+    let mut text = String::from_str(alloc, front)?;
+    for _ in 0..count {
+        text.push_str(piece)?;
+    }
+    text.push_str(end)?;
+    Ok(text)
+}
+
+#[test]
+fn a_head_past_a_limit_is_refused(rt: HostRuntime) -> Result<(), Fail> {
+    let line = "GET /?domain=/home/lab HTTP/1.1\r\n";
+    let long = "GET /?domain=/home/lab HTTP/1.1\r\na: ";
+    for (front, piece, count, end, status, answer) in [
+        (line, "a: b\r\n", 64usize, "\r\n", 0u8, FORBIDDEN),
+        (line, "a: b\r\n", 65, "\r\n", 10, NO_ROUTE),
+        (long, "b", 8152, "\r\n\r\n", 0, FORBIDDEN),
+        (long, "b", 8153, "\r\n\r\n", 10, NO_ROUTE),
+        ("", "a", 8191, "", 10, ""),
+        ("", "a", 8192, "", 10, NO_ROUTE),
+    ] {
+        let text = repeated(rt.alloc(), front, piece, count, end)?;
+        let (got, out) = session(
+            rt.alloc(),
+            LAB.as_bytes(),
+            text.as_bytes(),
+            100_000,
+            (&[], &[]),
+        )?;
+        assert_eq!(rt; got, status, "{piece} {count}");
+        assert!(rt; out.bytes() == answer.as_bytes(), "{piece} {count}");
+    }
+    Ok(())
+}
+
 #[test]
 fn a_cut_request_has_no_answer(rt: HostRuntime) -> Result<(), Fail> {
     let request = BOB_READS.as_bytes();
