@@ -45,6 +45,22 @@ fn told_whole(rt: &(impl Abort + AllocGlobal), dims: &str) -> Result<String, All
     shown(rt.alloc(), whole(&shape(rt, dims)))
 }
 
+fn told_lists(
+    rt: &(impl Abort + AllocGlobal),
+    dims: &str,
+    keys: &str,
+) -> Result<String, AllocError> {
+    let keys = Value::from_str(rt.alloc(), keys).expect(rt, "JSON");
+    let shape = shape(rt, dims);
+    let slab = from_lists(
+        keys.get("start"),
+        keys.get("stop"),
+        keys.get("step"),
+        &shape,
+    );
+    shown(rt.alloc(), slab)
+}
+
 /// The cell at a place of a selection, and how many cells there are.
 fn cell(rt: &(impl Abort + AllocGlobal), dims: &str, text: &str, k: u64) -> (Dims, u64) {
     let slab = read_select(text, &shape(rt, dims)).expect(rt, "a selection");
@@ -147,6 +163,52 @@ fn the_first_fault_is_told(rt: HostRuntime) -> Result<(), AllocError> {
     for (dims, text, want) in rows {
         let got = told(&rt, dims, text)?;
         assert!(rt; got.as_str() == want, "{text} of {dims} gave {got}");
+    }
+    Ok(())
+}
+
+#[test]
+fn lists_spell_selections(rt: HostRuntime) -> Result<(), AllocError> {
+    let rows = [
+        (
+            "[10,8]",
+            r#"{"start":[1,0],"stop":[10,7],"step":[4,3]}"#,
+            "1:10:4 0:7:3 ",
+        ),
+        ("[10,8]", "{}", "0:10:1 0:8:1 "),
+        ("[10,8]", r#"{"start":[3,5]}"#, "3:10:1 5:8:1 "),
+        ("[10,8]", r#"{"stop":[4,3],"step":[1,2]}"#, "0:4:1 0:3:2 "),
+        ("[10]", r#"{"start":3,"stop":3}"#, "3:3:1 "),
+        (r#""H5S_SCALAR""#, "{}", ""),
+        (r#""H5S_SCALAR""#, r#"{"start":[0]}"#, "Rank"),
+        (r#""H5S_NULL""#, "{}", "Rank"),
+        ("[10,8]", r#"{"start":[1]}"#, "Rank"),
+        ("[10,8]", r#"{"step":[1,1,1]}"#, "Rank"),
+        (
+            "[10,8]",
+            r#"{"start":[12,0],"stop":[11,8],"step":[0,1]}"#,
+            "Step { axis: 0 }",
+        ),
+        (
+            "[10,8]",
+            r#"{"start":[5,0],"stop":[4,8]}"#,
+            "Order { axis: 0 }",
+        ),
+        ("[10,8]", r#"{"stop":[10,9]}"#, "Past { axis: 1 }"),
+        (
+            "[10,8]",
+            r#"{"start":[1],"step":"x"}"#,
+            "Syntax { byte: 0 }",
+        ),
+        ("[10,8]", r#"{"start":[-1,0]}"#, "Syntax { byte: 0 }"),
+        ("[10,8]", r#"{"stop":[]}"#, "Syntax { byte: 0 }"),
+        ("[10,8]", r#"{"step":[1,2147483648]}"#, "Syntax { byte: 0 }"),
+        ("[10,8]", r#"{"start":null}"#, "Syntax { byte: 0 }"),
+        ("[2000000]", "{}", "TooMany { count: 2000000 }"),
+    ];
+    for (dims, keys, want) in rows {
+        let got = told_lists(&rt, dims, keys)?;
+        assert!(rt; got.as_str() == want, "{keys} of {dims} gave {got}");
     }
     Ok(())
 }
