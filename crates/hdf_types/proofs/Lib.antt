@@ -2,3 +2,4 @@ pub mod FieldLemmas
 pub mod NameLemmas
 pub mod TypeLemmas
 pub mod PrintLemmas
+pub mod SoundLemmas

@@ -59,3 +59,26 @@ abbrev mutual
 -- the tree spells this type, within the limits of depth and size
 abbrev pub IsType : Data → Elem → Type 0
 IsType d e = IsTypeOf d e × (depth e ≤ MAX_NESTING) × (size_of e ≤ MAX_SIZE)
+
+-- ---- the types that trees can spell
+
+-- an integer of 1, 2, 4 or 8 bytes
+abbrev pub IsWidth : ℕ → Type 0
+IsWidth bits = (bits ≡ 8) ⊎ ((bits ≡ 16) ⊎ ((bits ≡ 32) ⊎ (bits ≡ 64)))
+
+abbrev mutual
+  -- a type within the limits of its nodes
+  pub IsFormed : Elem → Type 0
+  IsFormed (int t) = IsWidth t.bits
+  IsFormed (text t) = (1 ≤ t.len) × (t.len ≤ MAX_TEXT)
+  IsFormed (compound fs) = (1 ≤ length (names_of fs)) × (length (names_of fs) ≤ MAX_FIELDS) × IsDistinct (names_of fs) × AreFormed fs
+
+  pub AreFormed : FieldList → Type 0
+  AreFormed no_fields = Unit {0}
+  AreFormed (field n e rest) = (1 ≤ length n) × (length n ≤ MAX_NAME) × IsFormed e × AreFormed rest
+
+-- a type within all limits
+pub record IsSoundType (e : Elem) : Type 0 where
+  pub formed : IsFormed e
+  pub nested : depth e ≤ MAX_NESTING
+  pub small : size_of e ≤ MAX_SIZE

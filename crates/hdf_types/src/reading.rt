@@ -5,7 +5,7 @@ ghost use Rattle.serde_json.specs.View.{view};
 ghost use Rattle.serde_json.specs.Data.{Data};
 ghost use Rattle.hdf_types.specs.Elems.{Elem};
 ghost use Rattle.hdf_types.specs.Faults.{Fault, Gives};
-ghost use Rattle.hdf_types.specs.Types.{IsType};
+ghost use Rattle.hdf_types.specs.Types.{IsType, IsSoundType};
 ghost use Rattle.hdf_types.specs.Views.{elem, field_list};
 ghost use Rattle.hdf_types.specs.Members.{member_of};
 ghost use Rattle.hdf_types.specs.Reading.{node_at, compound_by, fields_at, each_at, member_at, within_at, type_of};
@@ -36,6 +36,7 @@ pub fn read_type(alloc: Global, tree: &Value) -> Result<ElemType, TypeFault>
     ensures spelled { IfOk result (λ e. IsType (view tree.now) (elem e)) }
     ensures only { (e : Elem) → IsType (view tree.now) e → Gives elem result (Ok e) }
     ensures first { Gives elem result (type_of (view tree.now)) }
+    ensures sound { IfOk result (λ e. IsSoundType (elem e)) }
 {
     first_of(alloc, tree)
 }
