@@ -1,0 +1,61 @@
+-- An attribute that a tree spells is what the tests in order give.
+use Rattle.std.proofs.Common.{◌≡◌, ℕ, ◌*◌, ◌≤◌, List, [], Option, Some, None, Result, Ok, Err, inl, inr, sym, refl, ap, ◌∙◌}
+use Rattle.std.specs.Prelude.{codes}
+use Rattle.std.specs.Result.{IsErrAnd}
+use Rattle.std.proofs.lemmas.Bool.{le-leb}
+use Rattle.serde_json.specs.Data.{Data}
+use Rattle.serde_json.specs.Find.{get}
+use Rattle.hdf_types.specs.declared.faults.TypeFault.{TypeFault}
+use Rattle.hdf_types.specs.declared.faults.TypeFault.TheVariants as types
+use Rattle.hdf_types.specs.Elems.{Elem}
+use Rattle.hdf_types.specs.declared.types.ElemType.{ElemType}
+use Rattle.hdf_types.specs.Views.{elem}
+use Rattle.hdf_types.specs.Faults.{Fault, Fails as TypeFails, fault}
+use Rattle.hdf_types.specs.Reading.{size_of}
+use Rattle.hdf_types.proofs.TypeLemmas.{type_read}
+use Rattle.shapes.specs.declared.Shape.{Shape}
+use Rattle.shapes.specs.declared.Shape.TheVariants.{Null, Scalar, Simple}
+use Rattle.shapes.specs.Shapes.{count_of}
+use Rattle.shapes.proofs.ShapeLemmas.{shape_read}
+use Rattle.hdf_values.specs.declared.TheConstants.{MAX_ATTRIBUTE}
+use Rattle.hdf_values.specs.declared.attributes.AttributeFault.{AttributeFault}
+use Rattle.hdf_values.specs.Attributes.{Content, IsAttribute, IsTypeAt, IsValue, IsValueAt, Fails, Gives, type_fault, attribute_of, type_or, typed_at, shape_or, value_or, null_value, value_at, valued_at, sized_at}
+use Rattle.hdf_values.proofs.NestedLemmas.{nested_read}
+
+-- a fault of the type is the attribute's
+
+type_refused : (f : TypeFault) (e : AttributeFault) (r : Result Elem Fault) → e ≡ type_fault f → TypeFails f r → Fails e (type_or r)
+unfolding fault
+type_refused types.NoMemory e r same h = inl same
+type_refused (types.Refused p c) e r same h = inr (ap type_or h ∙ ap Err (sym same))
+
+pub type_given : (r : Result ElemType AttributeFault) (f : TypeFault) (t : Result Elem Fault) → IsErrAnd r (λ e. e ≡ type_fault f) → TypeFails f t → Gives elem r (type_or t)
+type_given (Ok kind) f t h k = absurd h
+type_given (Err e) f t h k = type_refused f e t h k
+
+typed_read : (o : Option Data) (e : Elem) → IsTypeAt o e → typed_at o ≡ Ok e
+typed_read None e h = absurd h
+typed_read (Some d) e h = ap type_or (type_read d e h)
+
+value_read : (e : Elem) (s : Shape) (d : Data) (bs : List ℕ) → IsValue e s d bs → value_at e s d ≡ Ok bs
+value_read e Null d bs h = ap null_value h.0 ∙ ap Ok (sym h.1)
+value_read e Scalar d bs h = nested_read e [] 0 d h.0 ∙ ap Ok (sym h.1)
+value_read e (Simple dims limits) d bs h = nested_read e dims 0 d h.0 ∙ ap Ok (sym h.1)
+
+valued_read : (e : Elem) (s : Shape) (o : Option Data) (bs : List ℕ) → IsValueAt e s o bs → valued_at e s o ≡ Ok bs
+valued_read e s None bs h = absurd h
+valued_read e s (Some d) bs h = value_read e s d bs h
+
+sized_read : (e : Elem) (s : Shape) (o : Option Data) (bs : List ℕ) → count_of s * size_of e ≤ MAX_ATTRIBUTE → IsValueAt e s o bs → sized_at e s (value_or (valued_at e s o)) ≡ Ok bs
+sized_read e s o bs small h = rw (le-leb (count_of s * size_of e) MAX_ATTRIBUTE small) (ap value_or (valued_read e s o bs h))
+
+pub attribute_read : (d : Data) (c : Content) → IsAttribute d c → attribute_of d ≡ Ok c
+unfolding attribute_of
+attribute_read d c h =
+    let kind = typed_read (get (codes "type") d) c.kind h.typed in
+    let shape = ap shape_or (shape_read (get (codes "shape") d) None c.shape h.shaped) in
+    let bytes = sized_read c.kind c.shape (get (codes "value") d) c.bytes h.small h.valued in
+    rw (kind, shape, bytes) refl
+
+pub one_of : (a b : Content) (r : Result Content AttributeFault) → r ≡ Ok a → r ≡ Ok b → a ≡ b
+one_of a b r h k = cc

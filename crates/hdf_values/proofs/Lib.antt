@@ -1,0 +1,11 @@
+pub mod IntegerLemmas
+pub mod TextLemmas
+pub mod Weights
+pub mod ElementLemmas
+pub mod EncodedLemmas
+pub mod DecodedLemmas
+pub mod NestedLemmas
+pub mod ReadLemmas
+pub mod WriteLemmas
+pub mod RowLemmas
+pub mod AttributeLemmas

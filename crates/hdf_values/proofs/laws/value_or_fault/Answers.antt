@@ -1,0 +1,8 @@
+use Rattle.hdf_values.proofs.ElementLemmas.{encoded-fits, no_fault}
+use Rattle.hdf_values.proofs.laws.value_or_fault.Goals as goal
+
+pub returns-clause-value : goal.returns-clause-value
+returns-clause-value c = encoded-fits
+
+pub returns-clause-fault : goal.returns-clause-fault
+returns-clause-fault c = no_fault

@@ -1,0 +1,12 @@
+pub mod Faults
+pub mod Integers
+pub mod Texts
+pub mod Elements
+pub mod Nested
+pub mod Attributes
+pub use Rattle.trees.specs.Trees
+pub use Rattle.serde_json.specs.View
+pub use Rattle.serde_json.specs.Data
+pub use Rattle.serde_json.specs.Find
+pub use Rattle.hdf_types.specs.Elems
+pub use Rattle.hdf_types.specs.Types

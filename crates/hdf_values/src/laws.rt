@@ -1,0 +1,47 @@
+//! Laws about values and their bytes.
+
+ghost use Rattle.std.specs.Prelude.{◌≡◌, ◌↔◌, ℕ, ◌*◌, List, Some, Ok, Err, length, take, drop, slice_index_or};
+ghost use Rattle.serde_json.specs.Data.{Data, null};
+ghost use Rattle.hdf_types.specs.Elems.{Elem};
+ghost use Rattle.hdf_types.specs.Reading.{size_of};
+ghost use Rattle.hdf_types.specs.Types.{IsSoundType};
+ghost use Rattle.shapes.specs.Places.{IsInside, place};
+ghost use Rattle.hdf_values.specs.Elements.{Fits, bytes_of, normal, decoded, encoded, zero_of, IsEncoded};
+ghost use Rattle.hdf_values.specs.Nested.{FitsNested, elements, tree_at, nested_bytes, nested_normal, nested_decoded, nested_from};
+ghost use Rattle.hdf_values.specs.Attributes.{Content, IsAttribute, attribute_of};
+ghost use Rattle.hdf_values.specs.declared.faults.Misfit.{Misfit};
+ghost use Rattle.hdf_values.specs.declared.faults.ValueFault.{ValueFault};
+ghost use Rattle.hdf_values.specs.declared.attributes.AttributeFault.{AttributeFault};
+
+/// What a value is written as has the size of its type, and reads back as the value without the
+/// filling of its texts, which has the same bytes. 0 and the empty text are values.
+pub fn values_read_back()
+    ensures size { (e : Elem) (d : Data) → IsSoundType e → Fits e d → length (bytes_of e d) ≡ size_of e }
+    ensures back { (e : Elem) (d : Data) → IsSoundType e → Fits e d → decoded e (bytes_of e d) ≡ normal e d }
+    ensures again { (e : Elem) (d : Data) → IsSoundType e → Fits e d → Fits e (normal e d) × (bytes_of e (normal e d) ≡ bytes_of e d) }
+    ensures zero { (e : Elem) → IsSoundType e → Fits e (zero_of e) }
+{}
+
+/// A tree is a value of a type, or it has a fault, and never both.
+pub fn value_or_fault()
+    ensures value { (e : Elem) (d : Data) → Fits e d → encoded e d ≡ Ok (bytes_of e d) }
+    ensures fault { (e : Elem) (d : Data) (m : Misfit) → encoded e d ≡ Err m → Fits e d → ⊥ }
+{}
+
+/// A tree nests by extents, or it has a first fault, and never both; what it is written as reads
+/// back. The element at coordinates, which is found by going down the lists, stands at their place
+/// in row-major order, among the elements and among the bytes.
+pub fn nested_or_fault()
+    ensures value { (e : Elem) (dims : List ℕ) (p : ℕ) (d : Data) → FitsNested e dims d → nested_from e dims p d ≡ Ok (nested_bytes e dims d) }
+    ensures fault { (e : Elem) (dims : List ℕ) (p : ℕ) (d : Data) (f : ValueFault) → nested_from e dims p d ≡ Err f → FitsNested e dims d → ⊥ }
+    ensures back { (e : Elem) (dims : List ℕ) (d : Data) → IsSoundType e → FitsNested e dims d → nested_decoded e dims (nested_bytes e dims d) ≡ nested_normal e dims d }
+    ensures rows { (e : Elem) (dims coords : List ℕ) (d : Data) → FitsNested e dims d → IsInside coords dims → tree_at coords d ≡ Some (slice_index_or (elements dims d) (place coords dims) null) }
+    ensures bytes { (e : Elem) (dims coords : List ℕ) (d : Data) → IsSoundType e → FitsNested e dims d → IsInside coords dims → (x : Data) × (tree_at coords d ≡ Some x) × Fits e x × (take (size_of e) (drop (place coords dims * size_of e) (nested_bytes e dims d)) ≡ bytes_of e x) }
+{}
+
+/// A tree spells one attribute, or it has a first fault, and never both.
+pub fn attribute_or_fault()
+    ensures one { (d : Data) (a b : Content) → IsAttribute d a → IsAttribute d b → a ≡ b }
+    ensures value { (d : Data) (c : Content) → IsAttribute d c → attribute_of d ≡ Ok c }
+    ensures fault { (d : Data) (f : AttributeFault) (c : Content) → attribute_of d ≡ Err f → IsAttribute d c → ⊥ }
+{}

@@ -1,0 +1,29 @@
+//! Values of elements: which JSON trees are values of a type, and their bytes; one element, lists
+//! of elements nested by an array's extents, and attributes.
+//!
+//! The forms are those of the HDF5/JSON specification and the HDF REST API, "Value" and
+//! "Attribute". A whole number is two's complement in the byte order of its type. A text is its
+//! UTF-8 bytes, filled up to the length of its type. A compound is its fields, one after another.
+#![tactic(auto)]
+
+mod attributes;
+mod elements;
+mod faults;
+mod integers;
+mod laws;
+mod nested;
+#[cfg(test)]
+mod tests;
+mod texts;
+
+pub use attributes::{Attribute, AttributeFault, Bytes, read_attribute};
+pub use elements::{decode, encode, is_encoded, zero};
+pub use faults::{Misfit, ValueFault};
+pub use laws::{attribute_or_fault, nested_or_fault, value_or_fault, values_read_back};
+pub use nested::{read_nested, write_nested};
+
+/// The most bytes of an attribute's value.
+pub const MAX_ATTRIBUTE: u64 = 65_536;
+
+/// The most bytes for which memory is taken before the first element was read.
+pub const MAX_AHEAD: u64 = 16_777_216;

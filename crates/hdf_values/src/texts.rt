@@ -1,0 +1,140 @@
+//! Texts of a fixed length: their bytes, and what fills them up.
+
+ghost use Rattle.std.specs.Prelude.{◌≡◌, ◌≤◌, ◌↔◌, Ok, List, ℕ, IsTrue, IsUtf8, IfOk, length, take, replicate, nat_le, nat_eq};
+ghost use Rattle.serde_json.specs.Data.{string};
+ghost use Rattle.std.specs.List.{list_any};
+ghost use Rattle.hdf_types.specs.Elems.{text};
+ghost use Rattle.serde_json.specs.Find.{as_str};
+ghost use Rattle.serde_json.specs.View.{view};
+ghost use Rattle.hdf_values.specs.Texts.{fill as fill_of, most_of, FitsText, text_misfit, padded, without_end};
+ghost use Rattle.hdf_values.specs.Elements.{text_encoded, outcome, Fits, IsEncoded, decoded};
+
+use crate::Misfit;
+use hdf_types::{Pad, TextType};
+use serde_json::Value;
+use std::alloc::{AllocError, Global};
+
+fn fill(pad: Pad) -> u8
+    ensures { result ≡ fill_of pad }
+{
+    match pad {
+        Pad::NullTerm => 0,
+        Pad::NullPad => 0,
+        Pad::SpacePad => b' ',
+    }
+}
+
+/// The most bytes that a text of this type has.
+fn most(kind: &TextType) -> usize
+    ensures { result ≡ most_of kind.now.pad kind.now.len }
+{
+    let len = kind.len as usize;
+    match kind.pad {
+        Pad::NullTerm => len.saturating_sub(1),
+        Pad::NullPad => len,
+        Pad::SpacePad => len,
+    }
+}
+
+fn has_other_than_ascii(bytes: &[u8]) -> bool
+    ensures { result ≡ list_any (λ b. nat_le 128 b) bytes.now }
+{
+    for byte in bytes {
+        if *byte >= 128 {
+            return true;
+        }
+    }
+    false
+}
+
+fn has_nul(bytes: &[u8]) -> bool
+    ensures { result ≡ list_any (λ b. nat_eq b 0) bytes.now }
+{
+    for byte in bytes {
+        if *byte == 0 {
+            return true;
+        }
+    }
+    false
+}
+
+/// The first test that a text fails.
+#[tactic(auto, unfolding(crate::specs::Texts::text_misfit))]
+fn misfit(kind: &TextType, bytes: &[u8]) -> Option<Misfit>
+    ensures { result ≡ text_misfit kind.now bytes.now }
+{
+    if bytes.len() > most(kind) {
+        return Some(Misfit::TooLong);
+    }
+    if !kind.utf8 && has_other_than_ascii(bytes) {
+        return Some(Misfit::NotAscii);
+    }
+    if has_nul(bytes) {
+        return Some(Misfit::Nul);
+    }
+    None
+}
+
+/// Writes the bytes of a tree that is a text of this type.
+pub fn encode_text(kind: &TextType, tree: &Value, out: &mut [u8]) -> Result<(), Misfit>
+    requires room { length out.old ≡ kind.now.len }
+    ensures exact { outcome result out.new ≡ text_encoded kind.now (as_str (view tree.now)) }
+    ensures fits { IfOk result (λ _. Fits (text kind.now) (view tree.now)) }
+    ensures len { length out.new ≡ length out.old }
+{
+    let given = tree.as_str().ok_or(Misfit::NotOfType)?.as_bytes();
+    if let Some(misfit) = misfit(kind, given) {
+        return Err(misfit);
+    }
+    let (front, back) = out.split_at_mut(given.len());
+    front.copy_from_slice(given);
+    back.fill(fill(kind.pad));
+    Ok(())
+}
+
+/// How many bytes stand in front of those that fill up.
+fn kept_len(bytes: &[u8], fill: u8) -> usize
+    ensures within { result ≤ length bytes.now }
+    ensures front { take result bytes.now ≡ without_end fill bytes.now }
+{
+    let mut len = bytes.len();
+    while len > 0 && bytes[len - 1] == fill {
+        len -= 1;
+    }
+    len
+}
+
+/// Writes the empty text.
+pub fn zero_text(kind: &TextType, out: &mut [u8])
+    requires { length out.old ≡ kind.now.len }
+    ensures { out.new ≡ replicate kind.now.len (fill_of kind.now.pad) }
+{
+    out.fill(fill(kind.pad));
+}
+
+/// Whether some text of this type has these bytes.
+pub fn is_encoded_text(kind: &TextType, bytes: &[u8]) -> bool
+    requires { 1 ≤ kind.now.len }
+    ensures { IsTrue result ↔ IsEncoded (text kind.now) bytes.now }
+{
+    if bytes.len() != kind.len as usize {
+        return false;
+    }
+    let kept = &bytes[..kept_len(bytes, fill(kind.pad))];
+    match str::from_utf8(kept) {
+        Ok(_) => misfit(kind, kept).is_none(),
+        Err(_) => false,
+    }
+}
+
+/// The text that bytes are, as a tree.
+pub fn decode_text(alloc: Global, kind: &TextType, bytes: &[u8]) -> Result<Value, AllocError>
+    requires { IsEncoded (text kind.now) bytes.now }
+    ensures { IfOk result (λ v. view v ≡ decoded (text kind.now) bytes.now) }
+{
+    let kept = &bytes[..kept_len(bytes, fill(kind.pad))];
+    match str::from_utf8(kept) {
+        Ok(text) => Ok(Value::String(String::from_str(alloc, text)?)),
+        Err(_) => unreachable!(),
+    }
+}
