@@ -1,5 +1,5 @@
--- The numbers of the program's ends.
-use Rattle.std.specs.Prelude.{ℕ}
+-- The numbers and the words of the program's ends.
+use Rattle.std.specs.Prelude.{ℕ, List, codes}
 use Rattle.hsds_cli.specs.declared.status.Status.{Status}
 use Rattle.hsds_cli.specs.declared.status.Status.TheVariants.{Done, Words, Configuration, ReadFault, WriteFault, InputCut, Budget, NoMemory}
 
@@ -12,3 +12,14 @@ number_of WriteFault = 4
 number_of InputCut = 10
 number_of Budget = 12
 number_of NoMemory = 13
+
+-- what the program prints to standard error
+abbrev pub word_of : Status → List ℕ
+word_of Done = codes "done"
+word_of Words = codes "words"
+word_of Configuration = codes "configuration"
+word_of ReadFault = codes "read-fault"
+word_of WriteFault = codes "write-fault"
+word_of InputCut = codes "input-cut"
+word_of Budget = codes "budget"
+word_of NoMemory = codes "no-memory"

@@ -1,5 +1,6 @@
 ghost use Rattle.std.specs.Prelude.{◌≡◌};
-ghost use Rattle.hsds_cli.specs.Status.{number_of};
+ghost use Rattle.hsds_cli.specs.Status.{number_of, word_of};
+ghost use Rattle.hsds_cli.specs.declared.status.Status.{Status};
 
 /// How a run of the program ends.
 #[derive(Clone, Copy, Debug, PartialEq, Eq)]
@@ -41,7 +42,9 @@ impl Status {
 }
 
 /// The word for an exit number, which the program prints to standard error.
-pub fn status_word(number: u8) -> &'static str {
+pub fn status_word(number: u8) -> &'static str
+    ensures { (status : Status) → number ≡ number_of status → result.now ≡ word_of status }
+{
     match number {
         0 => "done",
         1 => "words",
