@@ -15,7 +15,7 @@ use Rattle.shapes.specs.Places.{cell_count}
 use Rattle.hdf_values.specs.declared.faults.ValueFault.{ValueFault}
 use Rattle.hdf_values.specs.Elements.{Fits, bytes_of, normal, decoded, IsEncoded}
 use Rattle.hdf_values.specs.Nested.{FitsNested, elements, nested_bytes, nested_normal, pieces, AreEncoded, nested_decoded, each_nested, counted, nested_from}
-use Rattle.hdf_values.proofs.ElementLemmas.{encoded-fits, length-bytes_of, decoded-bytes_of, normal_fits, bytes_of-normal}
+use Rattle.hdf_values.proofs.ElementLemmas.{list_of-items_of, encoded-fits, length-bytes_of, decoded-bytes_of, normal_fits, bytes_of-normal}
 
 -- ---- an element has a byte
 
@@ -62,10 +62,6 @@ all_map F G g each (x ∷ xs) h = (each x h.0, all_map F G g each xs h.1)
 map_each : {A B C : Type 0} (F : A → Type 0) (f : B → C) (g : A → B) (h : A → C) → ((x : A) → F x → f (g x) ≡ h x) → (xs : List A) → AllByRecursion F xs → map f (map g xs) ≡ map h xs
 map_each F f g h each [] k = refl
 map_each F f g h each (x ∷ xs) k = rw (each x k.0, map_each F f g h each xs k.1)
-
-relisted : (ds : List Data) → list_of (items_of ds) ≡ ds
-relisted [] = refl
-relisted (d ∷ ds) = ap (λ l. d ∷ l) (relisted ds)
 
 -- ---- pieces
 
@@ -203,7 +199,7 @@ decoded_fits e bs s h =
     rw same (normal_fits e h.0 h.1, bytes_of-normal e h.0 h.1 ∙ h.2)
 
 list_fits : (e : Elem) (n : ℕ) (ns : List ℕ) (ds : List Data) → length ds ≡ n → AllByRecursion (FitsNested e ns) ds → FitsNested e (n ∷ ns) (array (items_of ds))
-list_fits e n ns ds q h = (items_of ds, refl, ap length (relisted ds) ∙ q, rw (relisted ds) h)
+list_fits e n ns ds q h = (items_of ds, refl, ap length (list_of-items_of ds) ∙ q, rw (list_of-items_of ds) h)
 
 -- the tree that they stand for nests, and has these bytes
 pub nested_fits : (e : Elem) (dims bs : List ℕ) → IsSoundType e → AreEncoded e (cell_count dims) bs → FitsNested e dims (nested_decoded e dims bs) × (nested_bytes e dims (nested_decoded e dims bs) ≡ bs)
@@ -219,7 +215,7 @@ nested_fits e (n ∷ ns) bs s h =
     let fit = all_map (AreEncoded e c) (FitsNested e ns) dec (λ x q. (nested_fits e ns x s q).0) ps parts in
     let whole = rejoined (AreEncoded e c) (λ x. nested_bytes e ns (dec x)) (λ x q. (nested_fits e ns x s q).1) n k bs (h.whole ∙ mul_assoc n c (size_of e)) parts in (
       list_fits e n ns (map dec ps) (length-map ps dec ∙ length-pieces n k bs) fit,
-      bytes_listed e n ns (array (items_of (map dec ps))) (map dec ps) (ap Some (relisted (map dec ps))) ∙ flat_map-map (nested_bytes e ns) dec ps ∙ whole,
+      bytes_listed e n ns (array (items_of (map dec ps))) (map dec ps) (ap Some (list_of-items_of (map dec ps))) ∙ flat_map-map (nested_bytes e ns) dec ps ∙ whole,
     )
 
 pub decoded_read : (e : Elem) (dims bs : List ℕ) → IsSoundType e → AreEncoded e (cell_count dims) bs → nested_from e dims 0 (nested_decoded e dims bs) ≡ Ok bs
