@@ -11,10 +11,10 @@ use Rattle.std.proofs.lemmas.List.Elements.{All-nil, All-cons, All-head, All-tai
 use Rattle.std.proofs.lemmas.Option.{same_Some}
 use Rattle.serde_json.specs.Data.{Data, null, boolean, number, string, array, object}
 use Rattle.serde_json.specs.Find.{get, as_str, as_object}
-use Rattle.trees.specs.Trees.{all_in, whole_in, list_in, list_of, text_at}
-use Rattle.trees.proofs.TreeLemmas.{and_then_some, map_some, list_in_array, whole_in_number, AllZip-all_in, all_in-AllZip}
-use Rattle.trees.proofs.TableLemmas.{same_bytes}
-use Rattle.trees.proofs.FaultLemmas.{chosen, test_ok}
+use Rattle.json_trees.specs.Trees.{all_in, whole_in, list_in, list_of, text_at}
+use Rattle.json_trees.proofs.TreeLemmas.{and_then_some, map_some, list_in_array, whole_in_number, AllZip-all_in, all_in-AllZip}
+use Rattle.json_trees.proofs.TableLemmas.{same_bytes}
+use Rattle.json_trees.proofs.FaultLemmas.{chosen, test_ok}
 use Rattle.shapes.specs.declared.Shape.{Shape}
 use Rattle.shapes.specs.declared.TheConstants.{MAX_RANK, MAX_EXTENT}
 use Rattle.shapes.specs.Extents.{SpellsList}

@@ -5,7 +5,7 @@ use Rattle.std.specs.Option.{is_some}
 use Rattle.std.specs.Str.{bytes_eq}
 use Rattle.serde_json.specs.Data.{Data}
 use Rattle.serde_json.specs.Find.{get, as_object}
-use Rattle.trees.specs.Trees.{all_in, list_in, whole_in, text_at}
+use Rattle.json_trees.specs.Trees.{all_in, list_in, whole_in, text_at}
 use Rattle.shapes.specs.Places.{cell_count}
 use Rattle.shapes.specs.declared.TheConstants.{MAX_EXTENT}
 use Rattle.chunk_layout.specs.declared.TheConstants.{MAX_CHUNK_BYTES}

@@ -4,7 +4,7 @@ ghost use Rattle.std.specs.Prelude.{◌≡◌, ◌≤◌, ◌↔◌, ◌⊎◌, 
 ghost use Rattle.serde_json.specs.Data.{Data};
 ghost use Rattle.serde_json.specs.View.{view};
 ghost use Rattle.serde_json.specs.Find.{get};
-ghost use Rattle.trees.specs.Trees.{all_in, whole_in, text_at};
+ghost use Rattle.json_trees.specs.Trees.{all_in, whole_in, text_at};
 ghost use Rattle.shapes.specs.Shapes.{IsSound, dims_of};
 ghost use Rattle.shapes.specs.declared.TheConstants.{MAX_RANK};
 ghost use Rattle.chunk_layout.specs.Chunks.{IsChunk};
@@ -15,9 +15,9 @@ ghost use Rattle.chunk_layout.specs.declared.LayoutFault.{LayoutFault};
 
 use crate::sizes::bytes;
 use crate::{Layout, LayoutFault, MAX_CHUNK_BYTES, default_layout};
+use json_trees::{list_items, member_text, whole_number};
 use serde_json::Value;
 use shapes::{Dims, MAX_EXTENT, MAX_RANK, Shape};
-use trees::{list_items, member_text, whole_number};
 
 /// The layout that creation properties give to an array with elements of `size` bytes.
 ///

@@ -1,6 +1,6 @@
 ghost use Rattle.std.specs.Prelude.{◌≡◌, ℕ, ◌+◌, ◌≤◌, List, length, IfOk, OnOk, OnErr};
 ghost use Rattle.std.specs.Io.{ReadsAtMost};
-ghost use Rattle.byte_streams.specs.Causes.{HasCause};
+ghost use Rattle.edge_traits.specs.Causes.{HasCause};
 ghost use Rattle.edge_traits.specs.Disks.{Written, Torn, Fills, LeavesNoMore, Follows, Only, Elapses};
 
 use crate::Failed;

@@ -1,6 +1,6 @@
 ghost use Rattle.std.specs.Prelude.{◌≡◌, ℕ, ◌+◌, ◌<◌, List, Option};
-ghost use Rattle.byte_streams.specs.Causes.{HasCause};
-ghost use Rattle.byte_streams.specs.Told.{GivesFirst, GainsLast, KeepsTold};
+ghost use Rattle.edge_traits.specs.Causes.{HasCause};
+ghost use Rattle.edge_traits.specs.Told.{GivesFirst, GainsLast, KeepsTold};
 ghost use Rattle.edge_traits.specs.Doors.{given_count};
 
 use crate::{Failed, Link};

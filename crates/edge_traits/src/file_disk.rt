@@ -1,7 +1,7 @@
 ghost use Rattle.std.specs.Prelude.{◌≡◌, ◌^◌, ℕ, List, []};
 
+use crate::faults::FaultCount;
 use crate::{Disk, Failed};
-use byte_streams::FaultCount;
 use std::fs::File;
 use std::io::ErrorKind;
 use std::os::unix::fs::FileExt;

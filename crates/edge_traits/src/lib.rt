@@ -6,6 +6,7 @@
 mod disk;
 mod door;
 mod failed;
+mod faults;
 mod file_disk;
 mod link;
 mod mem_disk;
@@ -23,6 +24,7 @@ mod std_source;
 pub use disk::Disk;
 pub use door::Door;
 pub use failed::Failed;
+pub use faults::FaultCount;
 pub use file_disk::FileDisk;
 pub use link::Link;
 pub use mem_disk::MemDisk;

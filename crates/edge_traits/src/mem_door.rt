@@ -1,6 +1,6 @@
 ghost use Rattle.std.specs.Prelude.{◌≡◌, ℕ, ◌+◌, ◌-◌, ◌≤◌, ◌↔◌, Some, List, [], length, reverse, vec_len, vec_capacity, IfOk, IsErr};
-ghost use Rattle.byte_streams.specs.Causes.{HasCause};
-ghost use Rattle.byte_streams.specs.Told.{GivesFirst, KeepsTold};
+ghost use Rattle.edge_traits.specs.Causes.{HasCause};
+ghost use Rattle.edge_traits.specs.Told.{GivesFirst, KeepsTold};
 ghost use Rattle.edge_traits.specs.Doors.{given_count};
 
 use crate::schedule::Schedule;

@@ -1,7 +1,7 @@
 ghost use Rattle.std.specs.Prelude.{◌≡◌, ℕ, ◌<◌, Some, List, [], length, IfOk, IsErr};
 ghost use Rattle.std.specs.Io.{WritesAtMost};
 ghost use Rattle.std.specs.Io.KnownBytes.{WriteAppends};
-ghost use Rattle.byte_streams.specs.Causes.{HasCause};
+ghost use Rattle.edge_traits.specs.Causes.{HasCause};
 
 use crate::schedule::Schedule;
 use crate::{Failed, Sink};

@@ -1,8 +1,8 @@
 ghost use Rattle.std.specs.Prelude.{◌≡◌, ℕ, List, [], IsErr};
-ghost use Rattle.byte_streams.specs.Causes.{Rose};
+ghost use Rattle.edge_traits.specs.Causes.{Rose};
 
+use crate::faults::FaultCount;
 use crate::{Disk, Failed};
-use byte_streams::FaultCount;
 
 /// A disk of length 0 and room 0. Each call of it that can fail does so, and is a fault.
 #[derive(Debug, Clone, Copy)]

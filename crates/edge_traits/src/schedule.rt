@@ -1,7 +1,7 @@
 ghost use Rattle.std.specs.Prelude.{◌≡◌, ◌+◌, ◌-◌, ◌^◌, ◌<◌, ◌↔◌, min, IsTrue, false, Contains};
-ghost use Rattle.byte_streams.specs.Causes.{Rose};
+ghost use Rattle.edge_traits.specs.Causes.{Rose};
 
-use byte_streams::FaultCount;
+use crate::faults::FaultCount;
 
 /// Which calls of an object in memory are to fail, by their numbers from 0 on, and how many calls and faults it has had.
 #[derive(Drop)]

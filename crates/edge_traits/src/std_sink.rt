@@ -1,7 +1,7 @@
 ghost use Rattle.std.specs.Prelude.{◌≡◌, ℕ};
 
+use crate::faults::FaultCount;
 use crate::{Failed, Sink};
-use byte_streams::FaultCount;
 use std::io::Write;
 
 /// A sink over a writer of std. It tells what it holds where the writer does.

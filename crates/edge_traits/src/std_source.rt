@@ -1,7 +1,7 @@
 ghost use Rattle.std.specs.Prelude.{◌≡◌, ℕ};
 
+use crate::faults::FaultCount;
 use crate::{Failed, Source};
-use byte_streams::FaultCount;
 use std::io::Read;
 
 /// A source over a reader of std. It tells what is left where the reader does.

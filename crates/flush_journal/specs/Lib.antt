@@ -10,5 +10,5 @@ pub mod Refusals
 pub mod Standing
 pub mod Windows
 pub use Rattle.edge_traits.specs.Disks
-pub use Rattle.byte_streams.specs.Causes
+pub use Rattle.edge_traits.specs.Causes
 pub use Rattle.text_maps.specs.Keyed

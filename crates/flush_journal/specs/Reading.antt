@@ -1,6 +1,6 @@
 -- What a reading of a file shows, and why it may be refused.
 use Rattle.std.specs.Prelude.{◌≡◌, ◌≢◌, ℕ, ◌+◌, ◌<◌, ◌≤◌, List, length, take, drop, slice_index, Result, Err, Option, Some, None}
-use Rattle.byte_streams.specs.Causes.{Rose}
+use Rattle.edge_traits.specs.Causes.{Rose}
 use Rattle.flush_journal.specs.Records.{Record, Held, put_all}
 use Rattle.flush_journal.specs.Files.{Content, content, first_batch, read_on}
 use Rattle.flush_journal.specs.declared.read.Gate.{Gate}

@@ -1,6 +1,6 @@
 -- When a journal may refuse.
 use Rattle.std.specs.Prelude.{◌≡◌, ◌≢◌, ℕ, ◌+◌, ◌<◌, List, [], ◌∷◌, ◌++◌, take, Result, Ok, Err}
-use Rattle.byte_streams.specs.Causes.{Rose}
+use Rattle.edge_traits.specs.Causes.{Rose}
 use Rattle.flush_journal.specs.declared.why.Why.{Why}
 use Rattle.flush_journal.specs.declared.why.Why.TheVariants.{DiskFault, NotAJournal, JournalFull, Exists, NoMemory}
 

@@ -1,6 +1,6 @@
 // The two writes of a batch: the frame behind the closed gate, and then the gate.
 ghost use Rattle.std.specs.Prelude.{◌≡◌, ◌==◌, ℕ, ◌+◌, ◌^◌, ◌≤◌, ◌<◌, List, length, slice_index, IfOk, OnOk};
-ghost use Rattle.byte_streams.specs.Causes.{HasCause};
+ghost use Rattle.edge_traits.specs.Causes.{HasCause};
 ghost use Rattle.edge_traits.specs.Disks.{Elapses, LeavesNoMore};
 ghost use Rattle.flush_journal.specs.Gates.{Shut, IsLaid, Opened, Either, AllHave, OnlyHas, GateStands, EndsShut};
 ghost use Rattle.flush_journal.specs.Moments.{Leaves};

@@ -1,6 +1,6 @@
 // A journal over a disk.
 ghost use Rattle.std.specs.Prelude.{◌≡◌, ◌≢◌, ℕ, ◌+◌, ◌^◌, ◌<◌, ◌≤◌, ◌↔◌, [], ◌∷◌, ◌++◌, length, IsTrue, IsOk, OnOk, OnErr, IfOk, IfErr, MatchResult, None, Some, Ok, Err, Result, List, option_map};
-ghost use Rattle.byte_streams.specs.Causes.{Rose};
+ghost use Rattle.edge_traits.specs.Causes.{Rose};
 ghost use Rattle.flush_journal.specs.Batches.{records, owed_size};
 ghost use Rattle.edge_traits.specs.Disks.{LeavesNoMore};
 ghost use Rattle.flush_journal.specs.Files.{Content, content, fresh};

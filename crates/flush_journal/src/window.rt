@@ -1,6 +1,6 @@
 // The part of a file that was read last.
 ghost use Rattle.std.specs.Prelude.{◌≡◌, ℕ, ◌+◌, ◌-◌, ◌<◌, ◌≤◌, List, [], length, take, drop, IfOk, IfErr, OnOk, true, false};
-ghost use Rattle.byte_streams.specs.Causes.{HasCause};
+ghost use Rattle.edge_traits.specs.Causes.{HasCause};
 ghost use Rattle.edge_traits.specs.Disks.{LeavesNoMore};
 ghost use Rattle.flush_journal.specs.Reading.{Shows, Covers, MayRefuseReading};
 

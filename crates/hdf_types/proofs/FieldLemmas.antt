@@ -8,7 +8,7 @@ use Rattle.std.proofs.lemmas.Bool.Decides.{nat_tests}
 use Rattle.hdf_types.specs.declared.faults.Cause.TheVariants.{TooDeep, TooMany, DupField}
 use Rattle.hdf_types.specs.declared.TheConstants.{MAX_FIELDS}
 use Rattle.serde_json.specs.Data.{Data}
-use Rattle.trees.specs.Faults.{◌>>=◌}
+use Rattle.json_trees.specs.Faults.{◌>>=◌}
 use Rattle.hdf_types.specs.declared.types.Field.{Field}
 use Rattle.hdf_types.specs.declared.faults.TypeFault.{TypeFault}
 use Rattle.hdf_types.specs.declared.faults.TypeFault.TheVariants.{NoMemory, Refused}

@@ -2,8 +2,8 @@
 use Rattle.std.proofs.Common.{◌≡◌, ◌≢◌, ℕ, suc, ◌||◌, Bool, true, false, List, [], ◌∷◌, ◌++◌, Some, None, inl, inr, refl, sym, ap, ◌∙◌}
 use Rattle.std.specs.List.{list_any, AllByRecursion}
 use Rattle.std.specs.Str.{bytes_eq}
-use Rattle.trees.proofs.TableLemmas.{equal_bytes, differs}
-use Rattle.trees.proofs.FaultLemmas.{chosen}
+use Rattle.json_trees.proofs.TableLemmas.{equal_bytes, differs}
+use Rattle.json_trees.proofs.FaultLemmas.{chosen}
 use Rattle.hdf_types.specs.Reading.{first_again}
 use Rattle.hdf_types.specs.Types.{IsDistinct}
 

@@ -5,9 +5,9 @@ use Rattle.std.specs.Str.{bytes_eq}
 use Rattle.std.proofs.lemmas.Option.{same_Some}
 use Rattle.serde_json.specs.Data.{Data, string}
 use Rattle.serde_json.specs.View.{items_of}
-use Rattle.trees.specs.Trees.{list_of}
-use Rattle.trees.specs.Tables.{look_up}
-use Rattle.trees.proofs.FaultLemmas.{chosen}
+use Rattle.json_trees.specs.Trees.{list_of}
+use Rattle.json_trees.specs.Tables.{look_up}
+use Rattle.json_trees.proofs.FaultLemmas.{chosen}
 use Rattle.hdf_types.specs.declared.IntType.{IntType}
 use Rattle.hdf_types.specs.declared.TextType.{TextType}
 use Rattle.hdf_types.specs.declared.Pad.{Pad}

@@ -4,7 +4,7 @@ use Rattle.std.specs.Prelude.{IfOk}
 use Rattle.std.specs.List.{AllByRecursion}
 use Rattle.std.specs.Str.{bytes_eq}
 use Rattle.serde_json.specs.Data.{Data}
-use Rattle.trees.specs.Tables.{look_up}
+use Rattle.json_trees.specs.Tables.{look_up}
 use Rattle.hdf_types.specs.declared.IntType.{IntType}
 use Rattle.hdf_types.specs.declared.types.ElemType.{ElemType}
 use Rattle.hdf_types.specs.declared.faults.TypeFault.{TypeFault}

@@ -6,12 +6,12 @@ use Rattle.std.proofs.lemmas.Bool.{leb-true, le-leb}
 use Rattle.std.proofs.lemmas.Option.{same_Some}
 use Rattle.serde_json.specs.Data.{Data, Items, null, boolean, number, string, array, object}
 use Rattle.serde_json.specs.Find.{get, as_str}
-use Rattle.trees.specs.Trees.{list_of, list_in, whole_in, text_at}
-use Rattle.trees.specs.Faults.{◌>>=◌}
-use Rattle.trees.specs.Tables.{look_up}
-use Rattle.trees.proofs.TreeLemmas.{and_then_some, list_in_array, whole_in_number}
-use Rattle.trees.proofs.TableLemmas.{same_bytes}
-use Rattle.trees.proofs.FaultLemmas.{bind_ok, chosen, ok_or_ok, test_ok}
+use Rattle.json_trees.specs.Trees.{list_of, list_in, whole_in, text_at}
+use Rattle.json_trees.specs.Faults.{◌>>=◌}
+use Rattle.json_trees.specs.Tables.{look_up}
+use Rattle.json_trees.proofs.TreeLemmas.{and_then_some, list_in_array, whole_in_number}
+use Rattle.json_trees.proofs.TableLemmas.{same_bytes}
+use Rattle.json_trees.proofs.FaultLemmas.{bind_ok, chosen, ok_or_ok, test_ok}
 use Rattle.hdf_types.specs.declared.IntType.{IntType}
 use Rattle.hdf_types.specs.declared.TextType.{TextType}
 use Rattle.hdf_types.specs.declared.Pad.{Pad}

@@ -6,9 +6,9 @@ use Rattle.std.specs.List.{starts_with, list_any}
 use Rattle.std.specs.Str.{bytes_eq}
 use Rattle.serde_json.specs.Data.{Data}
 use Rattle.serde_json.specs.Find.{get, as_str}
-use Rattle.trees.specs.Trees.{list_in, whole_in, text_at}
-use Rattle.trees.specs.Faults.{◌>>=◌}
-use Rattle.trees.specs.Tables.{look_up}
+use Rattle.json_trees.specs.Trees.{list_in, whole_in, text_at}
+use Rattle.json_trees.specs.Faults.{◌>>=◌}
+use Rattle.json_trees.specs.Tables.{look_up}
 use Rattle.hdf_types.specs.declared.IntType.{IntType}
 use Rattle.hdf_types.specs.declared.Pad.{Pad}
 use Rattle.hdf_types.specs.declared.Pad.TheVariants.{NullTerm, NullPad, SpacePad}

@@ -3,8 +3,8 @@ use Rattle.std.specs.Prelude.{◌≡◌, ℕ, ◌≤◌, ◌⊎◌, false, List,
 use Rattle.std.specs.List.{AllByRecursion}
 use Rattle.serde_json.specs.Data.{Data, Items, number, unsigned, string, array}
 use Rattle.serde_json.specs.Find.{get}
-use Rattle.trees.specs.Trees.{list_of}
-use Rattle.trees.specs.Tables.{look_up}
+use Rattle.json_trees.specs.Trees.{list_of}
+use Rattle.json_trees.specs.Tables.{look_up}
 use Rattle.hdf_types.specs.declared.IntType.{IntType}
 use Rattle.hdf_types.specs.declared.TextType.{TextType}
 use Rattle.hdf_types.specs.declared.Pad.TheVariants.{NullTerm}

@@ -3,7 +3,7 @@
 ghost use Rattle.std.specs.Prelude.{◌≡◌, false, option_map, option_and_then, codes};
 ghost use Rattle.serde_json.specs.Find.{get};
 ghost use Rattle.serde_json.specs.View.{view};
-ghost use Rattle.trees.specs.Trees.{whole_in};
+ghost use Rattle.json_trees.specs.Trees.{whole_in};
 ghost use Rattle.hdf_types.specs.Faults.{Gives};
 ghost use Rattle.hdf_types.specs.Views.{elem};
 ghost use Rattle.hdf_types.specs.Reading.{int_named, name_cause, named_at, integer_at, string_at, sized_at, is_variable, word_or, sets, pads, class_cause};
@@ -11,8 +11,8 @@ ghost use Rattle.hdf_types.specs.declared.Pad.TheVariants.{NullTerm};
 
 use crate::faults::refused;
 use crate::{Cause, Class, ElemType, FieldPath, IntType, MAX_TEXT, Pad, TextType, TypeFault};
+use json_trees::{member_text, whole_number};
 use serde_json::Value;
-use trees::{member_text, whole_number};
 
 #[tactic(auto, unfolding(crate::specs::Reading::int_named))]
 fn int_named(name: &str) -> Option<IntType>

@@ -4,7 +4,7 @@
 //! The forms are those of the HDF5/JSON specification and the HDF REST API, "Type".
 #![tactic(auto)]
 
-use few::Few;
+use short_lists::ShortList;
 
 mod faults;
 mod leaves;
@@ -37,7 +37,7 @@ pub const MAX_NAME: usize = 255;
 pub const MAX_SIZE: u64 = 1_048_576;
 
 /// The place of a type in a type: a field's index for each compound around it.
-pub type FieldPath = Few<5>;
+pub type FieldPath = ShortList<5>;
 
 /// A two's complement integer or an unsigned one.
 #[derive(Clone, Copy, Debug, PartialEq, Eq)]

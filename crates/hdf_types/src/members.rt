@@ -11,8 +11,8 @@ ghost use Rattle.hdf_types.specs.declared.TheConstants.{MAX_FIELDS};
 
 use crate::faults::refused;
 use crate::{Cause, Field, FieldPath, Fields, MAX_NAME, TypeFault};
+use json_trees::{list_items, member_text};
 use serde_json::Value;
-use trees::{list_items, member_text};
 
 /// The name of a member, where it is one of 1 to [`MAX_NAME`] bytes.
 pub fn name_in(tree: &Value) -> Option<&str>

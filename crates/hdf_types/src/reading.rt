@@ -18,9 +18,9 @@ use crate::{
     Cause, ElemType, Field, FieldName, FieldPath, Fields, MAX_FIELDS, MAX_NESTING, MAX_SIZE,
     TypeFault,
 };
+use json_trees::member_text;
 use serde_json::Value;
 use std::alloc::Global;
-use trees::member_text;
 
 /// The type that a tree spells.
 ///

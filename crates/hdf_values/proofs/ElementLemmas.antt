@@ -6,7 +6,7 @@ use Rattle.std.proofs.lemmas.Str.{IsUtf8-nil}
 use Rattle.serde_json.specs.Data.{Data, number, string, array}
 use Rattle.serde_json.specs.Find.{of_integer}
 use Rattle.serde_json.specs.View.{items_of}
-use Rattle.trees.specs.Trees.{list_of}
+use Rattle.json_trees.specs.Trees.{list_of}
 use Rattle.hdf_types.specs.declared.Pad.{Pad}
 use Rattle.hdf_types.specs.declared.Pad.TheVariants.{NullTerm, NullPad, SpacePad}
 use Rattle.hdf_types.specs.Elems.{Elem, int, text, compound, FieldList, no_fields, field}

@@ -7,8 +7,8 @@ use Rattle.std.proofs.lemmas.List.{take_at, drop_at, take-append-drop}
 use Rattle.serde_json.specs.Data.{Data, number, array}
 use Rattle.serde_json.specs.Find.{of_integer}
 use Rattle.serde_json.specs.View.{items_of}
-use Rattle.trees.specs.Trees.{list_of}
-use Rattle.trees.proofs.FaultLemmas.{test_ok}
+use Rattle.json_trees.specs.Trees.{list_of}
+use Rattle.json_trees.proofs.FaultLemmas.{test_ok}
 use Rattle.hdf_types.specs.declared.IntType.{IntType}
 use Rattle.hdf_types.specs.Elems.{Elem, int, compound, FieldList, no_fields, field}
 use Rattle.hdf_types.specs.Reading.{int_size, size_of}

@@ -7,7 +7,7 @@ use Rattle.std.proofs.lemmas.List.Folds.{flat_map-map}
 use Rattle.std.proofs.Math.Seq.{take-append_seam, drop-append_seam}
 use Rattle.serde_json.specs.Data.{Data, array}
 use Rattle.serde_json.specs.View.{items_of}
-use Rattle.trees.specs.Trees.{list_of, list_in}
+use Rattle.json_trees.specs.Trees.{list_of, list_in}
 use Rattle.hdf_types.specs.Elems.{Elem, int, text, compound, no_fields, field}
 use Rattle.hdf_types.specs.Reading.{size_of, int_size}
 use Rattle.hdf_types.specs.Types.{IsSoundType, IsFormed, IsWidth}

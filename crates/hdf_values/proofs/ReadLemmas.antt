@@ -6,9 +6,9 @@ use Rattle.std.proofs.lemmas.Bool.{cases_lt, false≢true}
 use Rattle.std.proofs.lemmas.List.{append_assoc, append-nil, drop_more, take_all}
 use Rattle.std.proofs.lemmas.Nat.{mul-le}
 use Rattle.serde_json.specs.Data.{Data}
-use Rattle.trees.specs.Trees.{list_in}
-use Rattle.trees.specs.Faults.{◌>>=◌}
-use Rattle.trees.proofs.TreeLemmas.{list_in_array}
+use Rattle.json_trees.specs.Trees.{list_in}
+use Rattle.json_trees.specs.Faults.{◌>>=◌}
+use Rattle.json_trees.proofs.TreeLemmas.{list_in_array}
 use Rattle.hdf_types.specs.Elems.{Elem}
 use Rattle.shapes.specs.Places.{cell_count}
 use Rattle.hdf_values.specs.declared.faults.ValueFault.{ValueFault}

@@ -6,7 +6,7 @@ use Rattle.std.proofs.lemmas.List.Concat.{get_or-flat_map}
 use Rattle.std.proofs.Math.Seq.{drop-append-add}
 use Rattle.serde_json.specs.Data.{Data, Items, no_items, item, null}
 use Rattle.serde_json.specs.Find.{get_item, at}
-use Rattle.trees.specs.Trees.{list_of, list_in}
+use Rattle.json_trees.specs.Trees.{list_of, list_in}
 use Rattle.hdf_types.specs.Elems.{Elem}
 use Rattle.hdf_types.specs.Reading.{size_of}
 use Rattle.hdf_types.specs.Types.{IsSoundType}

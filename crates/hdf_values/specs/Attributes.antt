@@ -2,7 +2,7 @@
 use Rattle.std.specs.Prelude.{◌≡◌, ℕ, ◌*◌, ◌≤◌, ◌⊎◌, List, [], Option, Some, None, Result, Ok, Err, nat_le, if◌then◌else◌, codes}
 use Rattle.serde_json.specs.Data.{Data, null, boolean, number, string, array, object}
 use Rattle.serde_json.specs.Find.{get}
-use Rattle.trees.specs.Faults.{◌>>=◌}
+use Rattle.json_trees.specs.Faults.{◌>>=◌}
 use Rattle.hdf_types.specs.declared.faults.Cause.TheVariants.{NotAType}
 use Rattle.hdf_types.specs.declared.faults.TypeFault.{TypeFault}
 use Rattle.hdf_types.specs.declared.faults.TypeFault.TheVariants as types

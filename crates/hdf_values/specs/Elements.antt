@@ -4,7 +4,7 @@ use Rattle.std.specs.Option.{option_map_or}
 use Rattle.serde_json.specs.Data.{Data, Items, number, unsigned, string, array}
 use Rattle.serde_json.specs.Find.{of_integer, as_str}
 use Rattle.serde_json.specs.View.{items_of}
-use Rattle.trees.specs.Trees.{list_of, list_in}
+use Rattle.json_trees.specs.Trees.{list_of, list_in}
 use Rattle.hdf_types.specs.declared.IntType.{IntType}
 use Rattle.hdf_types.specs.declared.TextType.{TextType}
 use Rattle.hdf_types.specs.Elems.{Elem, int, text, compound, FieldList, no_fields, field}

@@ -4,7 +4,7 @@ pub mod Texts
 pub mod Elements
 pub mod Nested
 pub mod Attributes
-pub use Rattle.trees.specs.Trees
+pub use Rattle.json_trees.specs.Trees
 pub use Rattle.serde_json.specs.View
 pub use Rattle.serde_json.specs.Data
 pub use Rattle.serde_json.specs.Find

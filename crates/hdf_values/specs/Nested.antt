@@ -5,8 +5,8 @@ use Rattle.std.specs.Option.{option_map_or}
 use Rattle.serde_json.specs.Data.{Data, Items, array}
 use Rattle.serde_json.specs.Find.{at}
 use Rattle.serde_json.specs.View.{items_of}
-use Rattle.trees.specs.Trees.{list_of, list_in}
-use Rattle.trees.specs.Faults.{◌>>=◌}
+use Rattle.json_trees.specs.Trees.{list_of, list_in}
+use Rattle.json_trees.specs.Faults.{◌>>=◌}
 use Rattle.hdf_types.specs.Elems.{Elem}
 use Rattle.hdf_types.specs.Reading.{size_of}
 use Rattle.shapes.specs.Places.{cell_count}

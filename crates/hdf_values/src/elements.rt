@@ -14,9 +14,9 @@ use crate::integers::{decode_int, encode_int};
 use crate::texts::{decode_text, encode_text, is_encoded_text, zero_text};
 use crate::{Misfit, ValueFault};
 use hdf_types::{ElemType, Field};
+use json_trees::list_items;
 use serde_json::Value;
 use std::alloc::{AllocError, Global};
-use trees::list_items;
 
 /// Writes the bytes of a tree that is a value of the type.
 ///

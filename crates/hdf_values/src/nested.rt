@@ -16,10 +16,10 @@ ghost use Rattle.hdf_values.specs.Nested.{FitsNested, nested_bytes, nested_norma
 use crate::elements::{decode, encode_part};
 use crate::{MAX_AHEAD, ValueFault};
 use hdf_types::ElemType;
+use json_trees::list_items;
 use serde_json::Value;
 use shapes::Dims;
 use std::alloc::{AllocError, Global};
-use trees::list_items;
 
 /// The bytes of the elements of a tree that nests by the extents, in row-major order. Without an
 /// extent the tree is one element.

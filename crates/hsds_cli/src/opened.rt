@@ -1,7 +1,6 @@
 ghost use Rattle.std.specs.Prelude.{◌≡◌, None};
 
-use byte_streams::FaultCount;
-use edge_traits::{Failed, Source};
+use edge_traits::{Failed, FaultCount, Source};
 use std::io::Read;
 
 /// A file that may not have been opened. It tells nothing of what is left, and each read of a missing file is a fault.

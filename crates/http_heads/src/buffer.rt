@@ -1,7 +1,7 @@
 ghost use Rattle.std.specs.Prelude.{◌≡◌, ℕ, ◌≤◌, List, [], Option, length, drop, map, vec_len, IfOk};
 ghost use Rattle.std.specs.Option.{option_copied};
 ghost use Rattle.std.specs.Io.KnownBytes.{Keeps, Consumes, prepend_known};
-ghost use Rattle.byte_streams.specs.Causes.{Rose};
+ghost use Rattle.edge_traits.specs.Causes.{Rose};
 ghost use Rattle.httparse.specs.Grammar.{RequestHead, ReadsRequest, print_request};
 ghost use Rattle.httparse.specs.Spans.{IsRequestWithin, IsRequestAt, name_and_value};
 ghost use Rattle.http_heads.specs.Heads.{first_value};

@@ -1,6 +1,6 @@
 ghost use Rattle.std.specs.Prelude.{◌≡◌, ℕ, ◌+◌, ◌-◌, ◌<◌, ◌≤◌, List, length, take, drop, slice_range, IfOk};
 ghost use Rattle.std.specs.Io.KnownBytes.{Keeps, ReadConsumes, prepend_known};
-ghost use Rattle.byte_streams.specs.Causes.{Rose, HasCause};
+ghost use Rattle.edge_traits.specs.Causes.{Rose, HasCause};
 ghost use Rattle.httparse.specs.Grammar.{RequestHead, ReadsRequest};
 ghost use Rattle.http_heads.specs.Found.{IsFound, IsEnded};
 

@@ -8,7 +8,7 @@ use Rattle.std.proofs.lemmas.List.{drop_more, drop_all}
 use Rattle.shapes.specs.Places.{room_of}
 use Rattle.shapes.specs.declared.TheConstants.{MAX_EXTENT}
 use Rattle.shapes.proofs.PlaceLemmas.{one-room}
-use Rattle.trees.proofs.FaultLemmas.{chosen}
+use Rattle.json_trees.proofs.FaultLemmas.{chosen}
 use Rattle.hyperslab.specs.declared.SlabFault.{SlabFault}
 use Rattle.hyperslab.specs.declared.SlabFault.TheVariants.{Step, Order, Past}
 use Rattle.hyperslab.specs.Selected.{Axis, AreAxes, axes, extent}

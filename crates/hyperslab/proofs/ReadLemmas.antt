@@ -3,8 +3,8 @@ use Rattle.std.proofs.Common.{◌≡◌, ℕ, ◌+◌, ◌*◌, ◌-◌, ◌<◌
 use Rattle.std.specs.List.{AllZip}
 use Rattle.std.proofs.lemmas.List.{append-nil, append_assoc, length_push}
 use Rattle.std.proofs.lemmas.Bool.{eqb-true, ltb-true}
-use Rattle.trees.proofs.FaultLemmas.{chosen}
-use Rattle.trees.proofs.TreeLemmas.{and_then_some}
+use Rattle.json_trees.proofs.FaultLemmas.{chosen}
+use Rattle.json_trees.proofs.TreeLemmas.{and_then_some}
 use Rattle.hyperslab.specs.declared.TheConstants.{MAX_DIGITS}
 use Rattle.hyperslab.specs.declared.reading.Number.{Number}
 use Rattle.hyperslab.specs.declared.reading.Number.TheVariants.{Blank, Digits, Spaced}

@@ -4,7 +4,7 @@ use Rattle.std.specs.List.{AllZip}
 use Rattle.std.proofs.lemmas.List.{append-nil, append_assoc}
 use Rattle.std.proofs.lemmas.Bool.{lt-ltb, le-leb, leb-true, false≢true}
 use Rattle.std.proofs.lemmas.Bool.Decides.{nat_tests}
-use Rattle.trees.proofs.FaultLemmas.{chosen}
+use Rattle.json_trees.proofs.FaultLemmas.{chosen}
 use Rattle.hyperslab.specs.declared.TheConstants.{MAX_DIGITS}
 use Rattle.hyperslab.specs.declared.reading.Number.{Number}
 use Rattle.hyperslab.specs.declared.reading.Number.TheVariants.{Blank, Digits, Spaced}

@@ -3,7 +3,7 @@ use Rattle.std.proofs.Common.{◌≡◌, ℕ, zero, suc, ◌+◌, ◌<◌, ◌�
 use Rattle.std.proofs.lemmas.List.{take_all, append_assoc, take-append-drop}
 use Rattle.std.proofs.lemmas.Bool.{cases_lt}
 use Rattle.std.proofs.lemmas.Option.{same_Some}
-use Rattle.trees.proofs.TreeLemmas.{and_then_some}
+use Rattle.json_trees.proofs.TreeLemmas.{and_then_some}
 use Rattle.shapes.specs.declared.Shape.{Shape}
 use Rattle.shapes.specs.Shapes.{dims_of}
 use Rattle.hyperslab.specs.declared.SlabFault.TheVariants.{Syntax}

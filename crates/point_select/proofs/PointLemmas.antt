@@ -6,10 +6,10 @@ use Rattle.std.proofs.lemmas.Bool.Decides.{nat_tests}
 use Rattle.std.proofs.lemmas.List.{drop_more, drop_all, append_assoc}
 use Rattle.std.proofs.lemmas.List.Elements.{All-nil, All-cons}
 use Rattle.serde_json.specs.Data.{Data, Items, array}
-use Rattle.trees.specs.Trees.{list_of, list_in}
-use Rattle.trees.proofs.TreeLemmas.{list_in_array, length-AllZip}
-use Rattle.trees.specs.Faults.{◌>>=◌}
-use Rattle.trees.proofs.FaultLemmas.{chosen, test_ok, bind_ok}
+use Rattle.json_trees.specs.Trees.{list_of, list_in}
+use Rattle.json_trees.proofs.TreeLemmas.{list_in_array, length-AllZip}
+use Rattle.json_trees.specs.Faults.{◌>>=◌}
+use Rattle.json_trees.proofs.FaultLemmas.{chosen, test_ok, bind_ok}
 use Rattle.shapes.specs.declared.Shape.{Shape}
 use Rattle.shapes.specs.declared.Shape.TheVariants.{Null, Scalar, Simple}
 use Rattle.shapes.specs.Places.{IsInside}

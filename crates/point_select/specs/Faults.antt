@@ -1,8 +1,8 @@
 -- The tests of points in order: the first that fails decides.
 use Rattle.std.specs.Prelude.{◌≡◌, ℕ, suc, ◌&&◌, Bool, true, false, List, [], ◌∷◌, ◌++◌, length, Option, Some, None, option_and_then, Result, Ok, Err, nat_lt, nat_eq, if◌then◌else◌}
 use Rattle.serde_json.specs.Data.{Data}
-use Rattle.trees.specs.Trees.{list_in}
-use Rattle.trees.specs.Faults.{◌>>=◌}
+use Rattle.json_trees.specs.Trees.{list_in}
+use Rattle.json_trees.specs.Faults.{◌>>=◌}
 use Rattle.shapes.specs.declared.Shape.{Shape}
 use Rattle.shapes.specs.declared.Shape.TheVariants.{Null, Scalar, Simple}
 use Rattle.shapes.specs.Extents.{dims_in}

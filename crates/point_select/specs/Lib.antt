@@ -4,7 +4,7 @@ pub use Rattle.shapes.specs.Extents
 pub use Rattle.shapes.specs.Places
 pub use Rattle.shapes.specs.Shapes
 pub use Rattle.shapes.specs.Spelled
-pub use Rattle.trees.specs.Trees
+pub use Rattle.json_trees.specs.Trees
 pub use Rattle.serde_json.specs.View
 pub use Rattle.serde_json.specs.Data
 pub use Rattle.serde_json.specs.Find

@@ -6,17 +6,17 @@ ghost use Rattle.serde_json.specs.View.{view};
 ghost use Rattle.shapes.specs.declared.Shape.{Shape};
 ghost use Rattle.shapes.specs.declared.Shape.TheVariants.{Simple};
 ghost use Rattle.shapes.specs.Shapes.{LiesIn};
-ghost use Rattle.trees.specs.Trees.{list_of};
+ghost use Rattle.json_trees.specs.Trees.{list_of};
 ghost use Rattle.point_select.specs.Points.{SpellsPoints, IsFirstBad};
 ghost use Rattle.point_select.specs.Faults.{coords_in, is_inside, point_of, points_from, points_of, Answers};
 ghost use Rattle.point_select.specs.declared.PointFault.{PointFault};
 ghost use Rattle.point_select.specs.declared.TheConstants.{MAX_POINTS};
 
 use crate::{MAX_POINTS, PointFault, Points};
+use json_trees::list_items;
 use serde_json::Value;
 use shapes::{Dims, Shape, read_dims};
 use std::alloc::Global;
-use trees::list_items;
 
 /// The points of a shape that a tree spells: a list of at most [`MAX_POINTS`] points, each a list
 /// of coordinates, or one coordinate where the shape has one axis.

@@ -2,10 +2,10 @@
 use Rattle.std.proofs.Common.{◌≡◌, ℕ, ◌≤◌, inl, inr, List, [], ◌∷◌, Option, Some, None, option_and_then, nat_le, codes, refl, sym, ap, subst, ◌∙◌}
 use Rattle.std.proofs.lemmas.Bool.{leb-true, le-leb}
 use Rattle.serde_json.specs.Data.{Data}
-use Rattle.trees.specs.Trees.{list_of, list_in, whole_in, is_text, all_in}
+use Rattle.json_trees.specs.Trees.{list_of, list_in, whole_in, is_text, all_in}
 use Rattle.std.specs.List.{AllZip}
-use Rattle.trees.proofs.TreeLemmas.{is_text_true, whole_in_number, list_in_array, and_then_some, map_some, AllZip-all_in, all_in-AllZip}
-use Rattle.trees.proofs.FaultLemmas.{chosen}
+use Rattle.json_trees.proofs.TreeLemmas.{is_text_true, whole_in_number, list_in_array, and_then_some, map_some, AllZip-all_in, all_in-AllZip}
+use Rattle.json_trees.proofs.FaultLemmas.{chosen}
 use Rattle.shapes.specs.declared.TheConstants.{MAX_EXTENT}
 use Rattle.shapes.specs.Extents.{IsExtent, IsLimit, SpellsList, SpellsDims, small, extent_in, limit_in, extents_in, limits_in, dims_from, dims_in}
 

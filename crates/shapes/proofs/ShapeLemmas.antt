@@ -7,11 +7,11 @@ use Rattle.std.proofs.lemmas.Option.{same_Some}
 use Rattle.std.proofs.lemmas.Bool.Decides.{nat_tests}
 use Rattle.serde_json.specs.Data.{Data, null, boolean, number, string, array, object}
 use Rattle.serde_json.specs.Find.{get, as_str}
-use Rattle.trees.specs.Trees.{list_of}
+use Rattle.json_trees.specs.Trees.{list_of}
 use Rattle.std.specs.List.{AllZip}
-use Rattle.trees.proofs.TreeLemmas.{and_then_some, length-AllZip}
-use Rattle.trees.proofs.TableLemmas.{same_bytes}
-use Rattle.trees.proofs.FaultLemmas.{chosen, test_ok}
+use Rattle.json_trees.proofs.TreeLemmas.{and_then_some, length-AllZip}
+use Rattle.json_trees.proofs.TableLemmas.{same_bytes}
+use Rattle.json_trees.proofs.FaultLemmas.{chosen, test_ok}
 use Rattle.shapes.specs.declared.Shape.{Shape}
 use Rattle.shapes.specs.declared.Shape.TheVariants.{Null, Scalar, Simple}
 use Rattle.shapes.specs.declared.ShapeFault.{ShapeFault}

@@ -1,7 +1,7 @@
 -- Dims and limits as trees.
 use Rattle.std.specs.Prelude.{◌≡◌, ℕ, ◌≤◌, ◌⊎◌, List, [], ◌∷◌, Option, Some, None, option_map, option_and_then, nat_le, if◌then◌else◌, codes}
 use Rattle.serde_json.specs.Data.{Data, Items, number, unsigned, string, array}
-use Rattle.trees.specs.Trees.{list_of, list_in, whole_in, is_text, all_in}
+use Rattle.json_trees.specs.Trees.{list_of, list_in, whole_in, is_text, all_in}
 use Rattle.std.specs.List.{AllZip}
 use Rattle.shapes.specs.declared.TheConstants.{MAX_EXTENT}
 

@@ -4,7 +4,7 @@
 //! The forms are those of the HDF5/JSON specification and the HDF REST API, "Shape".
 #![tactic(auto)]
 
-use few::Few;
+use short_lists::ShortList;
 
 mod places;
 mod printing;
@@ -26,7 +26,7 @@ pub const MAX_EXTENT: u64 = 2_147_483_647;
 pub const MAX_CELLS: u64 = 281_474_976_710_656;
 
 /// A number for each axis: dims, limits or coordinates, the slowest axis first.
-pub type Dims = Few<MAX_RANK>;
+pub type Dims = ShortList<MAX_RANK>;
 
 /// The shape of an array.
 #[derive(Clone, Copy, Debug, PartialEq, Eq)]

@@ -4,7 +4,7 @@ ghost use Rattle.std.specs.Prelude.{◌≡◌, ◌≤◌, ◌↔◌, ℕ, ◌∷
 ghost use Rattle.serde_json.specs.Data.{Data};
 ghost use Rattle.serde_json.specs.View.{view};
 ghost use Rattle.serde_json.specs.Find.{get};
-ghost use Rattle.trees.specs.Trees.{all_in, list_in, text_at};
+ghost use Rattle.json_trees.specs.Trees.{all_in, list_in, text_at};
 ghost use Rattle.shapes.specs.Extents.{extent_in, limit_in, extents_in, limits_in, dims_in};
 ghost use Rattle.shapes.specs.Spelled.{kept_of, number_in, kept_grid, kept_limited, kept_simple, few_of};
 ghost use Rattle.shapes.specs.Places.{room_of};
@@ -14,8 +14,8 @@ ghost use Rattle.shapes.specs.declared.ShapeFault.{ShapeFault};
 ghost use Rattle.shapes.specs.declared.TheConstants.{MAX_RANK, MAX_EXTENT, MAX_CELLS};
 
 use crate::{Dims, MAX_CELLS, MAX_EXTENT, MAX_RANK, Shape, ShapeFault};
+use json_trees::{list_items, member_text, tree_is, whole_number};
 use serde_json::Value;
-use trees::{list_items, member_text, tree_is, whole_number};
 
 /// What the numbers of a list are.
 #[derive(Clone, Copy)]

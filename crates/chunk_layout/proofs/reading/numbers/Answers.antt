@@ -3,7 +3,7 @@ use Rattle.std.proofs.Common.{◌<◌, ◌+◌, ◌∷◌, [], ◌++◌, ℕ, Li
 use Rattle.std.proofs.lemmas.List.{drop_more, drop_all, length-take}
 use Rattle.serde_json.specs.View.{view}
 use Rattle.serde_json.specs.declared.value.Value.{Value}
-use Rattle.trees.specs.Trees.{all_in, whole_in}
+use Rattle.json_trees.specs.Trees.{all_in, whole_in}
 use Rattle.shapes.specs.declared.TheConstants.{MAX_RANK}
 use Rattle.chunk_layout.proofs.LayoutLemmas.{kept_after, kept_step, kept_end}
 use Rattle.chunk_layout.proofs.reading.numbers.Goals as goal

@@ -1,6 +1,6 @@
 use Rattle.std.proofs.Common.{◌≡◌, ◌≤◌, length, map, take, option_map, drop}
 use Rattle.serde_json.specs.View.{view}
-use Rattle.trees.specs.Trees.{all_in, whole_in}
+use Rattle.json_trees.specs.Trees.{all_in, whole_in}
 use Rattle.shapes.specs.declared.TheConstants.{MAX_RANK}
 use Rattle.chunk_layout.proofs.LayoutLemmas.{kept_after}
 use Rattle.chunk_layout.proofs.reading.numbers.Given as goal

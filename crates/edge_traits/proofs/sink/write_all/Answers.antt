@@ -1,5 +1,5 @@
 use Rattle.std.proofs.Common.{rules, arith, ◌∙◌}
-use Rattle.byte_streams.proofs.Pieces.{appended_more}
+use Rattle.edge_traits.proofs.Pieces.{appended_more}
 use Rattle.edge_traits.proofs.sink.write_all.Goals as goal
 
 pub pieces-preserved : goal.pieces-preserved

@@ -1,4 +1,4 @@
--- Few digits, so a small number.
+-- ShortList digits, so a small number.
 use Rattle.std.proofs.Common.{◌≤◌, arith}
 use Rattle.hyperslab.specs.Steps.{ten_to, IsNumber}
 use Rattle.hyperslab.specs.declared.TheConstants.{MAX_DIGITS}

@@ -1,6 +1,6 @@
 -- The total stays at or below the place, which is below the number of cells.
 use Rattle.std.proofs.Common.{◌<◌, ◌≤◌, length, arith}
-use Rattle.trees.proofs.TreeLemmas.{length-AllZip}
+use Rattle.json_trees.proofs.TreeLemmas.{length-AllZip}
 use Rattle.shapes.specs.Places.{place}
 use Rattle.shapes.proofs.PlaceLemmas.{horner_bound, horner_end, place_below}
 use Rattle.shapes.proofs.places.place_in.Goals as goal

@@ -3,7 +3,7 @@ use Rattle.std.proofs.Common.{◌≡◌, ◌<◌, ◌+◌, ◌∷◌, [], ◌++�
 use Rattle.std.proofs.lemmas.List.{drop_more, drop_all, length-take}
 use Rattle.serde_json.specs.View.{view}
 use Rattle.serde_json.specs.declared.value.Value.{Value}
-use Rattle.trees.specs.Trees.{all_in}
+use Rattle.json_trees.specs.Trees.{all_in}
 use Rattle.shapes.specs.declared.TheConstants.{MAX_RANK}
 use Rattle.shapes.specs.Spelled.{kept_after, number_in}
 use Rattle.shapes.proofs.SpelledLemmas.{kept_step, kept_end}

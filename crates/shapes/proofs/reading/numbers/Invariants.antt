@@ -1,6 +1,6 @@
 use Rattle.std.proofs.Common.{◌≡◌, ◌≤◌, length, map, option_map, drop}
 use Rattle.serde_json.specs.View.{view}
-use Rattle.trees.specs.Trees.{all_in}
+use Rattle.json_trees.specs.Trees.{all_in}
 use Rattle.shapes.specs.declared.TheConstants.{MAX_RANK}
 use Rattle.shapes.specs.Spelled.{kept_of, kept_after, number_in}
 use Rattle.shapes.proofs.reading.numbers.Given as goal

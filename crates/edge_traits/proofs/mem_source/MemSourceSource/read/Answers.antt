@@ -1,6 +1,6 @@
 use Rattle.std.proofs.Common.{◌≡◌, ℕ, ◌+◌, ◌-◌, ◌<◌, ◌≤◌, List, [], ◌++◌, length, take, drop, min, ap, ◌∙◌, arith, length-append, length-take, length-drop}
 use Rattle.std.proofs.lemmas.List.{drop_all}
-use Rattle.byte_streams.proofs.Pieces.{piece_given}
+use Rattle.edge_traits.proofs.Pieces.{piece_given}
 use Rattle.edge_traits.proofs.mem_source.MemSourceSource.read.Goals as goal
 
 -- what a read of at most `most` bytes at this place copies to the front of buf is the front of what was left

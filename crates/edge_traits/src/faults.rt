@@ -1,5 +1,5 @@
 ghost use Rattle.std.specs.Prelude.{◌≡◌, ℕ, ◌^◌, ◌<◌};
-ghost use Rattle.byte_streams.specs.Causes.{Rose};
+ghost use Rattle.edge_traits.specs.Causes.{Rose};
 
 use std::marker::Model;
 

@@ -1,7 +1,7 @@
 -- What is known where a chain of tests passed.
 use Rattle.std.proofs.Common.{◌≡◌, Bool, true, false, cond, Option, Some, None, Result, Ok, Err, ◌⊎◌, inl, inr, refl}
 use Rattle.std.specs.Option.{ok_or}
-use Rattle.trees.specs.Faults.{◌>>=◌}
+use Rattle.json_trees.specs.Faults.{◌>>=◌}
 
 pub bind_ok : {A B E : Type 0} (r : Result A E) (f : A → Result B E) (y : B) → (r >>= f) ≡ Ok y → (x : A) × (r ≡ Ok x) × (f x ≡ Ok y)
 bind_ok (Ok x) f y e = (x, refl, e)

@@ -4,9 +4,9 @@ use Rattle.std.proofs.lemmas.Bool.{false≢true}
 use Rattle.serde_json.specs.Data.{Data, Items, null, boolean, number, string, array, object, unsigned, negative, float}
 use Rattle.serde_json.specs.View.{view, items_view}
 use Rattle.serde_json.specs.declared.value.Value.{Value}
-use Rattle.trees.specs.Trees.{list_of, list_in, whole_in, is_text, all_in}
+use Rattle.json_trees.specs.Trees.{list_of, list_in, whole_in, is_text, all_in}
 use Rattle.std.specs.List.{AllZip}
-use Rattle.trees.proofs.TableLemmas.{same_bytes, equal_bytes}
+use Rattle.json_trees.proofs.TableLemmas.{same_bytes, equal_bytes}
 
 pub listed : (vs : List Value) → list_of (items_view vs) ≡ map view vs
 listed [] = refl

@@ -10,14 +10,14 @@ use std::marker::Model;
 /// Two lists are equal where they have the same numbers. The order is by length first, then by the
 /// numbers from the front.
 #[derive(Clone, Copy, Debug, PartialEq, Eq, PartialOrd, Ord)]
-pub struct Few<const N: usize> {
+pub struct ShortList<const N: usize> {
     len: usize,
     room: [u64; N],
 }
 
-impl<const N: usize> Model for Few<N> {
+impl<const N: usize> Model for ShortList<N> {
     ghost use Rattle.std.specs.Prelude.{ℕ, List, length, take};
-    ghost use Rattle.few.specs.Filled.{IsFilled, filled, length-shown, filled-shown};
+    ghost use Rattle.short_lists.specs.Filled.{IsFilled, filled, length-shown, filled-shown};
 
     ghost Value = { List ℕ };
 
@@ -30,12 +30,12 @@ impl<const N: usize> Model for Few<N> {
     ghost inverse_ok = { λ a h. Prim.rw (length-shown N a.len a.room h, filled-shown N a.len a.room h) };
 }
 
-impl<const N: usize> Few<N> {
+impl<const N: usize> ShortList<N> {
     /// The empty list.
     pub fn new() -> Self
         ensures { result ≡ [] }
     {
-        Few {
+        ShortList {
             len: 0,
             room: [0; N],
         }
@@ -94,7 +94,7 @@ mod tests {
 
     #[test]
     fn keeps_numbers_in_order(rt: HostRuntime) {
-        let mut few: Few<3> = Few::new();
+        let mut few: ShortList<3> = ShortList::new();
         assert!(rt; few.is_empty());
         few.push(7);
         few.push(u64::MAX);
@@ -110,9 +110,9 @@ mod tests {
 
     #[test]
     fn shorter_lists_come_first(rt: HostRuntime) {
-        let mut short: Few<3> = Few::new();
+        let mut short: ShortList<3> = ShortList::new();
         short.push(9);
-        let mut long: Few<3> = Few::new();
+        let mut long: ShortList<3> = ShortList::new();
         long.push(1);
         long.push(0);
         assert!(rt; short < long);

@@ -6,7 +6,7 @@
 
 ghost use Rattle.std.specs.Prelude.{◌≡◌, map, option_map};
 ghost use Rattle.serde_json.specs.View.{view};
-ghost use Rattle.trees.specs.Trees.{whole_in, list_in, text_at, is_text};
+ghost use Rattle.json_trees.specs.Trees.{whole_in, list_in, text_at, is_text};
 
 use serde_json::Value;
 

@@ -1,8 +1,8 @@
 -- A number written behind the others leaves zeros behind it.
 use Rattle.std.proofs.Common.{◌≡◌, ℕ, ◌+◌, ◌-◌, ◌<◌, List, length, drop, replicate, slice_set, arith, sym, ap, ◌∙◌}
 use Rattle.std.proofs.lemmas.List.{drop-set-lt, drop-drop, drop-replicate, length-set}
-use Rattle.few.specs.Filled.{IsFilled, length-shown}
-use Rattle.few.proofs.Few.push.Goals as goal
+use Rattle.short_lists.specs.Filled.{IsFilled, length-shown}
+use Rattle.short_lists.proofs.ShortList.push.Goals as goal
 
 IsFilled-pushed : (cap len : ℕ) (room : List ℕ) (n : ℕ) → IsFilled cap len room → len < cap → IsFilled cap (len + 1) (slice_set room len n)
 IsFilled-pushed cap len room n h more = record {

@@ -1,9 +1,9 @@
 -- The items of the vector, seen as data, are those of the list.
 use Rattle.std.proofs.Common.{map, option_map, Some, ap, sym, ◌∙◌}
 use Rattle.serde_json.specs.View.{view}
-use Rattle.trees.specs.Trees.{list_of}
-use Rattle.trees.proofs.TreeLemmas.{listed}
-use Rattle.trees.proofs.list_items.Goals as goal
+use Rattle.json_trees.specs.Trees.{list_of}
+use Rattle.json_trees.proofs.TreeLemmas.{listed}
+use Rattle.json_trees.proofs.list_items.Goals as goal
 
 pub returns : goal.returns
 returns c =
