@@ -41,6 +41,10 @@ pub with_batch-held : (c : Content) (rs : List Record) → (with_batch c rs).hel
 with_batch-held c [] = refl
 with_batch-held c (r ∷ rs) = refl
 
+pub with_batch-version : (c : Content) (rs : List Record) → (with_batch c rs).version ≡ c.version
+with_batch-version c [] = refl
+with_batch-version c (r ∷ rs) = refl
+
 pub with_batch-lanes : (c : Content) (rs : List Record) → (with_batch c rs).lanes ≡ c.lanes
 with_batch-lanes c [] = refl
 with_batch-lanes c (r ∷ rs) = refl

@@ -35,6 +35,13 @@ test_fails a b c (inr high) = both (nat_le a b) (nat_le b c) (grind (arith, nat_
     both true q e = e
     both false q e = refl
 
+test_held : (a b c : ℕ) → (nat_le a b && nat_le b c) ≡ true → (a ≤ b) × (b ≤ c)
+test_held a b c e = (grind (arith, nat_tests, both (nat_le a b) (nat_le b c) e), grind (arith, nat_tests, both (nat_le a b) (nat_le b c) e))
+  where
+    both : (p q : Bool) → (p && q) ≡ true → (p ≡ true) × (q ≡ true)
+    both true q e = (refl, e)
+    both false q e = absurd (cc)
+
 pub test_holds : (a b c : ℕ) → a ≤ b → b ≤ c → (nat_le a b && nat_le b c) ≡ true
 test_holds a b c low high = grind (arith, nat_tests)
 
@@ -56,6 +63,23 @@ outside_right at i ranges bytes lt lt' low high =
 pub outside_done : (at i : ℕ) (ranges : List (ℕ × ℕ)) (bytes : List ℕ) → length ranges ≤ i → first_outside at (drop i ranges) bytes ≡ None
 unfolding first_outside
 outside_done at i ranges bytes le = ap (λ (l : List (ℕ × ℕ)). first_outside at l bytes) (drop_all i ranges le)
+
+-- where no byte is outside, each is in its range
+pub each_inside : (i at : ℕ) (ranges : List (ℕ × ℕ)) (bytes : List ℕ) → i < length ranges → first_outside at ranges bytes ≡ None
+    → ((get_or ranges i (0, 0)).0 ≤ get_or bytes i 0) × (get_or bytes i 0 ≤ (get_or ranges i (0, 0)).1)
+unfolding first_outside
+each_inside i at [] bytes lt e = absurd (omega (arith, lt))
+each_inside i at (r ∷ ranges) [] lt e = absurd (cc)
+each_inside zero at (r ∷ ranges) (b ∷ bytes) lt e = test_held r.0 b r.1 (inside (nat_le r.0 b && nat_le b r.1) (first_outside (at + 1) ranges bytes) e).0
+  where
+    inside : (t : Bool) (o : Option ℕ) → (if t then o else Some at) ≡ None → (t ≡ true) × (o ≡ None)
+    inside true o e = (refl, e)
+    inside false o e = absurd (cc)
+each_inside (suc i) at (r ∷ ranges) (b ∷ bytes) lt e = each_inside i (at + 1) ranges bytes (omega (arith, lt)) (inside (nat_le r.0 b && nat_le b r.1) (first_outside (at + 1) ranges bytes) e)
+  where
+    inside : (t : Bool) (o : Option ℕ) → (if t then o else Some at) ≡ None → o ≡ None
+    inside true o e = e
+    inside false o e = absurd (cc)
 
 -- a header is the first bytes of a file
 pub outside_front : (at : ℕ) (ranges : List (ℕ × ℕ)) (bytes : List ℕ) → first_outside at ranges (take (length ranges) bytes) ≡ first_outside at ranges bytes

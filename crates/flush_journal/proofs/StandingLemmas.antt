@@ -12,7 +12,7 @@ use Rattle.flush_journal.specs.Gates.{Opened, Either, AllHave, OnlyHas}
 use Rattle.flush_journal.specs.Moments.{Leaves}
 use Rattle.flush_journal.specs.Standing.{pending_of, with_batch, Numbers, IsSettled, IsOwed, HoldsEither}
 use Rattle.flush_journal.proofs.ContentLemmas.{IsFront, content-shut}
-use Rattle.flush_journal.proofs.JournalLemmas.{AreBatch, opened_content, either_held, with_batch-lanes, with_batch-batches, with_batch-end}
+use Rattle.flush_journal.proofs.JournalLemmas.{AreBatch, opened_content, either_held, with_batch-version, with_batch-lanes, with_batch-batches, with_batch-end}
 use Rattle.flush_journal.proofs.Moments.{weaker}
 
 pub is_false : {P : Type 0} (b : Bool) → (IsTrue b ↔ P) → b ≡ false → P → ⊥
@@ -38,11 +38,12 @@ module _ {D : Type 0} {met : Ghosts D} (reads : D → List ℕ) (images : D → 
     each = has.each;
   }
 
-  pub settled_by : pending_of j ≡ None → j.lanes ≡ c.lanes → j.batches ≡ c.batches + 1 → j.end ≡ c.end + length (frame_of rs)
+  pub settled_by : pending_of j ≡ None → j.numbers.version ≡ c.version → j.numbers.lanes ≡ c.lanes → j.numbers.batches ≡ c.batches + 1 → j.numbers.end ≡ c.end + length (frame_of rs)
       → OnlyHas (Opened front (frame_of rs)) (reads j.disk) (images j.disk) → IsSettled reads images j (with_batch c rs)
-  settled_by idle lanes batches end has = record {
+  settled_by idle version lanes batches end has = record {
     idle = idle;
     numbers = record {
+      version = version ∙ sym (with_batch-version c rs);
       lanes = lanes ∙ sym (with_batch-lanes c rs);
       batches = batches ∙ sym (with_batch-batches c rs are.some);
       end = end ∙ sym (with_batch-end c rs are.some);

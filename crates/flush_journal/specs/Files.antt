@@ -2,16 +2,23 @@
 --     A header of 16 bytes: the magic, four bytes lanes (1 to 16), four zero bytes. Then batches.
 --     A batch is its gate, eight bytes payload length, the payload; behind it stands the next gate. A gate is open exactly
 --     where it is 1. The first closed gate is the end, and bytes after it mean nothing.
-use Rattle.std.specs.Prelude.{ℕ, zero, suc, ◌+◌, List, [], ◌∷◌, length, drop, slice_index, Option, Some, None, Result, Ok, Err, option_map, nat_le, ◌&&◌, ◌==◌, if◌then◌else◌}
+use Rattle.std.specs.Prelude.{ℕ, zero, suc, ◌+◌, List, [], ◌∷◌, ◌++◌, length, drop, slice_index, Option, Some, None, Result, Ok, Err, option_map, nat_le, ◌&&◌, ◌==◌, if◌then◌else◌}
 use Rattle.std.specs.Result.{result_ok}
 use Rattle.std.specs.FinMap as map
 use Rattle.flush_journal.specs.Records.{◌>>=◌, Record, Held, cut, cut_number_8, records_of, put_all}
 
+-- the first bytes of a journal of version 1
+abbrev pub magic : List ℕ
+magic = 0x68 ∷ 0x73 ∷ 0x64 ∷ 0x73 ∷ 0x6a ∷ 0x72 ∷ 0x6e ∷ 0x31 ∷ []
+
+-- these bytes and no others
+abbrev pub exactly : List ℕ → List (ℕ × ℕ)
+exactly [] = []
+exactly (b ∷ bytes) = (b, b) ∷ exactly bytes
+
 -- the least and the greatest byte that may stand at each place of the header
 abbrev pub header_ranges : List (ℕ × ℕ)
-header_ranges =
-    (0x68, 0x68) ∷ (0x73, 0x73) ∷ (0x64, 0x64) ∷ (0x73, 0x73) ∷ (0x6a, 0x6a) ∷ (0x72, 0x72) ∷ (0x6e, 0x6e) ∷ (0x31, 0x31)
-    ∷ (0, 0) ∷ (0, 0) ∷ (0, 0) ∷ (1, 16) ∷ (0, 0) ∷ (0, 0) ∷ (0, 0) ∷ (0, 0) ∷ []
+header_ranges = exactly magic ++ ((0, 0) ∷ (0, 0) ∷ (0, 0) ∷ (1, 16) ∷ (0, 0) ∷ (0, 0) ∷ (0, 0) ∷ (0, 0) ∷ [])
 
 -- the place of the first byte that is outside its range or missing, counted from `at`
 unfoldable pub first_outside : ℕ → List (ℕ × ℕ) → List ℕ → Option ℕ
@@ -21,6 +28,7 @@ first_outside at (r ∷ ranges) (b ∷ bytes) = if nat_le r.0 b && nat_le b r.1 
 
 -- what a file holds, and its numbers: `end` is the place of the first closed gate
 pub record Content : Type 0 where
+  pub version : ℕ
   pub lanes : ℕ
   pub batches : ℕ
   pub end : ℕ
@@ -43,6 +51,7 @@ first_batch bytes = do
 -- one batch more
 abbrev pub grown : Content → ℕ → List Record → Content
 grown c size records = record {
+  version = c.version;
   lanes = c.lanes;
   batches = c.batches + 1;
   end = c.end + 9 + size;
@@ -59,9 +68,9 @@ read_on (suc steps) c (gate ∷ bytes) =
     then elim (first_batch bytes) [ None ↦ Err (c.end + 1) | Some b ↦ read_on steps (grown c b.size b.records) b.rest ]
     else Ok c
 
--- a file with this many lanes before its first gate
+-- a file of version 1 with this many lanes, before its first gate
 abbrev pub fresh : ℕ → Content
-fresh lanes = record { lanes = lanes; batches = 0; end = 16; held = map.empty }
+fresh lanes = record { version = 1; lanes = lanes; batches = 0; end = 16; held = map.empty }
 
 -- What a file stands for. An error is the place of the first byte that differs from the header, or as `read_on` says.
 unfoldable pub content : List ℕ → Result Content ℕ

@@ -5,6 +5,7 @@ use Rattle.flush_journal.specs.Records.{Record, Held, put_all}
 use Rattle.flush_journal.specs.Files.{Content, content, first_batch, read_on}
 use Rattle.flush_journal.specs.declared.read.Gate.{Gate}
 use Rattle.flush_journal.specs.declared.read.Gate.TheVariants.{Missing, Closed, Open}
+use Rattle.flush_journal.specs.declared.report.Report.{Report}
 use Rattle.flush_journal.specs.declared.why.Why.{Why}
 use Rattle.flush_journal.specs.declared.why.Why.TheVariants.{DiskFault, NotAJournal, JournalFull, Exists, NoMemory}
 
@@ -24,6 +25,10 @@ MayRefuseReading told file before now (NotAJournal at) = told → content file �
 MayRefuseReading told file before now NoMemory = Unit {0}
 MayRefuseReading told file before now (JournalFull e n r) = ⊥
 MayRefuseReading told file before now Exists = ⊥
+
+-- numbers and a map
+abbrev pub content_of : Report → Held → Content
+content_of r held = record { version = r.version; lanes = r.lanes; batches = r.batches; end = r.end; held = held }
 
 -- what is read from a gate on, where c is what stands before it
 abbrev pub read_from : Content → List ℕ → Result Content ℕ

@@ -1,6 +1,7 @@
 -- When a journal may refuse.
 use Rattle.std.specs.Prelude.{◌≡◌, ◌≢◌, ℕ, ◌+◌, ◌<◌, List, [], ◌∷◌, ◌++◌, take, Result, Ok, Err}
 use Rattle.edge_traits.specs.Causes.{Rose}
+use Rattle.flush_journal.specs.Files.{magic}
 use Rattle.flush_journal.specs.declared.why.Why.{Why}
 use Rattle.flush_journal.specs.declared.why.Why.TheVariants.{DiskFault, NotAJournal, JournalFull, Exists, NoMemory}
 
@@ -17,10 +18,6 @@ MayRefuse end need room before now NoMemory = ⊥
 abbrev pub Answers : (end need room before now : ℕ) → Result (Unit {0}) Why → Type 0
 Answers end need room before now (Ok _) = Unit {0}
 Answers end need room before now (Err why) = MayRefuse end need room before now why
-
--- the first bytes of a journal
-abbrev pub magic : List ℕ
-magic = 0x68 ∷ 0x73 ∷ 0x64 ∷ 0x73 ∷ 0x6a ∷ 0x72 ∷ 0x6e ∷ 0x31 ∷ []
 
 -- that a disk which tells its bytes has no journal's first bytes
 abbrev pub NoMagic : Type 0 → List ℕ → Type 0

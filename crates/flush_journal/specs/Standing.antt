@@ -8,13 +8,18 @@ use Rattle.flush_journal.specs.Gates.{Either}
 use Rattle.flush_journal.specs.Files.{Content, content, held, grown}
 use Rattle.flush_journal.specs.Batches.{records}
 use Rattle.flush_journal.specs.declared.journal.Journal.{Journal}
+use Rattle.flush_journal.specs.declared.report.Report.{Report}
 
 abbrev pub disk_of : {D : Type 0} {met : Ghosts D} → Journal D met → D
 disk_of j = j.disk
 
+-- the journal's numbers
+abbrev pub numbers_of : {D : Type 0} {met : Ghosts D} → Journal D met → Report
+numbers_of j = j.numbers
+
 -- the place of the closed gate
 abbrev pub end_of : {D : Type 0} {met : Ghosts D} → Journal D met → ℕ
-end_of j = j.end
+end_of j = j.numbers.end
 
 -- the records of the batch that is pending
 abbrev pub pending_of : {D : Type 0} {met : Ghosts D} → Journal D met → Option (List Record)
@@ -27,9 +32,10 @@ with_batch c (r ∷ rs) = grown c (length (encoded_all (r ∷ rs))) (r ∷ rs)
 
 -- the numbers that the journal has are those of the content
 pub record Numbers {D : Type 0} {met : Ghosts D} (j : Journal D met) (c : Content) : Type 0 where
-  pub lanes : j.lanes ≡ c.lanes
-  pub batches : j.batches ≡ c.batches
-  pub end : j.end ≡ c.end
+  pub version : (numbers_of j).version ≡ c.version
+  pub lanes : (numbers_of j).lanes ≡ c.lanes
+  pub batches : (numbers_of j).batches ≡ c.batches
+  pub end : (numbers_of j).end ≡ c.end
 
 -- nothing is pending, and the file has this content, all of it on the disk
 pub record IsSettled {D : Type 0} {met : Ghosts D} (reads : D → List ℕ) (images : D → List ℕ → Type 0) (j : Journal D met) (c : Content) : Type 0 where

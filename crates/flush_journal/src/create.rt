@@ -1,18 +1,16 @@
 // A journal's first bytes, written.
 ghost use Rattle.std.specs.Prelude.{◌≡◌, ◌≢◌, ℕ, ◌+◌, ◌<◌, ◌≤◌, ◌↔◌, List, [], ◌∷◌, ◌++◌, length, take, drop, IfOk, IfErr, OnOk, Ok, IsTrue};
 ghost use Rattle.edge_traits.specs.Disks.{Only};
-ghost use Rattle.flush_journal.specs.Files.{content, fresh};
+ghost use Rattle.flush_journal.specs.Files.{magic, content, fresh};
 ghost use Rattle.flush_journal.specs.Gates.{GateStands};
-ghost use Rattle.flush_journal.specs.Refusals.{magic, new_file, NoMagic, MayRefuseCreate};
+ghost use Rattle.flush_journal.specs.Refusals.{new_file, NoMagic, MayRefuseCreate};
 
 use crate::Why;
+use crate::header::{HEADER_SIZE, MAGIC};
 use edge_traits::Disk;
 
-// The first bytes of a journal.
-const MAGIC: [u8; 8] = [0x68, 0x73, 0x64, 0x73, 0x6a, 0x72, 0x6e, 0x31];
-
 // How many bytes a new journal has: the header and a closed gate.
-pub const NEW_SIZE: u64 = 17;
+const NEW_SIZE: u64 = HEADER_SIZE + 1;
 
 // Whether a disk begins with a journal's first bytes.
 fn has_magic<D: Disk>(disk: &mut D) -> Result<bool, Why>

@@ -7,42 +7,27 @@ ghost use Rattle.flush_journal.specs.Files.{Content, content, fresh};
 ghost use Rattle.flush_journal.specs.Frames.{need_of};
 ghost use Rattle.flush_journal.specs.Gates.{GateStands};
 ghost use Rattle.flush_journal.specs.Moments.{Leaves};
+ghost use Rattle.flush_journal.specs.Numbers.{IsVersion1};
 ghost use Rattle.flush_journal.specs.Records.{Record, put_all};
 ghost use Rattle.flush_journal.specs.Reading.{MayRefuseReading};
 ghost use Rattle.flush_journal.specs.Refusals.{Answers, NoMagic, MayRefuseCreate};
 
-use crate::create::{NEW_SIZE, write_new};
+use crate::create::write_new;
 use crate::gates::{write_again, write_frame};
+use crate::header::{HEADER_SIZE, VERSION};
 use crate::read::read_journal;
-use crate::{Batch, JournalRefused, Recovered, Why};
+use crate::{Batch, JournalRefused, Recovered, Report, Why};
 use edge_traits::{Disk, Failed};
 use std::alloc::Global;
-
-const VERSION: u32 = 1;
-
-/// A journal's numbers.
-#[derive(Clone, Copy, Debug, PartialEq, Eq)]
-pub struct Report {
-    /// The version of the format.
-    pub version: u32,
-    /// How many lanes the journal is for.
-    pub lanes: u32,
-    /// How many batches are held.
-    pub batches: u64,
-    /// The place of the first closed gate.
-    pub end: u64,
-}
 
 /// A journal on a disk, and the batch that it still owes.
 #[derive(Drop)]
 pub struct Journal<D: Disk> {
     disk: D,
-    lanes: u32,
-    batches: u64,
-    end: u64,
+    numbers: Report,
     pending: Option<Batch>,
-    ghost gate: { D.honest → GateStands end (owed_size pending) (D.reads disk) },
-    ghost counted: { batches ≤ end },
+    ghost version1: { IsVersion1 numbers },
+    ghost gate: { D.honest → GateStands numbers.end (owed_size pending) (D.reads disk) },
     ghost some: { option_map records pending ≢ Some [] },
 }
 
@@ -61,7 +46,7 @@ fn check_room(end: u64, size: u64, room: u64) -> Result<(), Why>
 }
 
 impl<D: Disk> Journal<D> {
-    ghost use Rattle.flush_journal.specs.Standing.{disk_of, end_of, pending_of, with_batch, Numbers, IsSettled, IsOwed, HoldsEither};
+    ghost use Rattle.flush_journal.specs.Standing.{disk_of, numbers_of, end_of, pending_of, with_batch, Numbers, IsSettled, IsOwed, HoldsEither};
 
     /// Makes a journal for so many lanes, without a batch, on a disk. After `Ok` whatever a crash leaves is it; a crash
     /// before leaves any bytes.
@@ -82,9 +67,12 @@ impl<D: Disk> Journal<D> {
         match write_new(&mut disk, lanes) {
             Ok(()) => Ok(Journal {
                 disk,
-                lanes,
-                batches: 0,
-                end: NEW_SIZE - 1,
+                numbers: Report {
+                    version: VERSION,
+                    lanes,
+                    batches: 0,
+                    end: HEADER_SIZE,
+                },
                 pending: None,
             }),
             Err(why) => Err(JournalRefused { disk, why }),
@@ -109,12 +97,10 @@ impl<D: Disk> Journal<D> {
     {
         let mut recovered = Recovered::new(alloc);
         match read_journal(alloc, &mut disk, &mut recovered) {
-            Ok(found) => {
+            Ok(numbers) => {
                 let journal = Journal {
                     disk,
-                    lanes: found.lanes,
-                    batches: found.batches,
-                    end: found.end,
+                    numbers,
                     pending: None,
                 };
                 Ok((journal, recovered))
@@ -125,16 +111,12 @@ impl<D: Disk> Journal<D> {
 
     /// The journal's numbers.
     pub fn report(&self) -> Report
+        ensures numbers { result ≡ numbers_of self.now }
         ensures version { result.version ≡ 1 }
-        ensures numbers { (c : Content) → Numbers self.now c
-            → (result.lanes ≡ c.lanes) × (result.batches ≡ c.batches) × (result.end ≡ c.end) }
+        ensures some_lane { 1 ≤ result.lanes }
+        ensures few_lanes { result.lanes ≤ 16 }
     {
-        Report {
-            version: VERSION,
-            lanes: self.lanes,
-            batches: self.batches,
-            end: self.end,
-        }
+        self.numbers
     }
 
     /// Whether a batch is pending.
@@ -184,16 +166,16 @@ impl<D: Disk> Journal<D> {
             return Ok(());
         }
         let size = batch.frame().len() as u64;
-        if let Err(full) = check_room(self.end, size, self.disk.room()) {
+        if let Err(full) = check_room(self.numbers.end, size, self.disk.room()) {
             self.pending = Some(batch);
             return Err(full);
         }
-        if let Err(Failed) = write_frame(&mut self.disk, self.end, batch.frame()) {
+        if let Err(Failed) = write_frame(&mut self.disk, self.numbers.end, batch.frame()) {
             self.pending = Some(batch);
             return Err(Why::DiskFault);
         }
-        self.end += size;
-        self.batches += 1;
+        self.numbers.end += size;
+        self.numbers.batches += 1;
         Ok(())
     }
 
@@ -230,14 +212,14 @@ impl<D: Disk> Journal<D> {
             return Ok(());
         };
         let size = batch.frame().len() as u64;
-        if let Err(full) = check_room(self.end, size, self.disk.room()) {
+        if let Err(full) = check_room(self.numbers.end, size, self.disk.room()) {
             return Err(full);
         }
-        if let Err(Failed) = write_again(&mut self.disk, self.end, batch.frame()) {
+        if let Err(Failed) = write_again(&mut self.disk, self.numbers.end, batch.frame()) {
             return Err(Why::DiskFault);
         }
-        self.end += size;
-        self.batches += 1;
+        self.numbers.end += size;
+        self.numbers.batches += 1;
         self.pending = None;
         Ok(())
     }

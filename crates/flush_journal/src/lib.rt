@@ -5,16 +5,19 @@
 mod batch;
 mod create;
 mod gates;
+mod header;
 mod journal;
 mod read;
 mod records;
 mod recovered;
+mod report;
 mod why;
 mod window;
 
 pub use batch::Batch;
-pub use journal::{Journal, Report};
+pub use journal::Journal;
 pub use recovered::Recovered;
+pub use report::Report;
 pub use why::{JournalRefused, Why};
 
 #[cfg(test)]

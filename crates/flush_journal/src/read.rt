@@ -4,48 +4,17 @@ ghost use Rattle.std.specs.FinMap as map;
 ghost use Rattle.edge_traits.specs.Disks.{LeavesNoMore, Only};
 ghost use Rattle.flush_journal.specs.Files.{Content, content, first_outside, header_ranges, read_on};
 ghost use Rattle.flush_journal.specs.Gates.{GateStands};
-ghost use Rattle.flush_journal.specs.Reading.{MayRefuseReading, GateIs, PayloadIs, read_from};
+ghost use Rattle.flush_journal.specs.Numbers.{IsVersion1};
+ghost use Rattle.flush_journal.specs.Reading.{MayRefuseReading, GateIs, PayloadIs, content_of, read_from};
 ghost use Rattle.flush_journal.specs.Windows.{end_of_file, Sees};
 
 use crate::gates::OPEN;
+use crate::header::{HEADER_SIZE, VERSION, outside};
 use crate::records::number_8;
 use crate::window::Window;
-use crate::{Recovered, Why};
+use crate::{Recovered, Report, Why};
 use edge_traits::Disk;
 use std::alloc::Global;
-
-// The bytes of the header: the magic, the lanes and zeros. Each is between two others.
-const HEADER: [(u8, u8); 16] = [
-    (0x68, 0x68),
-    (0x73, 0x73),
-    (0x64, 0x64),
-    (0x73, 0x73),
-    (0x6a, 0x6a),
-    (0x72, 0x72),
-    (0x6e, 0x6e),
-    (0x31, 0x31),
-    (0, 0),
-    (0, 0),
-    (0, 0),
-    (1, 16),
-    (0, 0),
-    (0, 0),
-    (0, 0),
-    (0, 0),
-];
-
-// The place of the first byte that a header can't have there, or that is missing.
-fn outside(bytes: &[u8]) -> Option<u64>
-    ensures place { result ≡ first_outside 0 header_ranges bytes.now }
-    ensures long { MatchOption result (16 ≤ length bytes.now) (λ _. Unit {0}) }
-{
-    for (i, (least, greatest)) in HEADER.iter().enumerate() {
-        if i >= bytes.len() || bytes[i] < *least || bytes[i] > *greatest {
-            return Some(i as u64);
-        }
-    }
-    None
-}
 
 // A file's lanes, where it has a header.
 fn read_header<D: Disk>(disk: &mut D, window: &mut Window) -> Result<u32, Why>
@@ -53,6 +22,8 @@ fn read_header<D: Disk>(disk: &mut D, window: &mut Window) -> Result<u32, Why>
     requires sees { D.honest → Sees (D.reads disk.old) window.old }
     ensures header { D.honest → OnOk result (first_outside 0 header_ranges (D.reads disk.old) ≡ None) }
     ensures lanes { D.honest → IfOk result (λ n. n ≡ slice_index (D.reads disk.old) 11) }
+    ensures some_lane { IfOk result (λ n. 1 ≤ n) }
+    ensures few_lanes { IfOk result (λ n. n ≤ 16) }
     ensures long { IfOk result (λ _. 16 ≤ end_of_file window.new) }
     ensures sees { D.honest → OnOk result (Sees (D.reads disk.old) window.new) }
     ensures end { end_of_file window.new ≡ end_of_file window.old }
@@ -135,32 +106,24 @@ fn read_payload<D: Disk>(
     Ok(whole.then_some(size))
 }
 
-// What a file holds before its first closed gate, but for the records: its lanes, its batches and that gate's place.
-#[derive(Clone, Copy)]
-pub struct Found {
-    pub lanes: u32,
-    pub batches: u64,
-    pub end: u64,
-}
-
-const HEADER_SIZE: u64 = 16;
-
 // Puts in the records of a file's batches, and counts them.
 fn read_batches<D: Disk>(
     disk: &mut D,
     window: &mut Window,
     lanes: u32,
     recovered: &mut Recovered,
-) -> Result<Found, Why>
+) -> Result<Report, Why>
     requires known { D.honest → end_of_file window.old ≡ length (D.reads disk.old) }
     requires sees { D.honest → Sees (D.reads disk.old) window.old }
     requires header { D.honest → first_outside 0 header_ranges (D.reads disk.old) ≡ None }
     requires lanes { D.honest → lanes ≡ slice_index (D.reads disk.old) 11 }
+    requires some_lane { 1 ≤ lanes }
+    requires few_lanes { lanes ≤ 16 }
     requires long { 16 ≤ end_of_file window.old }
     requires empty { recovered.old ≡ map.empty }
     ensures found { D.honest → IfOk result (λ f. content (D.reads disk.old)
-        ≡ Ok (record { lanes = f.lanes; batches = f.batches; end = f.end; held = recovered.new })) }
-    ensures counted { IfOk result (λ f. f.batches ≤ f.end) }
+        ≡ Ok (content_of f recovered.new)) }
+    ensures numbers { IfOk result IsVersion1 }
     ensures gate { D.honest → IfOk result (λ f. GateStands f.end 0 (D.reads disk.old)) }
     ensures reads { D.honest → D.reads disk.new ≡ D.reads disk.old }
     ensures images { D.honest → LeavesNoMore (D.images disk.old) (D.images disk.new) }
@@ -173,7 +136,8 @@ fn read_batches<D: Disk>(
         match read_gate(disk, window, at)? {
             Gate::Missing => return Err(Why::NotAJournal { at }),
             Gate::Closed => {
-                return Ok(Found {
+                return Ok(Report {
+                    version: VERSION,
                     lanes,
                     batches,
                     end: at,
@@ -194,11 +158,11 @@ pub fn read_journal<D: Disk>(
     alloc: Global,
     disk: &mut D,
     recovered: &mut Recovered,
-) -> Result<Found, Why>
+) -> Result<Report, Why>
     requires empty { recovered.old ≡ map.empty }
     ensures found { D.honest → IfOk result (λ f. content (D.reads disk.old)
-        ≡ Ok (record { lanes = f.lanes; batches = f.batches; end = f.end; held = recovered.new })) }
-    ensures counted { IfOk result (λ f. f.batches ≤ f.end) }
+        ≡ Ok (content_of f recovered.new)) }
+    ensures numbers { IfOk result IsVersion1 }
     ensures gate { D.honest → IfOk result (λ f. GateStands f.end 0 (D.reads disk.old)) }
     ensures reads { D.honest → D.reads disk.new ≡ D.reads disk.old }
     ensures images { D.honest → LeavesNoMore (D.images disk.old) (D.images disk.new) }

@@ -14,7 +14,7 @@ gates-init g c = record {
       let file = g.D.Disk.reads c.args.disk.now in
       content-header file (c.requires.header h)
       ∙ read_on_steps (length file) (length (drop 16 file)) (fresh _) (drop 16 file) (omega (arith, length-drop 16 file)) (omega arith)
-      ∙ (λ i. read_from (record { lanes = sym (c.requires.lanes h) i; batches = 0; end = 16; held = sym c.requires.empty i }) (drop 16 file));
+      ∙ (λ i. read_from (record { version = 1; lanes = sym (c.requires.lanes h) i; batches = 0; end = 16; held = sym c.requires.empty i }) (drop 16 file));
   reads = λ h. refl;
   images = λ h i left. left;
   later = omega arith;
@@ -27,21 +27,21 @@ gates-init g c = record {
 pub returns-in-Missing-clause-why : goal.returns-in-Missing-clause-why
 returns-in-Missing-clause-why g c = λ h.
     let file = g.D.Disk.reads c.args.disk.now in
-    let before : Content = record { lanes = c.args.lanes; batches = c.gates.batches; end = c.gates.at; held = c.gates.recovered } in
+    let before : Content = record { version = 1; lanes = c.args.lanes; batches = c.gates.batches; end = c.gates.at; held = c.gates.recovered } in
     let gate = subst (λ (x : Gate). GateIs (g.D.Disk.reads c.gates.disk) c.gates.at x) c.in-Missing.is (c.in_ok-read_gate.ensures.gate h) in
     c.gates.invariant.so_far h ∙ read_missing before file c.gates.at (omega (arith, gate, ap length (c.gates.invariant.reads h)))
 
 pub returns-in-Closed-clause-found : goal.returns-in-Closed-clause-found
 returns-in-Closed-clause-found g c = λ h.
     let file = g.D.Disk.reads c.args.disk.now in
-    let before : Content = record { lanes = c.args.lanes; batches = c.gates.batches; end = c.gates.at; held = c.gates.recovered } in
+    let before : Content = record { version = 1; lanes = c.args.lanes; batches = c.gates.batches; end = c.gates.at; held = c.gates.recovered } in
     let gate = subst (λ (l : List ℕ). GateIs l c.gates.at Gate.Closed) (c.gates.invariant.reads h) (subst (λ (x : Gate). GateIs (g.D.Disk.reads c.gates.disk) c.gates.at x) c.in-Closed.is (c.in_ok-read_gate.ensures.gate h)) in
     c.gates.invariant.so_far h ∙ read_closed before file c.gates.at gate.0 gate.1
 
 pub returns-in_default-clause-why : goal.returns-in_default-clause-why
 returns-in_default-clause-why g c = λ h.
     let file = g.D.Disk.reads c.args.disk.now in
-    let before : Content = record { lanes = c.args.lanes; batches = c.gates.batches; end = c.gates.at; held = c.gates.recovered } in
+    let before : Content = record { version = 1; lanes = c.args.lanes; batches = c.gates.batches; end = c.gates.at; held = c.gates.recovered } in
     let gate = subst (λ (l : List ℕ). GateIs l c.gates.at Gate.Open) (c.gates.invariant.reads h) (subst (λ (x : Gate). GateIs (g.D.Disk.reads c.gates.disk) c.gates.at x) c.in-Open.is (c.in_ok-read_gate.ensures.gate h)) in
     let same = c.read_gate.ensures.reads h ∙ c.gates.invariant.reads h in
     let payload = subst (λ (l : List ℕ). PayloadIs l c.gates.at c.gates.recovered c.read_payload.new.recovered None) same
@@ -54,14 +54,14 @@ gates-preserved g c =
     record {
       so_far = λ h.
           let file = g.D.Disk.reads c.args.disk.now in
-          let before : Content = record { lanes = c.args.lanes; batches = c.gates.batches; end = c.gates.at; held = c.gates.recovered } in
+          let before : Content = record { version = 1; lanes = c.args.lanes; batches = c.gates.batches; end = c.gates.at; held = c.gates.recovered } in
           let gate = subst (λ (l : List ℕ). GateIs l c.gates.at Gate.Open) (c.gates.invariant.reads h) (subst (λ (x : Gate). GateIs (g.D.Disk.reads c.gates.disk) c.gates.at x) c.in-Open.is (c.in_ok-read_gate.ensures.gate h)) in
           let same = c.read_gate.ensures.reads h ∙ c.gates.invariant.reads h in
           let payload = subst (λ (l : List ℕ). PayloadIs l c.gates.at c.gates.recovered c.read_payload.new.recovered (Some size)) same
           (subst (λ (o : Option ℕ). PayloadIs (g.D.Disk.reads c.read_gate.new.disk) c.gates.at c.gates.recovered c.read_payload.new.recovered o) c.in-Some.is (c.in_ok-size.ensures.payload h)) in
           let place : c.gates.at + 9 + size ≡ c.gates.at + (9 + size) = omega arith in
-          let more : read_from (grown before size payload.0) (drop (c.gates.at + 9 + size) file) ≡ read_from (record { lanes = c.args.lanes; batches = c.gates.batches + 1; end = c.gates.at + (9 + size); held = c.read_payload.new.recovered }) (drop (c.gates.at + (9 + size)) file) =
-          (λ i. let now : Content = record { lanes = c.args.lanes; batches = c.gates.batches + 1; end = place i; held = sym payload.2 i } in read_from now (drop (place i) file)) in
+          let more : read_from (grown before size payload.0) (drop (c.gates.at + 9 + size) file) ≡ read_from (record { version = 1; lanes = c.args.lanes; batches = c.gates.batches + 1; end = c.gates.at + (9 + size); held = c.read_payload.new.recovered }) (drop (c.gates.at + (9 + size)) file) =
+          (λ i. let now : Content = record { version = 1; lanes = c.args.lanes; batches = c.gates.batches + 1; end = place i; held = sym payload.2 i } in read_from now (drop (place i) file)) in
           c.gates.invariant.so_far h
           ∙ read_good before file c.gates.at (record { size = size; records = payload.0; rest = drop (c.gates.at + 9 + size) file }) gate.0 gate.1 payload.1
           ∙ more;

@@ -7,7 +7,7 @@ use Rattle.flush_journal.proofs.read.read_batches.Given as goal
 
 abbrev pub invariant-gates : goal.invariant-gates
 invariant-gates g l = record {
-  so_far : g.D.Disk.honest → content (g.D.Disk.reads l.fn.disk) ≡ read_from (record { lanes = l.lanes; batches = l.batches; end = l.at; held = l.recovered }) (drop l.at (g.D.Disk.reads l.fn.disk));
+  so_far : g.D.Disk.honest → content (g.D.Disk.reads l.fn.disk) ≡ read_from (record { version = 1; lanes = l.lanes; batches = l.batches; end = l.at; held = l.recovered }) (drop l.at (g.D.Disk.reads l.fn.disk));
   reads : g.D.Disk.honest → g.D.Disk.reads l.disk ≡ g.D.Disk.reads l.fn.disk;
   images : g.D.Disk.honest → LeavesNoMore (g.D.Disk.images l.fn.disk) (g.D.Disk.images l.disk);
   later : g.D.Disk.faults l.fn.disk ≤ g.D.Disk.faults l.disk;

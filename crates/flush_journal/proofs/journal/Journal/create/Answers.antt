@@ -6,7 +6,7 @@ use Rattle.flush_journal.proofs.journal.Journal.create.Goals as goal
 pub returns-in-Ok-clause-settled : goal.returns-in-Ok-clause-settled
 returns-in-Ok-clause-settled g c = λ h. record {
   idle = refl;
-  numbers = record { lanes = refl; batches = refl; end = refl };
+  numbers = record { version = refl; lanes = refl; batches = refl; end = refl };
   file = ap content (c.in-Ok.ensures.file h) ∙ new_content c.args.lanes _ c.requires.some c.requires.few;
   only = c.in-Ok.ensures.only h;
 }

@@ -8,7 +8,7 @@ returns-in-Ok-clause-recovered g c = λ h. (
   c.in-Ok.ensures.found h,
   record {
     idle = refl;
-    numbers = record { lanes = refl; batches = refl; end = refl };
+    numbers = record { version = refl; lanes = refl; batches = refl; end = refl };
     file = ap content (c.read_journal.ensures.reads h) ∙ c.in-Ok.ensures.found h;
     only = λ i left. c.in-Ok.ensures.only h i left ∙ sym (c.read_journal.ensures.reads h);
   },

@@ -1,11 +1,13 @@
 use Rattle.std.proofs.Common.{◌≡◌, ◌≢◌, ℕ, ◌+◌, ◌≤◌, List, [], length, Some, Err, refl, sym, ◌∙◌, ap, subst, arith}
 use Rattle.std.specs.Prelude.{option_map}
 use Rattle.std.proofs.Math.Bridge.{le_prop}
+use Rattle.std.proofs.Math.Nat.{ℕ_set}
 use Rattle.flush_journal.specs.declared.why.Why.TheVariants.{JournalFull}
 use Rattle.flush_journal.specs.Batches.{records, owed_size}
 use Rattle.flush_journal.specs.Frames.{frame_of, need_of}
 use Rattle.flush_journal.specs.Gates.{Opened, Either, AllHave, OnlyHas, EndsShut, GateStands}
 use Rattle.flush_journal.specs.Moments.{Leaves}
+use Rattle.flush_journal.specs.Numbers.{IsVersion1}
 use Rattle.flush_journal.specs.Refusals.{MayRefuse}
 use Rattle.flush_journal.specs.Standing.{HoldsEither}
 use Rattle.flush_journal.proofs.ContentLemmas.{front_closed}
@@ -16,17 +18,15 @@ use Rattle.flush_journal.proofs.journal.Journal.settle.Goals as goal
 
 pub returns-in_default-clause-untouched : goal.returns-in_default-clause-untouched
 returns-in_default-clause-untouched g c = λ none i.
-    let gate_prop : IsProp (g.D.Disk.honest → GateStands c.args.self.now.end (owed_size c.args.self.now.pending) (g.D.Disk.reads c.args.self.now.disk)) = hlevel (le_prop) in
-    let counted_prop : IsProp (c.args.self.now.batches ≤ c.args.self.now.end) = hlevel (le_prop) in
+    let gate_prop : IsProp (g.D.Disk.honest → GateStands c.args.self.now.numbers.end (owed_size c.args.self.now.pending) (g.D.Disk.reads c.args.self.now.disk)) = hlevel (le_prop) in
+    let version1_prop : IsProp (IsVersion1 c.args.self.now.numbers) = hlevel (le_prop, ℕ_set) in
     let some_prop : IsProp (option_map records c.args.self.now.pending ≢ Some []) = hlevel (le_prop) in
     record {
       disk = c.args.self.now.disk;
-      lanes = c.args.self.now.lanes;
-      batches = c.args.self.now.batches;
-      end = c.args.self.now.end;
+      numbers = c.args.self.now.numbers;
       pending = c.args.self.now.pending;
-      gate = gate_prop c.self-in_default-1.given.0 c.args.self.now.gate i;
-      counted = counted_prop c.self-in_default-1.given.1.0 c.args.self.now.counted i;
+      version1 = version1_prop c.self-in_default-1.given.0 c.args.self.now.version1 i;
+      gate = gate_prop c.self-in_default-1.given.1.0 c.args.self.now.gate i;
       some = some_prop c.self-in_default-1.given.1.1.0 c.args.self.now.some i;
     }
 
@@ -44,7 +44,7 @@ returns-in-Err-clause-cause g c = λ rs is.
     let some : records c.in-Some.batch ≢ [] = some_pending c.args.self.now.pending c.in-Some.batch c.args.self.now.some c.in-Some.is in
     let eq = pending_records c.args.self.now.pending c.in-Some.batch rs c.in-Some.is is in
     let need : length c.frame.result.now + 1 ≡ need_of rs = ap (λ (n : ℕ). n + 1) (ap length c.frame.ensures.bytes) ∙ sym (need_of-frame (records c.in-Some.batch) some) ∙ ap need_of eq in
-    subst (MayRefuse c.args.self.now.end (need_of rs) (g.D.Disk.most c.args.self.now.disk) (g.D.Disk.faults c.args.self.now.disk) (g.D.Disk.faults c.args.self.now.disk)) (sym c.in-Err.ensures.full)
+    subst (MayRefuse c.args.self.now.numbers.end (need_of rs) (g.D.Disk.most c.args.self.now.disk) (g.D.Disk.faults c.args.self.now.disk) (g.D.Disk.faults c.args.self.now.disk)) (sym c.in-Err.ensures.full)
     (refl, need, c.room.ensures, omega (arith, c.in-Err.ensures.err, c.room.ensures, need))
 
 pub returns-in-Err-clause-refused : goal.returns-in-Err-clause-refused
@@ -52,15 +52,15 @@ returns-in-Err-clause-refused g c = λ rs is lt.
     let some : records c.in-Some.batch ≢ [] = some_pending c.args.self.now.pending c.in-Some.batch c.args.self.now.some c.in-Some.is in
     let eq = pending_records c.args.self.now.pending c.in-Some.batch rs c.in-Some.is is in
     let need : length c.frame.result.now + 1 ≡ need_of rs = ap (λ (n : ℕ). n + 1) (ap length c.frame.ensures.bytes) ∙ sym (need_of-frame (records c.in-Some.batch) some) ∙ ap need_of eq in
-    ap Err (c.in-Err.ensures.full ∙ (λ i. JournalFull c.args.self.now.end (need i) (c.room.ensures i)))
+    ap Err (c.in-Err.ensures.full ∙ (λ i. JournalFull c.args.self.now.numbers.end (need i) (c.room.ensures i)))
 
 pub invariant_of-self-in-Err-write_again : goal.invariant_of-self-in-Err-write_again
 invariant_of-self-in-Err-write_again g c =
     let some : records c.in-Some.batch ≢ [] = some_pending c.args.self.now.pending c.in-Some.batch c.args.self.now.some c.in-Some.is in
     record {
-      gate = λ h. subst (λ (n : ℕ). GateStands c.args.self.now.end n (g.D.Disk.reads c.write_again.new.disk)) (ap length c.frame-2.ensures.bytes ∙ ap owed_size (sym c.in-Some.is))
+      gate = λ h. subst (λ (n : ℕ). GateStands c.args.self.now.numbers.end n (g.D.Disk.reads c.write_again.new.disk)) (ap length c.frame-2.ensures.bytes ∙ ap owed_size (sym c.in-Some.is))
           (c.write_again.ensures.stands h (subst EndsShut (sym c.frame-2.ensures.bytes) (frame_ends (records c.in-Some.batch) some)));
-      counted = c.args.self.now.counted;
+      version1 = c.args.self.now.version1;
       some = c.args.self.now.some;
     }
 
@@ -74,7 +74,7 @@ returns-in-Err-write_again-clause-err g c = λ h c' rs s.
     let has : AllHave (Either s.front c.frame-2.result.now) (g.D.Disk.reads c.args.self.now.disk) (g.D.Disk.images c.args.self.now.disk) =
     subst (λ (l : List ℕ). AllHave (Either s.front l) (g.D.Disk.reads c.args.self.now.disk) (g.D.Disk.images c.args.self.now.disk)) (sym bytes) (record { now = s.now; each = s.each }) in
     let place = s.place ∙ sym s.numbers.end in
-    owed_by g.D.Disk.reads g.D.Disk.images _ c' rs s.front is are s.pending (record { lanes = s.numbers.lanes; batches = s.numbers.batches; end = s.numbers.end })
+    owed_by g.D.Disk.reads g.D.Disk.images _ c' rs s.front is are s.pending (record { version = s.numbers.version; lanes = s.numbers.lanes; batches = s.numbers.batches; end = s.numbers.end })
     (subst (λ (l : List ℕ). AllHave (Either s.front l) (g.D.Disk.reads c.write_again.new.disk) (g.D.Disk.images c.write_again.new.disk)) bytes
     (c.write_again.ensures.kept h s.front place has))
 
@@ -111,9 +111,14 @@ invariant_of-self-2 g c =
     let some : records c.in-Some.batch ≢ [] = some_pending c.args.self.now.pending c.in-Some.batch c.args.self.now.some c.in-Some.is in
     let size : length c.frame-2.result.now ≡ length c.frame.result.now = ap length (c.frame-2.ensures.bytes ∙ sym c.frame.ensures.bytes) in
     record {
-      gate = λ h. subst (λ (n : ℕ). GateStands (c.args.self.now.end + n) 0 (g.D.Disk.reads c.write_again.new.disk)) size
+      gate = λ h. subst (λ (n : ℕ). GateStands (c.args.self.now.numbers.end + n) 0 (g.D.Disk.reads c.write_again.new.disk)) size
           (c.in_default-write_again.ensures.moved h (subst EndsShut (sym c.frame-2.ensures.bytes) (frame_ends (records c.in-Some.batch) some)));
-      counted = omega (arith, c.args.self.now.counted, ap length c.frame.ensures.bytes, need_of-frame (records c.in-Some.batch) some);
+      version1 = record {
+        version = c.args.self.now.version1.version;
+        some_lane = c.args.self.now.version1.some_lane;
+        few_lanes = c.args.self.now.version1.few_lanes;
+        counted = omega (arith, c.args.self.now.version1.counted, ap length c.frame.ensures.bytes, need_of-frame (records c.in-Some.batch) some);
+      };
       some = λ is. absurd (cc);
     }
 
@@ -129,7 +134,7 @@ returns-clause-ok g c = λ h c' rs s.
     let place = s.place ∙ sym s.numbers.end in
     let size : length c.frame.result.now ≡ length (frame_of rs) = ap length (c.frame.ensures.bytes ∙ ap frame_of eq) in
     settled_by g.D.Disk.reads g.D.Disk.images _ c' rs s.front is are refl
-    s.numbers.lanes
+    s.numbers.version s.numbers.lanes
     (ap (λ (n : ℕ). n + 1) s.numbers.batches)
     (λ i. s.numbers.end i + size i)
     (subst (λ (l : List ℕ). OnlyHas (Opened s.front l) (g.D.Disk.reads c.write_again.new.disk) (g.D.Disk.images c.write_again.new.disk)) bytes

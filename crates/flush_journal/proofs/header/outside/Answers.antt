@@ -1,8 +1,8 @@
 use Rattle.std.proofs.Common.{◌∙◌, sym, inl, inr, arith}
 use Rattle.flush_journal.specs.Files.{header_ranges}
-use Rattle.flush_journal.proofs.ReadLemmas.{outside_missing, outside_wrong, outside_right, outside_done}
-use Rattle.flush_journal.proofs.read.outside.Goals as goal
-use Rattle.flush_journal.proofs.read.outside.Goals.{then-i-bytes-via-then-i-bytes, then-i-bytes-via-else-i-bytes+then-bytes-i, then-i-bytes-via-else-i-bytes+else-bytes-i+then-bytes-i-2}
+use Rattle.flush_journal.proofs.ReadLemmas.{outside_missing, outside_wrong, outside_right, outside_done, each_inside}
+use Rattle.flush_journal.proofs.header.outside.Goals as goal
+use Rattle.flush_journal.proofs.header.outside.Goals.{then-i-bytes-via-then-i-bytes, then-i-bytes-via-else-i-bytes+then-bytes-i, then-i-bytes-via-else-i-bytes+else-bytes-i+then-bytes-i-2}
 
 pub returns-then-i-bytes-clause-place : goal.returns-then-i-bytes-clause-place
 returns-then-i-bytes-clause-place c =
@@ -22,3 +22,9 @@ loop-i-preserved c = record {
 
 pub returns-clause-place : goal.returns-clause-place
 returns-clause-place c = sym (c.loop-i.invariant.so_far ∙ outside_done c.loop-i.i c.loop-i.i header_ranges _ c.loop-i-test.false)
+
+pub returns-clause-some_lane : goal.returns-clause-some_lane
+returns-clause-some_lane c = (each_inside 11 0 header_ranges c.args.bytes.now (omega arith) (c.loop-i.invariant.so_far ∙ outside_done c.loop-i.i c.loop-i.i header_ranges _ c.loop-i-test.false)).0
+
+pub returns-clause-few_lanes : goal.returns-clause-few_lanes
+returns-clause-few_lanes c = (each_inside 11 0 header_ranges c.args.bytes.now (omega arith) (c.loop-i.invariant.so_far ∙ outside_done c.loop-i.i c.loop-i.i header_ranges _ c.loop-i-test.false)).1

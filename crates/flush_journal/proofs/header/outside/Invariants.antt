@@ -1,6 +1,6 @@
 use Rattle.std.proofs.Common.{◌≡◌, ◌≤◌, length, drop}
 use Rattle.flush_journal.specs.Files.{first_outside, header_ranges}
-use Rattle.flush_journal.proofs.read.outside.Given as goal
+use Rattle.flush_journal.proofs.header.outside.Given as goal
 
 abbrev pub invariant-loop-i : goal.invariant-loop-i
 invariant-loop-i l = record {
