@@ -9,6 +9,8 @@ pub mod Reading
 pub mod Records
 pub mod Refusals
 pub mod Standing
+pub mod Tries
+pub mod Unchanged
 pub mod Windows
 pub use Rattle.edge_traits.specs.Disks
 pub use Rattle.edge_traits.specs.Causes
