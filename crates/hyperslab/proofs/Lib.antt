@@ -6,3 +6,5 @@ pub mod RunLemmas
 pub mod ReadLemmas
 pub mod KeptLemmas
 pub mod TextLemmas
+pub mod WithinLemmas
+pub mod CellLemmas
