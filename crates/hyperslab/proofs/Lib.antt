@@ -8,3 +8,4 @@ pub mod KeptLemmas
 pub mod TextLemmas
 pub mod WithinLemmas
 pub mod CellLemmas
+pub mod AdvanceLemmas

@@ -10,6 +10,7 @@ ghost use Rattle.hyperslab.specs.declared.TheConstants.{MAX_DIGITS, MAX_SELECTED
 
 use shapes::Dims;
 
+mod advance;
 mod all_cells;
 mod judging;
 mod lists;
