@@ -69,7 +69,7 @@ no_fault_on k n x e =
           ]
     ]
 
-or_none : (f g : Option SlabFault) → or_fault f g ≡ None → (f ≡ None) × (g ≡ None)
+pub or_none : (f g : Option SlabFault) → or_fault f g ≡ None → (f ≡ None) × (g ≡ None)
 or_none None g e = (refl, e)
 or_none (Some x) g e = cc
 

@@ -6,3 +6,6 @@ pub mod RunLemmas
 pub mod ReadLemmas
 pub mod KeptLemmas
 pub mod TextLemmas
+pub mod WithinLemmas
+pub mod CellLemmas
+pub mod AdvanceLemmas

@@ -1,7 +1,9 @@
 -- Which cells a selection selects.
-use Rattle.std.specs.Prelude.{◌≡◌, ℕ, ◌+◌, ◌-◌, ◌*◌, ◌/◌, ◌%◌, ◌≤◌, ◌&&◌, Bool, true, false, List, [], ◌∷◌, map, length, nat_le, nat_lt, nat_eq, if◌then◌else◌}
+use Rattle.std.specs.Prelude.{◌≡◌, ℕ, ◌+◌, ◌-◌, ◌*◌, ◌/◌, ◌%◌, ◌<◌, ◌≤◌, ◌&&◌, Bool, true, false, List, [], ◌∷◌, map, length, slice_index_or, nat_le, nat_lt, nat_eq, if◌then◌else◌}
 use Rattle.std.specs.List.{filter, AllZip}
-use Rattle.shapes.specs.Places.{coordinates, room_of, run_from}
+use Rattle.shapes.specs.Places.{cell_count, coordinates, room_of, run_from}
+use Rattle.shapes.specs.declared.Shape.{Shape}
+use Rattle.shapes.specs.declared.Shape.TheVariants.{Null, Scalar, Simple}
 use Rattle.shapes.specs.declared.TheConstants.{MAX_RANK, MAX_EXTENT}
 use Rattle.hyperslab.specs.declared.Slab.{Slab}
 use Rattle.hyperslab.specs.declared.TheConstants.{MAX_SELECTED}
@@ -74,3 +76,32 @@ pub record IsSlab (s : Slab) : Type 0 where
   pub ranked : IsRanked s
   pub sound : AreAxes (axes_of s)
   pub room : room_of (extents s) ≤ MAX_SELECTED
+
+-- ---- the cells of a shape
+
+-- a selection lies in a shape; of one without a cell it selects none
+abbrev pub SlabIn : Slab → Shape → Type 0
+SlabIn s Null = cell_count (extents s) ≡ 0
+SlabIn s Scalar = FitsIn s []
+SlabIn s (Simple dims limits) = FitsIn s dims
+
+-- the cells of a shape that a selection selects, in row-major order
+abbrev pub slab_cells : Slab → Shape → List (List ℕ)
+slab_cells s Null = []
+slab_cells s Scalar = selected s []
+slab_cells s (Simple dims limits) = selected s dims
+
+-- no cell stands at two places
+abbrev pub AreApart : List (List ℕ) → Type 0
+AreApart cells = (p q : ℕ) → p < length cells → q < length cells → slice_index_or cells p [] ≡ slice_index_or cells q [] → p ≡ q
+
+-- ---- one cell by its number
+
+-- the digits of a number, of which each counts as many cells as the axes after it have
+abbrev pub digits_by : List ℕ → ℕ → List ℕ
+digits_by [] k = []
+digits_by (n ∷ ns) k = k / cell_count ns ∷ digits_by ns (k % cell_count ns)
+
+-- the selected cell number `k`, from 0: its digits are the steps from the starts
+abbrev pub cell_at : Slab → ℕ → List ℕ
+cell_at s k = point (digits_by (extents s) k) (axes_of s)

@@ -5,22 +5,36 @@
 //! `start`, `stop` and `step`.
 #![tactic(auto)]
 
+ghost use Rattle.std.specs.Prelude.{◌≡◌, ◌^◌};
+ghost use Rattle.hyperslab.specs.declared.TheConstants.{MAX_DIGITS, MAX_SELECTED};
+
 use shapes::Dims;
 
+mod advance;
+mod all_cells;
 mod judging;
+mod lists;
 mod reading;
 mod selected;
 #[cfg(test)]
 mod tests;
 
-pub use judging::{from_lists, whole};
+pub use all_cells::whole;
+pub use lists::from_lists;
 pub use reading::{Part, read_select, reading_or_fault};
+pub use selected::each_cell_once;
 
 /// The most digits that a number in a text has.
 pub const MAX_DIGITS: u8 = 10;
 
 /// The most cells that a selection has: 2^20.
 pub const MAX_SELECTED: u64 = 1_048_576;
+
+/// The limits as numbers.
+pub fn limits()
+    ensures digits { MAX_DIGITS ≡ 10 }
+    ensures cells { MAX_SELECTED ≡ 2 ^ 20 }
+{}
 
 /// A selection: on each axis the numbers from the start on, a step apart, that are below the stop.
 #[derive(Clone, Copy, Debug, PartialEq, Eq)]

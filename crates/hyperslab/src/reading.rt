@@ -3,7 +3,7 @@
 ghost use Rattle.std.specs.Prelude.{◌≡◌, ◌≤◌, ◌<◌, ◌⊎◌, ℕ, List, length, IfOk, IfSome, Err};
 ghost use Rattle.shapes.specs.Shapes.{IsSound, dims_of};
 ghost use Rattle.shapes.specs.declared.TheConstants.{MAX_RANK};
-ghost use Rattle.hyperslab.specs.Selected.{IsRanked, IsSlab};
+ghost use Rattle.hyperslab.specs.Selected.{IsRanked, IsSlab, SlabIn};
 ghost use Rattle.hyperslab.specs.Grammar.{IsSelection, IsFirstBad, parts_slab};
 ghost use Rattle.hyperslab.specs.declared.SlabFault.TheVariants.{Syntax};
 ghost use Rattle.hyperslab.specs.declared.reading.Part.{Part};
@@ -79,7 +79,9 @@ pub fn read_select(text: &str, shape: &Shape) -> Result<Slab, SlabFault>
     requires { IsSound shape.now }
     ensures spelled { (parts : List Part) → IsSelection text.now parts → result ≡ parts_slab parts shape.now }
     ensures bad { (byte : ℕ) → IsFirstBad text.now byte → result ≡ Err (Syntax byte) }
+    ensures first { result ≡ text_slab text.now shape.now }
     ensures one_of { ((parts : List Part) × IsSelection text.now parts) ⊎ ((byte : ℕ) × IsFirstBad text.now byte) }
+    ensures within { IfOk result (λ s. SlabIn s shape.now) }
     ensures sound { IfOk result IsSlab }
 {
     first_of(text, shape)

@@ -1,10 +1,12 @@
 //! How many cells a selection has, and which one comes where in row-major order.
 
-ghost use Rattle.std.specs.Prelude.{◌≡◌, ◌≤◌, ◌<◌, ℕ, List, [], map, length, slice_index_or};
+ghost use Rattle.std.specs.Prelude.{◌≡◌, ◌≤◌, ◌<◌, ℕ, List, [], true, map, length, slice_index_or};
 ghost use Rattle.shapes.specs.Places.{cell_count, room_of, IsInside};
-ghost use Rattle.shapes.specs.Shapes.{IsSound, dims_of, count_of};
+ghost use Rattle.shapes.specs.Shapes.{IsSound, dims_of, count_of, LiesIn};
+ghost use Rattle.shapes.specs.declared.Shape.{Shape};
 ghost use Rattle.shapes.specs.declared.TheConstants.{MAX_RANK};
-ghost use Rattle.hyperslab.specs.Selected.{AreAxes, IsRanked, IsSlab, axes_of, extents, extent as extent_of, on_count, point, selected, FitsIn};
+ghost use Rattle.hyperslab.specs.Selected.{AreApart, AreAxes, IsRanked, IsSlab, SlabIn, axes_of, cell_at, extents, extent as extent_of, is_at, on_count, point, selected, slab_cells, FitsIn};
+ghost use Rattle.hyperslab.specs.declared.Slab.{Slab};
 ghost use Rattle.hyperslab.specs.declared.TheConstants.{MAX_SELECTED};
 
 use crate::Slab;
@@ -24,21 +26,37 @@ impl Slab {
     pub fn count(&self) -> u64
         requires { IsSlab self.now }
         ensures listed { (dims : List ℕ) → FitsIn self.now dims → result ≡ length (selected self.now dims) }
+        ensures cells { (shape : Shape) → SlabIn self.now shape → result ≡ length (slab_cells self.now shape) }
         ensures product { result ≡ cell_count (extents self.now) }
         ensures bounded { result ≤ MAX_SELECTED }
     {
         count(&grid(self.extents()))
     }
 
-    /// The selected cell that comes at a place, in row-major order.
+    /// The selected cell of a number, from 0 in row-major order.
     pub fn coords(&self, k: u64) -> Dims
         requires slab { IsSlab self.now }
         requires below { k < cell_count (extents self.now) }
+        ensures stepped { result ≡ cell_at self.now k }
+        ensures selected { is_at (axes_of self.now) result ≡ true }
         ensures listed { (dims : List ℕ) → FitsIn self.now dims → slice_index_or (selected self.now dims) k [] ≡ result }
+        ensures cell { (shape : Shape) → SlabIn self.now shape → slice_index_or (slab_cells self.now shape) k [] ≡ result }
+        ensures inside { (shape : Shape) → SlabIn self.now shape → LiesIn result shape }
     {
         stepped(self, &coords_at(&grid(self.extents()), k))
     }
 }
+
+/// A selection's cells are those of the numbers below its count, each once.
+pub fn each_cell_once()
+    ensures counted { (s : Slab) (shape : Shape) → IsSlab s → SlabIn s shape → length (slab_cells s shape) ≡ cell_count (extents s) }
+    ensures listed { (s : Slab) (shape : Shape) (k : ℕ) → IsSlab s → SlabIn s shape → k < cell_count (extents s) → slice_index_or (slab_cells s shape) k [] ≡ cell_at s k }
+    ensures inside { (s : Slab) (shape : Shape) (k : ℕ) → IsSlab s → SlabIn s shape → k < cell_count (extents s) → LiesIn (cell_at s k) shape }
+    ensures selected { (s : Slab) (k : ℕ) → IsSlab s → k < cell_count (extents s) → is_at (axes_of s) (cell_at s k) ≡ true }
+    ensures each { (s : Slab) (at : List ℕ) → IsSlab s → is_at (axes_of s) at ≡ true → (k : ℕ) × (k < cell_count (extents s)) × (cell_at s k ≡ at) }
+    ensures once { (s : Slab) (k l : ℕ) → IsSlab s → k < cell_count (extents s) → l < cell_count (extents s) → cell_at s k ≡ cell_at s l → k ≡ l }
+    ensures apart { (s : Slab) (shape : Shape) → IsSlab s → SlabIn s shape → AreApart (slab_cells s shape) }
+{}
 
 /// A shape whose cells are the choices of a number below each extent.
 fn grid(extents: Dims) -> Shape

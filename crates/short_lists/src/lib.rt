@@ -1,7 +1,7 @@
 //! Short lists of whole numbers that are copied as a number is, and that contracts see as lists.
 #![tactic(auto)]
 
-ghost use Rattle.std.specs.Prelude.{◌≡◌, ◌<◌, ◌≤◌, ◌↔◌, ℕ, List, [], ◌∷◌, ◌++◌, length, slice_index, take, replicate, IsTrue, IsSome, IfSome};
+ghost use Rattle.std.specs.Prelude.{◌≡◌, ◌<◌, ◌≤◌, ◌↔◌, ℕ, List, [], ◌∷◌, ◌++◌, length, slice_index, slice_set, take, replicate, IsTrue, IsSome, IfSome};
 ghost use Rattle.std.specs.Str.{bytes_eq};
 ghost use Rattle.std.proofs.Common.{rules, refl};
 ghost use Rattle.std.specs.Cmp.{IsTotalOrder, partial_order_from_agreeing_total, partial_equiv_from_equiv};
@@ -126,6 +126,15 @@ impl<const N: usize> ShortList<N> {
         ensures { result ≡ slice_index self.now at }
     {
         self.as_slice()[at]
+    }
+
+    /// Replaces the number at a place.
+    pub fn set(&mut self, at: usize, n: u64)
+        requires { at < length self.old }
+        ensures { self.new ≡ slice_set self.old at n }
+    {
+        let len = self.len;
+        self.room[..len][at] = n;
     }
 
     /// The numbers in order.

@@ -1,8 +1,11 @@
 -- The place's coordinates among the extents are the steps taken on each axis.
-use Rattle.std.proofs.Common.{◌≡◌, [], List, ℕ, get_or, ap, sym, subst, ◌∙◌}
+use Rattle.std.proofs.Common.{◌≡◌, List, ℕ, ap, sym, subst, ◌∙◌}
 use Rattle.shapes.specs.Places.{IsInside, place}
-use Rattle.hyperslab.specs.Selected.{axes_of, extents, selected}
-use Rattle.hyperslab.proofs.SelectLemmas.{selected_at, lies_inside}
+use Rattle.shapes.specs.Shapes.{LiesIn}
+use Rattle.shapes.proofs.PlaceLemmas.{place_once}
+use Rattle.hyperslab.specs.Selected.{axes_of, extents, is_at, point, digits_by, cell_at}
+use Rattle.hyperslab.proofs.SelectLemmas.{lies_inside}
+use Rattle.hyperslab.proofs.CellLemmas.{digits_in, cell_listed, cell_selected, cells_listed, cells_inside}
 use Rattle.hyperslab.proofs.Slab.coords.Goals as goal
 
 pub stepped-requires-clause-inside : goal.stepped-requires-clause-inside
@@ -11,12 +14,22 @@ stepped-requires-clause-inside c =
     subst P (c.grid.ensures.dims ∙ c.extents.ensures.divided) (lies_inside c.coords_at.result c.grid.result c.coords_at.ensures.inside)
 
 pub returns : goal.returns
-returns c = record {
-  listed = λ dims fits.
-      let s = c.args.self.now in
-      let P = λ (ns : List ℕ). IsInside c.coords_at.result ns in
-      let same = c.grid.ensures.dims ∙ c.extents.ensures.divided in
-      let inside = subst P same (lies_inside c.coords_at.result c.grid.result c.coords_at.ensures.inside) in
-      let here : c.args.k ≡ place c.coords_at.result (extents s) = sym c.coords_at.ensures.place ∙ ap (place c.coords_at.result) same in
-      ap (λ n. get_or (selected s dims) n []) here ∙ selected_at (axes_of s) dims c.coords_at.result c.requires.slab.sound fits inside ∙ sym c.stepped.ensures;
-}
+returns c =
+    let s = c.args.self.now in
+    let k = c.args.k in
+    let P = λ (ns : List ℕ). IsInside c.coords_at.result ns in
+    let same = c.grid.ensures.dims ∙ c.extents.ensures.divided in
+    let inside = subst P same (lies_inside c.coords_at.result c.grid.result c.coords_at.ensures.inside) in
+    let here : place c.coords_at.result (extents s) ≡ k = sym (ap (place c.coords_at.result) same) ∙ c.coords_at.ensures.place in
+    let lies = digits_in (extents s) k c.requires.below in
+    let digits = place_once c.coords_at.result (digits_by (extents s) k) (extents s) inside lies.0 (here ∙ sym lies.1) in
+    let found : c.stepped.result ≡ cell_at s k = c.stepped.ensures ∙ ap (λ ks. point ks (axes_of s)) digits in
+    record {
+      stepped = found;
+      selected = ap (is_at (axes_of s)) found ∙ cell_selected s k c.requires.slab c.requires.below;
+      listed = λ dims fits. cell_listed s dims k c.requires.slab fits c.requires.below ∙ sym found;
+      cell = λ shape within. cells_listed s shape k c.requires.slab within c.requires.below ∙ sym found;
+      inside = λ shape within.
+          (let Q = λ (at : List ℕ). LiesIn at shape in
+          subst Q (sym found) (cells_inside s shape k c.requires.slab within c.requires.below));
+    }

@@ -1,6 +1,11 @@
 -- The reading follows the grammar.
-use Rattle.std.proofs.Common.{inl, inr, ◌∙◌}
+use Rattle.std.proofs.Common.{inl, inr, subst, sym, ◌∙◌}
+use Rattle.std.specs.Prelude.{Result, IfOk}
+use Rattle.hyperslab.specs.declared.Slab.{Slab}
+use Rattle.hyperslab.specs.declared.SlabFault.{SlabFault}
+use Rattle.hyperslab.specs.Selected.{SlabIn}
 use Rattle.hyperslab.proofs.TextLemmas.{text_spelled, text_told, text_bad}
+use Rattle.hyperslab.proofs.WithinLemmas.{text_within}
 use Rattle.hyperslab.proofs.reading.read_select.Goals as goal
 
 pub returns-clause-spelled : goal.returns-clause-spelled
@@ -11,3 +16,8 @@ returns-clause-bad c = λ byte h. c.first_of.ensures.first ∙ text_bad c.args.t
 
 pub returns-clause-one_of : goal.returns-clause-one_of
 returns-clause-one_of c = elim (text_told c.args.text.now c.args.shape.now) [ inl h ↦ inl h | inr h ↦ inr (h.byte, h.first) ]
+
+pub returns-clause-within : goal.returns-clause-within
+returns-clause-within c =
+    let P = λ (r : Result Slab SlabFault). IfOk r (λ s. SlabIn s c.args.shape.now) in
+    subst P (sym c.first_of.ensures.first) (text_within c.args.text.now c.args.shape.now)

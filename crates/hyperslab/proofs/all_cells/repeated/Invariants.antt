@@ -1,5 +1,5 @@
 use Rattle.std.proofs.Common.{◌≡◌, ◌≤◌, ◌-◌, length, replicate}
-use Rattle.hyperslab.proofs.judging.repeated.Given as goal
+use Rattle.hyperslab.proofs.all_cells.repeated.Given as goal
 
 abbrev pub invariant-loop-dims : goal.invariant-loop-dims
 invariant-loop-dims l = record {

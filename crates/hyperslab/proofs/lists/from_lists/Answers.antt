@@ -1,0 +1,13 @@
+-- What is judged of a shape lies in it.
+use Rattle.std.proofs.Common.{subst, sym}
+use Rattle.std.specs.Prelude.{Result, IfOk}
+use Rattle.hyperslab.specs.declared.Slab.{Slab}
+use Rattle.hyperslab.specs.declared.SlabFault.{SlabFault}
+use Rattle.hyperslab.specs.Selected.{SlabIn}
+use Rattle.hyperslab.proofs.WithinLemmas.{judged_within}
+use Rattle.hyperslab.proofs.lists.from_lists.Goals as goal
+
+pub returns-in-Some-clause-within : goal.returns-in-Some-clause-within
+returns-in-Some-clause-within c =
+    let P = λ (r : Result Slab SlabFault). IfOk r (λ s. SlabIn s c.args.shape.now) in
+    subst P (sym c.judged.ensures.first) (judged_within c.args.shape.now c.in-Some.slab)

@@ -1,0 +1,65 @@
+//! The selection of every cell of a shape.
+
+ghost use Rattle.std.specs.Prelude.{◌≡◌, ◌≤◌, [], ◌∷◌, IfOk, length, replicate};
+ghost use Rattle.shapes.specs.Shapes.{IsSound};
+ghost use Rattle.shapes.specs.declared.TheConstants.{MAX_RANK};
+ghost use Rattle.hyperslab.specs.Selected.{IsSlab, SlabIn};
+ghost use Rattle.hyperslab.specs.Judged.{whole_of, all_of};
+
+use crate::judging::bounded;
+use crate::{Slab, SlabFault};
+use shapes::{Dims, Shape};
+
+/// The selection of every cell of a shape. A shape without a cell has one axis of which no number
+/// is selected.
+///
+/// # Errors
+///
+/// [`SlabFault::TooMany`], where the shape has too many cells.
+pub fn whole(shape: &Shape) -> Result<Slab, SlabFault>
+    requires { IsSound shape.now }
+    ensures first { result ≡ whole_of shape.now }
+    ensures within { IfOk result (λ s. SlabIn s shape.now) }
+    ensures sound { IfOk result IsSlab }
+{
+    match shape {
+        Shape::Simple { dims, .. } => bounded(all_of_dims(dims)),
+        Shape::Null => Ok(no_cell()),
+        Shape::Scalar => Ok(no_axis()),
+    }
+}
+
+fn all_of_dims(dims: &Dims) -> Slab
+    ensures { result ≡ all_of dims.now }
+{
+    Slab {
+        start: repeated(0, dims.len()),
+        stop: *dims,
+        step: repeated(1, dims.len()),
+    }
+}
+
+pub(crate) fn repeated(n: u64, times: usize) -> Dims
+    requires { times ≤ MAX_RANK }
+    ensures { result ≡ replicate times n }
+{
+    let mut dims = Dims::new();
+    while dims.len() < times {
+        dims.push(n);
+    }
+    dims
+}
+
+fn no_axis() -> Slab
+    ensures { result ≡ all_of [] }
+{
+    all_of_dims(&Dims::new())
+}
+
+fn no_cell() -> Slab
+    ensures { result ≡ all_of (0 ∷ []) }
+{
+    let mut dims = Dims::new();
+    dims.push(0);
+    all_of_dims(&dims)
+}

@@ -1,0 +1,81 @@
+//! Selections by lists of numbers.
+
+ghost use Rattle.std.specs.Prelude.{◌≡◌, List, Option, Some, None, IfOk, replicate, option_map};
+ghost use Rattle.serde_json.specs.View.{view};
+ghost use Rattle.shapes.specs.Shapes.{IsSound, dims_of};
+ghost use Rattle.hyperslab.specs.Selected.{IsSlab, SlabIn};
+ghost use Rattle.hyperslab.specs.Judged.{list_or as list_from, lists_in, is_absent as absent, is_scalar as scalar, lists_slab};
+
+use crate::all_cells::{repeated, whole};
+use crate::judging::{judged, shape_dims};
+use crate::{Slab, SlabFault};
+use serde_json::Value;
+use shapes::{Dims, Shape, read_dims};
+
+/// The selection by lists of starts, stops and steps. An absent list is a 0 for each axis, the dims
+/// or a 1 for each axis. A scalar's one cell is selected where all three are absent.
+///
+/// # Errors
+///
+/// The first fault in the order of [`SlabFault`], as its text says.
+pub fn from_lists(
+    start: Option<&Value>,
+    stop: Option<&Value>,
+    step: Option<&Value>,
+    shape: &Shape,
+) -> Result<Slab, SlabFault>
+    requires { IsSound shape.now }
+    ensures first { result ≡ lists_slab shape.now (option_map (λ v. view v.now) start.entry) (option_map (λ v. view v.now) stop.entry) (option_map (λ v. view v.now) step.entry) }
+    ensures within { IfOk result (λ s. SlabIn s shape.now) }
+    ensures sound { IfOk result IsSlab }
+{
+    if is_scalar(shape) && is_absent(start) && is_absent(stop) && is_absent(step) {
+        return whole(shape);
+    }
+    match lists(&shape_dims(shape), start, stop, step) {
+        None => Err(SlabFault::Syntax { byte: 0 }),
+        Some(slab) => judged(shape, &slab),
+    }
+}
+
+fn is_scalar(shape: &Shape) -> bool
+    ensures { result ≡ scalar shape.now }
+{
+    match shape {
+        Shape::Null => false,
+        Shape::Scalar => true,
+        Shape::Simple { .. } => false,
+    }
+}
+
+fn is_absent(tree: Option<&Value>) -> bool
+    ensures { result ≡ absent (option_map (λ v. view v.now) tree.entry) }
+{
+    match tree {
+        None => true,
+        Some(_) => false,
+    }
+}
+
+fn lists(
+    dims: &Dims,
+    start: Option<&Value>,
+    stop: Option<&Value>,
+    step: Option<&Value>,
+) -> Option<Slab>
+    ensures { result ≡ lists_in dims.now (option_map (λ v. view v.now) start.entry) (option_map (λ v. view v.now) stop.entry) (option_map (λ v. view v.now) step.entry) }
+{
+    let start = list_or(repeated(0, dims.len()), start)?;
+    let stop = list_or(*dims, stop)?;
+    let step = list_or(repeated(1, dims.len()), step)?;
+    Some(Slab { start, stop, step })
+}
+
+fn list_or(absent: Dims, tree: Option<&Value>) -> Option<Dims>
+    ensures { result ≡ list_from absent (option_map (λ v. view v.now) tree.entry) }
+{
+    match tree {
+        None => Some(absent),
+        Some(tree) => read_dims(tree),
+    }
+}
