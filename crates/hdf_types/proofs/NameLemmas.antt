@@ -1,9 +1,12 @@
 -- Names that stand once.
-use Rattle.std.proofs.Common.{◌≡◌, ◌≢◌, ℕ, suc, ◌||◌, Bool, true, false, List, [], ◌∷◌, ◌++◌, Some, None, inl, inr, refl, sym, ap, ◌∙◌}
+use Rattle.std.proofs.Common.{◌≡◌, ◌≢◌, ℕ, suc, ◌||◌, Bool, true, false, not, List, [], ◌∷◌, ◌++◌, length, Option, Some, None, inl, inr, refl, sym, ap, ◌∙◌}
+use Rattle.std.specs.Option.{is_some}
 use Rattle.std.specs.List.{list_any, AllByRecursion}
 use Rattle.std.specs.Str.{bytes_eq}
 use Rattle.json_trees.proofs.TableLemmas.{equal_bytes, differs}
 use Rattle.json_trees.proofs.FaultLemmas.{chosen}
+use Rattle.hdf_types.specs.declared.types.Field.{Field}
+use Rattle.hdf_types.specs.Views.{field_names}
 use Rattle.hdf_types.specs.Reading.{first_again}
 use Rattle.hdf_types.specs.Types.{IsDistinct}
 
@@ -76,3 +79,13 @@ distinct_told ns e = (none_again 0 [] ns e).1
 
 pub distinct_read : (ns : List (List ℕ)) → IsDistinct ns → first_again 0 [] ns ≡ None
 distinct_read ns h = again_none 0 [] ns (fresh_none ns) h
+
+pub distinct_found : (o : Option ℕ) (b : Bool) (ns : List (List ℕ)) → o ≡ first_again 0 [] ns → is_some o ≡ not b → (b ≡ true → IsDistinct ns) × (IsDistinct ns → b ≡ true)
+distinct_found None true ns e s = (λ h. distinct_told ns (sym e), λ h. refl)
+distinct_found None false ns e s = cc
+distinct_found (Some k) true ns e s = cc
+distinct_found (Some k) false ns e s = (λ h. cc, λ h. cc (distinct_read ns h))
+
+pub as_many_names : (fs : List Field) → length (field_names fs) ≡ length fs
+as_many_names [] = refl
+as_many_names (f ∷ fs) = ap suc (as_many_names fs)

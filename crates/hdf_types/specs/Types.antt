@@ -40,6 +40,14 @@ abbrev pub IsDistinct : List (List ℕ) → Type 0
 IsDistinct [] = Unit {0}
 IsDistinct (n ∷ ns) = AllByRecursion (λ m. m ≢ n) ns × IsDistinct ns
 
+-- the names of a compound's fields
+abbrev pub AreNames : List (List ℕ) → Type 0
+AreNames names = (1 ≤ length names) × (length names ≤ MAX_FIELDS) × IsDistinct names
+
+-- the bytes of a field's name
+abbrev pub IsName : List ℕ → Type 0
+IsName name = (1 ≤ length name) × (length name ≤ MAX_NAME)
+
 abbrev mutual
   pub IsTypeOf : Data → Elem → Type 0
   IsTypeOf d (int t) = IsIntText d t ⊎ IsIntObject d t

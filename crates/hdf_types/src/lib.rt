@@ -4,6 +4,8 @@
 //! The forms are those of the HDF5/JSON specification and the HDF REST API, "Type".
 #![tactic(auto)]
 
+ghost use Rattle.std.specs.Prelude.{◌≡◌};
+
 use short_lists::ShortList;
 
 mod faults;
@@ -35,6 +37,15 @@ pub const MAX_NAME: usize = 255;
 
 /// The largest element, in bytes.
 pub const MAX_SIZE: u64 = 1_048_576;
+
+/// The limits, as numbers.
+pub fn limits()
+    ensures nesting { MAX_NESTING ≡ 4 }
+    ensures fields { MAX_FIELDS ≡ 64 }
+    ensures text { MAX_TEXT ≡ 65_535 }
+    ensures name { MAX_NAME ≡ 255 }
+    ensures size { MAX_SIZE ≡ 1_048_576 }
+{}
 
 /// The place of a type in a type: a field's index for each compound around it.
 pub type FieldPath = ShortList<5>;

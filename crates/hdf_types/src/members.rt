@@ -1,16 +1,17 @@
 //! The members of a compound's list of fields, before their types are read.
 
-ghost use Rattle.std.specs.Prelude.{◌≡◌, ◌≤◌, [], map, length, option_map};
+ghost use Rattle.std.specs.Prelude.{◌≡◌, ◌≤◌, ◌↔◌, [], map, length, option_map, IsTrue};
 ghost use Rattle.std.specs.List.{list_any};
 ghost use Rattle.std.specs.Str.{bytes_eq};
 ghost use Rattle.serde_json.specs.View.{view};
 ghost use Rattle.hdf_types.specs.Faults.{Gives};
 ghost use Rattle.hdf_types.specs.Views.{field_list, field_names};
 ghost use Rattle.hdf_types.specs.Reading.{name_in, is_member, list_pass, members_in, first_again as again_from, distinct_at};
+ghost use Rattle.hdf_types.specs.Types.{AreNames, IsDistinct};
 ghost use Rattle.hdf_types.specs.declared.TheConstants.{MAX_FIELDS};
 
 use crate::faults::refused;
-use crate::{Cause, Field, FieldPath, Fields, MAX_NAME, TypeFault};
+use crate::{Cause, Field, FieldPath, Fields, MAX_FIELDS, MAX_NAME, TypeFault};
 use json_trees::{list_items, member_text};
 use serde_json::Value;
 
@@ -66,6 +67,21 @@ pub fn distinct(list: Vec<Field>, path: &FieldPath) -> Result<Fields, TypeFault>
         Some(index) => Err(refused(path, Cause::DupField { index })),
         None => Ok(Fields::from_list(list)),
     }
+}
+
+/// Whether these may be the fields of a compound: 1 to [`MAX_FIELDS`], and no name twice.
+#[tactic(auto, using(crate::proofs::NameLemmas::as_many_names))]
+pub fn are_fields(fields: &[Field]) -> bool
+    ensures { IsTrue result ↔ AreNames (field_names fields.now) }
+{
+    1 <= fields.len() && fields.len() <= MAX_FIELDS && is_distinct(fields)
+}
+
+fn is_distinct(fields: &[Field]) -> bool
+    requires { length fields.now ≤ MAX_FIELDS }
+    ensures { IsTrue result ↔ IsDistinct (field_names fields.now) }
+{
+    first_again(fields).is_none()
 }
 
 fn first_again(fields: &[Field]) -> Option<u8>

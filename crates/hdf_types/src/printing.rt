@@ -1,11 +1,11 @@
 //! The tree that spells a type (HDF5/JSON, "Type"), in its full form.
 
 ghost use Rattle.std.specs.Prelude.{◌≡◌, Ok, IfOk};
-ghost use Rattle.serde_json.specs.Data.{Data, array};
+ghost use Rattle.serde_json.specs.Data.{array};
 ghost use Rattle.serde_json.specs.View.{view, items_of};
 ghost use Rattle.hdf_types.specs.Views.{elem};
 ghost use Rattle.hdf_types.specs.Reading.{type_of};
-ghost use Rattle.hdf_types.specs.Types.{IsType};
+ghost use Rattle.hdf_types.specs.Types.{IsSoundType};
 ghost use Rattle.hdf_types.specs.Printed.{pick_of, int_name, set_name, pad_name, int_tree, text_tree, field_tree, type_tree, fields_trees};
 
 use crate::{ElemType, Field, Fields, IntType, Pad, TextType};
@@ -19,7 +19,8 @@ use std::alloc::{AllocError, Global};
 /// Only where memory runs out.
 pub fn type_json(alloc: Global, kind: &ElemType) -> Result<Value, AllocError>
     ensures tree { IfOk result (λ v. view v ≡ type_tree (elem kind.now)) }
-    ensures reads_back { (d : Data) → IsType d (elem kind.now) → IfOk result (λ v. type_of (view v) ≡ Ok (elem kind.now)) }
+    ensures reads_back { IsSoundType (elem kind.now)
+        → IfOk result (λ v. type_of (view v) ≡ Ok (elem kind.now)) }
 {
     kind_json(alloc, kind)
 }

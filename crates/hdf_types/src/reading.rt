@@ -122,7 +122,8 @@ fn each(
     path: &FieldPath,
 ) -> Result<Vec<Field>, TypeFault>
     requires { length path.now + levels + 1 ≤ 4 }
-    ensures gives { Gives (λ v. field_list v.items) result (each_at (node_at levels) path.now 0 (map view items.now)) }
+    ensures gives { Gives (λ v. field_list v.items) result
+        (each_at (node_at levels) path.now 0 (map view items.now)) }
     ensures count { IfOk result (λ v. length v.items ≡ length items.now) }
 {
     let mut list = Vec::new(alloc);
@@ -149,6 +150,6 @@ fn member(
     let mut inner = *path;
     inner.push(index as u64);
     let elem = node(alloc, tree, levels, &inner)?;
-    let name = FieldName::from_text(alloc, name)?;
+    let name = FieldName::copy_of(alloc, name)?;
     Ok(Field { name, elem })
 }

@@ -318,3 +318,43 @@ fn sizes_have_no_gaps_and_copies_are_equal(rt: HostRuntime) -> Result<(), AllocE
     }
     Ok(())
 }
+
+/// A compound of bytes with these names, none where they make no compound.
+fn named(rt: &impl AllocGlobal, names: &[&str]) -> Result<Option<Fields>, AllocError> {
+    let mut list = Vec::new(rt.alloc());
+    for name in names {
+        let Some(name) = FieldName::from_text(String::from_str(rt.alloc(), name)?) else {
+            return Ok(None);
+        };
+        let elem = ElemType::Int(IntType {
+            signed: false,
+            bits: 8,
+            big: false,
+        });
+        list.push(Field { name, elem })?;
+    }
+    Ok(Fields::from_vec(list))
+}
+
+#[test]
+fn compounds_are_made_and_given_back(rt: HostRuntime) -> Result<(), AllocError> {
+    for (names, passes) in [
+        (["a", "b"].as_slice(), true),
+        (["a", "b", "a"].as_slice(), false),
+        (["a", ""].as_slice(), false),
+        ([].as_slice(), false),
+    ] {
+        let fields = named(&rt, names)?;
+        assert_eq!(rt; fields.is_some(), passes);
+        let Some(fields) = fields else {
+            continue;
+        };
+        let mut list = fields.into_vec();
+        while let Some(field) = list.pop() {
+            let last = list.len();
+            let text = field.name.into_text();
+            assert!(rt; last < names.len() && text.as_str() == names[last]);
+        }
+    }
+    Ok(())
+}

@@ -1,11 +1,13 @@
 //! Types of elements, as a tree of compounds.
 
-ghost use Rattle.std.specs.Prelude.{◌≡◌, ◌<◌, ◌^◌, IfOk};
-ghost use Rattle.hdf_types.specs.Views.{elem, field_list};
+ghost use Rattle.std.specs.Prelude.{◌≡◌, ◌<◌, ◌^◌, ◌↔◌, IfOk, IfSome, IsSome, string_bytes};
+ghost use Rattle.hdf_types.specs.Views.{elem, field_list, field_names};
 ghost use Rattle.hdf_types.specs.Reading.{size_of};
+ghost use Rattle.hdf_types.specs.Types.{IsName, AreNames};
 
+use crate::members::are_fields;
 use crate::walks::{capped_size, copied};
-use crate::{IntType, TextType};
+use crate::{IntType, MAX_NAME, TextType};
 use std::alloc::{AllocError, Global};
 use std::marker::Model;
 
@@ -92,7 +94,19 @@ impl ElemType {
 }
 
 impl FieldName {
-    pub(crate) fn from_text(alloc: Global, text: &str) -> Result<FieldName, AllocError>
+    /// The name that this text is, none where it is empty or longer than [`MAX_NAME`] bytes.
+    pub fn from_text(text: String) -> Option<FieldName>
+        ensures name { IsSome result ↔ IsName (string_bytes text) }
+        ensures same { IfSome result (λ name. name ≡ string_bytes text) }
+    {
+        if 1 <= text.len() && text.len() <= MAX_NAME {
+            Some(FieldName { text })
+        } else {
+            None
+        }
+    }
+
+    pub(crate) fn copy_of(alloc: Global, text: &str) -> Result<FieldName, AllocError>
         ensures { IfOk result (λ n. n ≡ text.now) }
     {
         let text = String::from_str(alloc, text)?;
@@ -105,9 +119,30 @@ impl FieldName {
     {
         self.text.as_str()
     }
+
+    /// The text of which the name was made.
+    pub fn into_text(self) -> String
+        ensures { string_bytes result ≡ self }
+    {
+        let FieldName { text } = self;
+        text
+    }
 }
 
 impl Fields {
+    /// A compound's fields, none where the list is empty or longer than [`crate::MAX_FIELDS`], or
+    /// a name stands twice in it.
+    pub fn from_vec(list: Vec<Field>) -> Option<Fields>
+        ensures names { IsSome result ↔ AreNames (field_names list.items) }
+        ensures same { IfSome result (λ fields. fields ≡ field_list list.items) }
+    {
+        if are_fields(list.as_slice()) {
+            Some(Fields { list })
+        } else {
+            None
+        }
+    }
+
     pub(crate) fn from_list(list: Vec<Field>) -> Fields
         ensures { result ≡ field_list list.items }
     {
@@ -119,5 +154,13 @@ impl Fields {
         ensures { field_list result.now ≡ self.now }
     {
         self.list.as_slice()
+    }
+
+    /// The list of which the fields were made.
+    pub fn into_vec(self) -> Vec<Field>
+        ensures { field_list result.items ≡ self }
+    {
+        let Fields { list } = self;
+        list
     }
 }

@@ -51,7 +51,7 @@ fn copied_fields(alloc: Global, fields: &Fields) -> Result<Fields, AllocError>
 {
     let mut list = Vec::new(alloc);
     for field in fields.as_slice() {
-        let name = FieldName::from_text(alloc, field.name.text())?;
+        let name = FieldName::copy_of(alloc, field.name.text())?;
         let elem = copied(alloc, &field.elem)?;
         list.push(Field { name, elem })?;
     }
