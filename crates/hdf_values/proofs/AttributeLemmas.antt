@@ -1,5 +1,5 @@
 -- An attribute that a tree spells is what the tests in order give.
-use Rattle.std.proofs.Common.{◌≡◌, ℕ, ◌*◌, ◌≤◌, List, [], Option, Some, None, Result, Ok, Err, inl, inr, sym, refl, ap, ◌∙◌}
+use Rattle.std.proofs.Common.{◌≡◌, ℕ, ◌*◌, ◌≤◌, List, Option, Some, None, Result, Ok, Err, inl, inr, sym, refl, ap, ◌∙◌}
 use Rattle.std.specs.Prelude.{codes}
 use Rattle.std.specs.Result.{IsErrAnd}
 use Rattle.std.proofs.lemmas.Bool.{le-leb}
@@ -14,13 +14,11 @@ use Rattle.hdf_types.specs.Faults.{Fault, Fails as TypeFails, fault}
 use Rattle.hdf_types.specs.Reading.{size_of}
 use Rattle.hdf_types.proofs.TypeLemmas.{type_read}
 use Rattle.shapes.specs.declared.Shape.{Shape}
-use Rattle.shapes.specs.declared.Shape.TheVariants.{Null, Scalar, Simple}
 use Rattle.shapes.specs.Shapes.{count_of}
 use Rattle.shapes.proofs.ShapeLemmas.{shape_read}
-use Rattle.hdf_values.specs.declared.TheConstants.{MAX_ATTRIBUTE}
 use Rattle.hdf_values.specs.declared.attributes.AttributeFault.{AttributeFault}
-use Rattle.hdf_values.specs.Attributes.{Content, IsAttribute, IsTypeAt, IsValue, IsValueAt, Fails, Gives, type_fault, attribute_of, type_or, typed_at, shape_or, value_or, null_value, value_at, valued_at, sized_at}
-use Rattle.hdf_values.proofs.NestedLemmas.{nested_read}
+use Rattle.hdf_values.specs.Attributes.{Content, IsAttribute, IsTypeAt, IsValueAt, most_bytes, Fails, Gives, type_fault, attribute_of, type_or, typed_at, shape_or, value_or, valued_at, sized_at}
+use Rattle.hdf_values.proofs.ShapedLemmas.{value_read}
 
 -- a fault of the type is the attribute's
 
@@ -37,17 +35,12 @@ typed_read : (o : Option Data) (e : Elem) → IsTypeAt o e → typed_at o ≡ Ok
 typed_read None e h = absurd h
 typed_read (Some d) e h = ap type_or (type_read d e h)
 
-value_read : (e : Elem) (s : Shape) (d : Data) (bs : List ℕ) → IsValue e s d bs → value_at e s d ≡ Ok bs
-value_read e Null d bs h = ap null_value h.0 ∙ ap Ok (sym h.1)
-value_read e Scalar d bs h = nested_read e [] 0 d h.0 ∙ ap Ok (sym h.1)
-value_read e (Simple dims limits) d bs h = nested_read e dims 0 d h.0 ∙ ap Ok (sym h.1)
-
 valued_read : (e : Elem) (s : Shape) (o : Option Data) (bs : List ℕ) → IsValueAt e s o bs → valued_at e s o ≡ Ok bs
 valued_read e s None bs h = absurd h
 valued_read e s (Some d) bs h = value_read e s d bs h
 
-sized_read : (e : Elem) (s : Shape) (o : Option Data) (bs : List ℕ) → count_of s * size_of e ≤ MAX_ATTRIBUTE → IsValueAt e s o bs → sized_at e s (value_or (valued_at e s o)) ≡ Ok bs
-sized_read e s o bs small h = rw (le-leb (count_of s * size_of e) MAX_ATTRIBUTE small) (ap value_or (valued_read e s o bs h))
+sized_read : (e : Elem) (s : Shape) (o : Option Data) (bs : List ℕ) → count_of s * size_of e ≤ most_bytes → IsValueAt e s o bs → sized_at e s (value_or (valued_at e s o)) ≡ Ok bs
+sized_read e s o bs small h = rw (le-leb (count_of s * size_of e) most_bytes small) (ap value_or (valued_read e s o bs h))
 
 pub attribute_read : (d : Data) (c : Content) → IsAttribute d c → attribute_of d ≡ Ok c
 unfolding attribute_of

@@ -4,8 +4,10 @@ pub mod Weights
 pub mod ElementLemmas
 pub mod EncodedLemmas
 pub mod DecodedLemmas
+pub mod PieceLemmas
 pub mod NestedLemmas
 pub mod ReadLemmas
 pub mod WriteLemmas
 pub mod RowLemmas
+pub mod ShapedLemmas
 pub mod AttributeLemmas

@@ -1,35 +1,23 @@
 -- Lists of elements and their bytes.
-use Rattle.std.proofs.Common.{◌≡◌, ℕ, zero, suc, ◌+◌, ◌*◌, ◌≤◌, List, [], ◌∷◌, ◌++◌, length, map, take, drop, Option, Some, Result, Ok, inl, inr, refl, sym, ap, ◌∙◌, arith, mul_assoc, eq-eqb}
+use Rattle.std.proofs.Common.{◌≡◌, ℕ, zero, suc, ◌+◌, ◌*◌, List, [], ◌∷◌, ◌++◌, length, map, take, drop, Option, Some, Result, Ok, refl, sym, ap, ◌∙◌, arith, mul_assoc, eq-eqb}
 use Rattle.std.specs.List.{AllByRecursion, flat_map}
 use Rattle.std.proofs.lemmas.Grind.{flat_map-append}
-use Rattle.std.proofs.lemmas.List.{append-nil, length-append, length-drop, length-take-le, length-map, take-append-le, drop-append-le, take-append-drop, take_all}
+use Rattle.std.proofs.lemmas.List.{append-nil, length-append, length-drop, length-map, take-append-drop}
 use Rattle.std.proofs.lemmas.List.Folds.{flat_map-map}
 use Rattle.std.proofs.Math.Seq.{take-append_seam, drop-append_seam}
 use Rattle.serde_json.specs.Data.{Data, array}
 use Rattle.serde_json.specs.View.{items_of}
 use Rattle.json_trees.specs.Trees.{list_of, list_in}
-use Rattle.hdf_types.specs.Elems.{Elem, int, text, compound, no_fields, field}
-use Rattle.hdf_types.specs.Reading.{size_of, int_size}
-use Rattle.hdf_types.specs.Types.{IsSoundType, IsFormed, IsWidth}
+use Rattle.hdf_types.specs.Elems.{Elem}
+use Rattle.hdf_types.specs.Reading.{size_of}
+use Rattle.hdf_types.specs.Types.{IsSoundType}
 use Rattle.shapes.specs.Places.{cell_count}
 use Rattle.hdf_values.specs.declared.faults.ValueFault.{ValueFault}
-use Rattle.hdf_values.specs.Elements.{Fits, bytes_of, normal, decoded, IsEncoded}
-use Rattle.hdf_values.specs.Nested.{FitsNested, elements, nested_bytes, nested_normal, pieces, AreEncoded, nested_decoded, each_nested, counted, nested_from}
-use Rattle.hdf_values.proofs.ElementLemmas.{list_of-items_of, encoded-fits, length-bytes_of, decoded-bytes_of, normal_fits, bytes_of-normal}
-
--- ---- an element has a byte
-
-some_width : (bits : ℕ) → IsWidth bits → 1 ≤ int_size bits
-some_width bits (inl e) = omega arith
-some_width bits (inr (inl e)) = omega arith
-some_width bits (inr (inr (inl e))) = omega arith
-some_width bits (inr (inr (inr e))) = omega arith
-
-pub some_size : (e : Elem) → IsFormed e → 1 ≤ size_of e
-some_size (int t) h = some_width t.bits h
-some_size (text t) h = h.0
-some_size (compound no_fields) h = absurd (omega (arith, h.0))
-some_size (compound (field n e rest)) h = omega (arith, some_size e h.3.2)
+use Rattle.hdf_values.specs.Elements.{Fits, bytes_of, decoded, IsEncoded}
+use Rattle.hdf_values.specs.Nested.{FitsNested, elements, nested_bytes, nested_normal, nested_decoded, each_nested, counted, nested_from}
+use Rattle.hdf_values.specs.Pieces.{pieces, AreEncoded}
+use Rattle.hdf_values.proofs.ElementLemmas.{list_of-items_of, encoded-fits, length-bytes_of, decoded-bytes_of}
+use Rattle.hdf_values.proofs.PieceLemmas.{all_append, length-pieces, each_encoded, one_encoded, decoded_fits}
 
 -- ---- lists of lists
 
@@ -40,16 +28,6 @@ flat_flat f g (x ∷ xs) = flat_map-append f (g x) (flat_map g xs) ∙ ap (λ ys
 pub length-flat : {A B : Type 0} (F : A → Type 0) (g : A → List B) (k : ℕ) → ((x : A) → F x → length (g x) ≡ k) → (xs : List A) → AllByRecursion F xs → length (flat_map g xs) ≡ length xs * k
 length-flat F g k each [] h = omega arith
 length-flat F g k each (x ∷ xs) h = length-append (g x) (flat_map g xs) ∙ omega (arith, each x h.0, length-flat F g k each xs h.1)
-
-all_append : {A : Type 0} (F : A → Type 0) (xs ys : List A) → AllByRecursion F xs → AllByRecursion F ys → AllByRecursion F (xs ++ ys)
-all_append F [] ys h k = k
-all_append F (x ∷ xs) ys h k = (h.0, all_append F xs ys h.1 k)
-
-pub all_parts : {A : Type 0} (F : A → Type 0) (xs ys : List A) → AllByRecursion F (xs ++ ys) → AllByRecursion F xs × AllByRecursion F ys
-all_parts F [] ys h = (tt, h)
-all_parts F (x ∷ xs) ys h =
-    let parts = all_parts F xs ys h.1 in
-    ((h.0, parts.0), parts.1)
 
 all_flat : {A B : Type 0} (F : A → Type 0) (G : B → Type 0) (g : A → List B) → ((x : A) → F x → AllByRecursion G (g x)) → (xs : List A) → AllByRecursion F xs → AllByRecursion G (flat_map g xs)
 all_flat F G g each [] h = tt
@@ -65,10 +43,6 @@ map_each F f g h each (x ∷ xs) k = rw (each x k.0, map_each F f g h each xs k.
 
 -- ---- pieces
 
-length-pieces : (n k : ℕ) (bs : List ℕ) → length (pieces n k bs) ≡ n
-length-pieces zero k bs = refl
-length-pieces (suc n) k bs = ap suc (length-pieces n k (drop k bs))
-
 pub first_piece : (k : ℕ) (xs ys : List ℕ) → length xs ≡ k → take k (xs ++ ys) ≡ xs
 first_piece k xs ys e = rw (← e) (take-append_seam xs ys)
 
@@ -81,17 +55,6 @@ pieces-flat F g k each (x ∷ xs) h =
     let first = first_piece k (g x) (flat_map g xs) (each x h.0) in
     let after = after_piece k (g x) (flat_map g xs) (each x h.0) in
     rw (first, after, pieces-flat F g k each xs h.1)
-
-pieces-append : (a b n k : ℕ) (xs ys : List ℕ) → a + b ≡ n → length xs ≡ a * k → pieces n k (xs ++ ys) ≡ pieces a k xs ++ pieces b k ys
-pieces-append zero b n k [] ys q e =
-    let same : n ≡ b = omega arith in
-    rw same
-pieces-append zero b n k (x ∷ xs) ys q e = absurd (omega arith)
-pieces-append (suc a) b zero k xs ys q e = absurd (omega arith)
-pieces-append (suc a) b (suc n) k xs ys q e =
-    let enough : k ≤ length xs = omega arith in
-    let rest : length (drop k xs) ≡ a * k = omega (arith, length-drop k xs) in
-    rw (take-append-le k xs ys enough, drop-append-le k xs ys enough, pieces-append a b n k (drop k xs) ys (omega arith) rest)
 
 -- pieces that stay as they are make the whole
 rejoined : (F : List ℕ → Type 0) (f : List ℕ → List ℕ) → ((xs : List ℕ) → F xs → f xs ≡ xs) → (n k : ℕ) (bs : List ℕ) → length bs ≡ n * k → AllByRecursion F (pieces n k bs) → flat_map f (pieces n k bs) ≡ bs
@@ -166,37 +129,6 @@ nested_back e (n ∷ ns) d s h =
     ∙ pieces-flat (FitsNested e ns) (nested_bytes e ns) k (λ x q. length-nested_bytes e ns x s q) ds h.3 in
     let each = map_each (FitsNested e ns) (nested_decoded e ns) (nested_bytes e ns) (nested_normal e ns) (λ x q. nested_back e ns x s q) ds h.3 in
     rw (split, each, is_list)
-
--- ---- the bytes of several elements
-
-first_encoded : (e : Elem) (a b n : ℕ) (xs ys : List ℕ) → a + b ≡ n → length xs ≡ a * size_of e → AreEncoded e n (xs ++ ys) → AreEncoded e a xs × AreEncoded e b ys
-first_encoded e a b n xs ys q len h =
-    let each = all_parts (IsEncoded e) (pieces a (size_of e) xs) (pieces b (size_of e) ys) (rw (pieces-append a b n (size_of e) xs ys q len) at h.each) in
-    let total : (a + b) * size_of e ≡ n * size_of e = ap (λ m. m * size_of e) q in
-    (record { whole = len; each = each.0 }, record { whole = omega (arith, total, length-append xs ys, h.whole); each = each.1 })
-
-pub encoded_parts : (e : Elem) (a b n : ℕ) (bs : List ℕ) → a + b ≡ n → AreEncoded e n bs → AreEncoded e a (take (a * size_of e) bs) × AreEncoded e b (drop (a * size_of e) bs)
-encoded_parts e a b n bs q h =
-    let k = a * size_of e in
-    let total : (a + b) * size_of e ≡ n * size_of e = ap (λ m. m * size_of e) q in
-    let enough : a * size_of e ≤ length bs = omega (arith, total, h.whole) in
-    first_encoded e a b n (take k bs) (drop k bs) q (length-take-le k bs enough) (rw (take-append-drop k bs) h)
-
-each_encoded : (e : Elem) (c n : ℕ) (bs : List ℕ) → AreEncoded e (n * c) bs → AllByRecursion (AreEncoded e c) (pieces n (c * size_of e) bs)
-each_encoded e c zero bs h = tt
-each_encoded e c (suc n) bs h =
-    let parts = encoded_parts e c (n * c) (suc n * c) bs (omega arith) h in
-    (parts.0, each_encoded e c n (drop (c * size_of e) bs) parts.1)
-
-pub one_encoded : (e : Elem) (bs : List ℕ) → AreEncoded e 1 bs → IsEncoded e bs
-one_encoded e bs h =
-    let whole : take (size_of e) bs ≡ bs = take_all (size_of e) bs (omega (arith, h.whole)) in
-    rw whole at h.each.0
-
-decoded_fits : (e : Elem) (bs : List ℕ) → IsSoundType e → IsEncoded e bs → Fits e (decoded e bs) × (bytes_of e (decoded e bs) ≡ bs)
-decoded_fits e bs s h =
-    let same : decoded e bs ≡ normal e h.0 = ap (decoded e) (sym h.2) ∙ decoded-bytes_of e h.0 s.formed h.1 in
-    rw same (normal_fits e h.0 h.1, bytes_of-normal e h.0 h.1 ∙ h.2)
 
 list_fits : (e : Elem) (n : ℕ) (ns : List ℕ) (ds : List Data) → length ds ≡ n → AllByRecursion (FitsNested e ns) ds → FitsNested e (n ∷ ns) (array (items_of ds))
 list_fits e n ns ds q h = (items_of ds, refl, ap length (list_of-items_of ds) ∙ q, rw (list_of-items_of ds) h)

@@ -15,7 +15,8 @@ use Rattle.shapes.proofs.PlaceLemmas.{place_below}
 use Rattle.hdf_values.specs.Elements.{Fits, bytes_of}
 use Rattle.hdf_values.specs.Nested.{FitsNested, elements, nested_bytes, tree_at}
 use Rattle.hdf_values.proofs.ElementLemmas.{length-bytes_of}
-use Rattle.hdf_values.proofs.NestedLemmas.{all_parts, length-flat, first_piece, elements_fit, length-elements}
+use Rattle.hdf_values.proofs.PieceLemmas.{all_parts}
+use Rattle.hdf_values.proofs.NestedLemmas.{length-flat, first_piece, elements_fit, length-elements}
 
 all_at : {A : Type 0} (F : A → Type 0) (xs : List A) (i : ℕ) (d : A) → i < length xs → AllByRecursion F xs → F (get_or xs i d)
 all_at F [] i d h k = absurd (omega arith)
@@ -47,14 +48,14 @@ in_rows e (n ∷ ns) (x ∷ xs) d h k =
     let here = rw before at (get_or-flat_map (elements ns) ds x (place xs ns) null null within low) in
     rw (found, is_list) (in_rows e ns xs y fits k.1 ∙ ap (λ z. Some z) (sym here))
 
-piece_at : {A : Type 0} (F : A → Type 0) (g : A → List ℕ) (k : ℕ) → ((x : A) → F x → length (g x) ≡ k) → (xs : List A) (i : ℕ) (d : A) → i < length xs → AllByRecursion F xs → take k (drop (i * k) (flat_map g xs)) ≡ g (get_or xs i d)
-piece_at F g k each [] i d h all = absurd (omega arith)
-piece_at F g k each (x ∷ xs) zero d h all =
+piece-flat_map : {A : Type 0} (F : A → Type 0) (g : A → List ℕ) (k : ℕ) → ((x : A) → F x → length (g x) ≡ k) → (xs : List A) (i : ℕ) (d : A) → i < length xs → AllByRecursion F xs → take k (drop (i * k) (flat_map g xs)) ≡ g (get_or xs i d)
+piece-flat_map F g k each [] i d h all = absurd (omega arith)
+piece-flat_map F g k each (x ∷ xs) zero d h all =
     let none : zero * k ≡ 0 = omega arith in
     rw none (first_piece k (g x) (flat_map g xs) (each x all.0))
-piece_at F g k each (x ∷ xs) (suc i) d h all =
+piece-flat_map F g k each (x ∷ xs) (suc i) d h all =
     let more : suc i * k ≡ length (g x) + i * k = omega (arith, each x all.0) in
-    rw (more, drop-append-add (g x) (flat_map g xs) (i * k)) (piece_at F g k each xs i d (omega arith) all.1)
+    rw (more, drop-append-add (g x) (flat_map g xs) (i * k)) (piece-flat_map F g k each xs i d (omega arith) all.1)
 
 -- its bytes are those at the place
 pub row_bytes : (e : Elem) (dims coords : List ℕ) (d : Data) → IsSoundType e → FitsNested e dims d → IsInside coords dims
@@ -64,4 +65,4 @@ row_bytes e dims coords d s h k =
     let p = place coords dims in
     let fits = elements_fit e dims d h in
     let within : place coords dims < length (elements dims d) = rw (length-elements e dims d h) (place_below coords dims k) in
-    (get_or ds p null, in_rows e dims coords d h k, all_at (Fits e) ds p null within fits, piece_at (Fits e) (bytes_of e) (size_of e) (λ x q. length-bytes_of e x s.formed q) ds p null within fits)
+    (get_or ds p null, in_rows e dims coords d h k, all_at (Fits e) ds p null within fits, piece-flat_map (Fits e) (bytes_of e) (size_of e) (λ x q. length-bytes_of e x s.formed q) ds p null within fits)

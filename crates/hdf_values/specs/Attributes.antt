@@ -1,6 +1,6 @@
 -- Attributes: a type, a shape and the bytes of a value, as one tree spells them.
 use Rattle.std.specs.Prelude.{◌≡◌, ℕ, ◌*◌, ◌≤◌, ◌⊎◌, List, [], Option, Some, None, Result, Ok, Err, nat_le, if◌then◌else◌, codes}
-use Rattle.serde_json.specs.Data.{Data, null, boolean, number, string, array, object}
+use Rattle.serde_json.specs.Data.{Data}
 use Rattle.serde_json.specs.Find.{get}
 use Rattle.json_trees.specs.Faults.{◌>>=◌}
 use Rattle.hdf_types.specs.declared.faults.Cause.TheVariants.{NotAType}
@@ -13,25 +13,22 @@ use Rattle.hdf_types.specs.Faults.{Fault}
 use Rattle.hdf_types.specs.Reading.{size_of, type_of}
 use Rattle.hdf_types.specs.Types.{IsType, IsSoundType}
 use Rattle.shapes.specs.declared.Shape.{Shape}
-use Rattle.shapes.specs.declared.Shape.TheVariants.{Null, Scalar, Simple}
 use Rattle.shapes.specs.declared.ShapeFault.{ShapeFault}
 use Rattle.shapes.specs.Shapes.{IsShape, IsSound, shape_of, count_of}
-use Rattle.hdf_values.specs.declared.TheConstants.{MAX_ATTRIBUTE}
 use Rattle.hdf_values.specs.declared.faults.ValueFault.{ValueFault}
 use Rattle.hdf_values.specs.declared.faults.ValueFault.TheVariants as values
 use Rattle.hdf_values.specs.declared.faults.ValueFault.TheVariants.{NotOfType}
 use Rattle.hdf_values.specs.declared.attributes.Attribute.{Attribute}
 use Rattle.hdf_values.specs.declared.attributes.AttributeFault.{AttributeFault}
 use Rattle.hdf_values.specs.declared.attributes.AttributeFault.TheVariants.{NoMemory, BadType, BadShape, TooLarge, BadValue}
-use Rattle.hdf_values.specs.Nested.{FitsNested, nested_bytes, nested_from, AreEncoded}
+use Rattle.hdf_values.specs.Pieces.{AreEncoded}
+use Rattle.hdf_values.specs.Shaped.{IsValue, value_from}
+
+-- the most bytes of an attribute's value
+abbrev pub most_bytes : ℕ
+most_bytes = 65536
 
 -- ---- which trees spell an attribute
-
--- a value of a type and a shape: none where there is no cell, one element where there is no axis
-abbrev pub IsValue : Elem → Shape → Data → List ℕ → Type 0
-IsValue e Null d bs = (d ≡ null) × (bs ≡ [])
-IsValue e Scalar d bs = FitsNested e [] d × (bs ≡ nested_bytes e [] d)
-IsValue e (Simple dims limits) d bs = FitsNested e dims d × (bs ≡ nested_bytes e dims d)
 
 -- the tree that stands at a key is a type, or a value: without a tree there is none
 abbrev pub IsTypeAt : Option Data → Elem → Type 0
@@ -55,14 +52,14 @@ content a = record { kind = elem a.elem; shape = a.shape; bytes = a.bytes }
 pub record IsAttribute (d : Data) (c : Content) : Type 0 where
   pub typed : IsTypeAt (get (codes "type") d) c.kind
   pub shaped : IsShape (get (codes "shape") d) None c.shape
-  pub small : count_of c.shape * size_of c.kind ≤ MAX_ATTRIBUTE
+  pub small : count_of c.shape * size_of c.kind ≤ most_bytes
   pub valued : IsValueAt c.kind c.shape (get (codes "value") d) c.bytes
 
 -- an attribute that some tree can spell
 pub record IsSoundAttribute (c : Content) : Type 0 where
   pub kind : IsSoundType c.kind
   pub shape : IsSound c.shape
-  pub small : count_of c.shape * size_of c.kind ≤ MAX_ATTRIBUTE
+  pub small : count_of c.shape * size_of c.kind ≤ most_bytes
   pub encoded : AreEncoded c.kind (count_of c.shape) c.bytes
 
 -- ---- the tests in order: the first that fails decides
@@ -93,25 +90,12 @@ abbrev pub value_or : Result (List ℕ) ValueFault → Result (List ℕ) Attribu
 value_or (Ok bs) = Ok bs
 value_or (Err f) = Err (BadValue f)
 
-abbrev pub null_value : Data → Result (List ℕ) ValueFault
-null_value null = Ok []
-null_value (boolean b) = Err (NotOfType 0)
-null_value (number n) = Err (NotOfType 0)
-null_value (string s) = Err (NotOfType 0)
-null_value (array ds) = Err (NotOfType 0)
-null_value (object ms) = Err (NotOfType 0)
-
-abbrev pub value_at : Elem → Shape → Data → Result (List ℕ) ValueFault
-value_at e Null d = null_value d
-value_at e Scalar d = nested_from e [] 0 d
-value_at e (Simple dims limits) d = nested_from e dims 0 d
-
 abbrev pub valued_at : Elem → Shape → Option Data → Result (List ℕ) ValueFault
 valued_at e s None = Err (NotOfType 0)
-valued_at e s (Some d) = value_at e s d
+valued_at e s (Some d) = value_from e s d
 
 abbrev pub sized_at : Elem → Shape → Result (List ℕ) AttributeFault → Result (List ℕ) AttributeFault
-sized_at e s value = if nat_le (count_of s * size_of e) MAX_ATTRIBUTE then value else Err TooLarge
+sized_at e s value = if nat_le (count_of s * size_of e) most_bytes then value else Err TooLarge
 
 -- the attribute that a tree spells, or its first fault
 unfoldable pub attribute_of : Data → Result Content AttributeFault

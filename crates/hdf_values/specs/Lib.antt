@@ -2,7 +2,9 @@ pub mod Faults
 pub mod Integers
 pub mod Texts
 pub mod Elements
+pub mod Pieces
 pub mod Nested
+pub mod Shaped
 pub mod Attributes
 pub use Rattle.json_trees.specs.Trees
 pub use Rattle.serde_json.specs.View

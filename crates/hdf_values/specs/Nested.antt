@@ -1,5 +1,5 @@
 -- Lists of elements, nested by the extents of an array in row-major order.
-use Rattle.std.specs.Prelude.{◌≡◌, ℕ, zero, suc, ◌+◌, ◌*◌, List, [], ◌∷◌, ◌++◌, length, map, take, drop, Option, Some, None, option_and_then, Result, Ok, Err, nat_eq, if◌then◌else◌}
+use Rattle.std.specs.Prelude.{◌≡◌, ℕ, ◌+◌, ◌*◌, List, [], ◌∷◌, ◌++◌, length, map, Option, Some, None, option_and_then, Result, Ok, Err, nat_eq, if◌then◌else◌}
 use Rattle.std.specs.List.{AllByRecursion, flat_map}
 use Rattle.std.specs.Option.{option_map_or}
 use Rattle.serde_json.specs.Data.{Data, Items, array}
@@ -14,7 +14,8 @@ use Rattle.hdf_values.specs.declared.faults.Misfit.{Misfit}
 use Rattle.hdf_values.specs.declared.faults.ValueFault.{ValueFault}
 use Rattle.hdf_values.specs.declared.faults.ValueFault.TheVariants.{NotOfType, WrongCount}
 use Rattle.hdf_values.specs.Faults.{at_place, Fails}
-use Rattle.hdf_values.specs.Elements.{Fits, bytes_of, normal, decoded, encoded, IsEncoded}
+use Rattle.hdf_values.specs.Elements.{Fits, bytes_of, normal, decoded, encoded}
+use Rattle.hdf_values.specs.Pieces.{pieces}
 
 -- ---- which trees nest by the extents, and the bytes of their elements
 
@@ -41,18 +42,6 @@ nested_normal e (n ∷ ns) d = option_map_or (λ ds. array (items_of (map (neste
 abbrev pub tree_at : List ℕ → Data → Option Data
 tree_at [] d = Some d
 tree_at (x ∷ xs) d = option_and_then (tree_at xs) (at x d)
-
--- ---- bytes of several elements
-
--- `n` pieces of `k` bytes
-abbrev pub pieces : ℕ → ℕ → List ℕ → List (List ℕ)
-pieces zero k bs = []
-pieces (suc n) k bs = take k bs ∷ pieces n k (drop k bs)
-
--- the bytes of `n` elements
-pub record AreEncoded (e : Elem) (n : ℕ) (bs : List ℕ) : Type 0 where
-  pub whole : length bs ≡ n * size_of e
-  pub each : AllByRecursion (IsEncoded e) (pieces n (size_of e) bs)
 
 -- the tree whose elements these bytes are
 abbrev pub nested_decoded : Elem → List ℕ → List ℕ → Data

@@ -1,23 +1,21 @@
 //! Attributes: a small value with its type and shape.
 
-ghost use Rattle.std.specs.Prelude.{◌≡◌, ◌*◌, ◌≤◌, [], IfOk, option_map};
-ghost use Rattle.serde_json.specs.Data.{null};
+ghost use Rattle.std.specs.Prelude.{◌≡◌, ◌*◌, ◌≤◌, IfOk, option_map};
 ghost use Rattle.serde_json.specs.View.{view};
 ghost use Rattle.hdf_types.specs.Reading.{size_of};
 ghost use Rattle.hdf_types.specs.Types.{IsSoundType};
 ghost use Rattle.hdf_types.specs.Views.{elem};
 ghost use Rattle.shapes.specs.Shapes.{IsSound, count_of};
-ghost use Rattle.hdf_values.specs.Attributes.{Content, content, IsAttribute, IsSoundAttribute, IsTypeAt, IsValue, IsValueAt, attribute_of, type_fault, value_fault, typed_at, value_at, valued_at, value_or, sized_at, null_value, Gives};
+ghost use Rattle.hdf_values.specs.Attributes.{Content, content, IsAttribute, IsSoundAttribute, IsTypeAt, IsValueAt, attribute_of, type_fault, value_fault, typed_at, valued_at, value_or, sized_at, most_bytes, Gives};
 ghost use Rattle.hdf_values.specs.Faults.{Gives as ValueGives};
-ghost use Rattle.hdf_values.specs.Nested.{AreEncoded};
-ghost use Rattle.hdf_values.specs.declared.TheConstants.{MAX_ATTRIBUTE};
+ghost use Rattle.hdf_values.specs.Pieces.{AreEncoded};
 ghost use Rattle.hdf_values.specs.declared.attributes.AttributeFault.TheVariants.{NoMemory, BadShape};
 
-use crate::nested::read_nested;
+use crate::shaped::read_value;
 use crate::{MAX_ATTRIBUTE, ValueFault};
 use hdf_types::{Cause, ElemType, FieldPath, TypeFault, read_type};
 use serde_json::Value;
-use shapes::{Dims, Shape, ShapeFault, count, read_shape};
+use shapes::{Shape, ShapeFault, count, read_shape};
 use std::alloc::{AllocError, Global};
 use std::marker::Model;
 
@@ -177,7 +175,7 @@ fn sized(
     requires kind { IsSoundType (elem kind.now) }
     requires shape { IsSound shape.now }
     ensures gives { Gives (λ v. v.items) result (sized_at (elem kind.now) shape.now (value_or (valued_at (elem kind.now) shape.now (option_map (λ v. view v.now) tree.entry)))) }
-    ensures small { IfOk result (λ _. count_of shape.now * size_of (elem kind.now) ≤ MAX_ATTRIBUTE) }
+    ensures small { IfOk result (λ _. count_of shape.now * size_of (elem kind.now) ≤ most_bytes) }
     ensures spelled { IfOk result (λ v. IsValueAt (elem kind.now) shape.now (option_map (λ v. view v.now) tree.entry) v.items) }
     ensures encoded { IfOk result (λ v. AreEncoded (elem kind.now) (count_of shape.now) v.items) }
 {
@@ -199,33 +197,8 @@ fn valued(
     ensures encoded { IfOk result (λ v. AreEncoded (elem kind.now) (count_of shape.now) v.items) }
 {
     match tree {
-        Some(tree) => value(alloc, kind, shape, tree),
+        Some(tree) => read_value(alloc, kind, shape, tree),
         None => Err(ValueFault::NotOfType { place: 0 }),
-    }
-}
-
-fn value(alloc: Global, kind: &ElemType, shape: &Shape, tree: &Value) -> Result<Vec<u8>, ValueFault>
-    requires kind { IsSoundType (elem kind.now) }
-    ensures gives { ValueGives (λ v. v.items) result (value_at (elem kind.now) shape.now (view tree.now)) }
-    ensures spelled { IfOk result (λ v. IsValue (elem kind.now) shape.now (view tree.now) v.items) }
-    ensures encoded { IfOk result (λ v. AreEncoded (elem kind.now) (count_of shape.now) v.items) }
-{
-    match shape {
-        Shape::Null => null_bytes(alloc, tree),
-        Shape::Scalar => read_nested(alloc, kind, &Dims::new(), tree),
-        Shape::Simple { dims, .. } => read_nested(alloc, kind, dims, tree),
-    }
-}
-
-/// The value of a shape without a cell.
-fn null_bytes(alloc: Global, tree: &Value) -> Result<Vec<u8>, ValueFault>
-    ensures gives { ValueGives (λ v. v.items) result (null_value (view tree.now)) }
-    ensures spelled { IfOk result (λ v. (view tree.now ≡ null) × (v.items ≡ [])) }
-{
-    if tree.is_null() {
-        Ok(Vec::new(alloc))
-    } else {
-        Err(ValueFault::NotOfType { place: 0 })
     }
 }
 

@@ -1,13 +1,17 @@
 //! Laws about values and their bytes.
 
-ghost use Rattle.std.specs.Prelude.{◌≡◌, ◌↔◌, ℕ, ◌*◌, List, Some, Ok, Err, length, take, drop, slice_index_or};
+ghost use Rattle.std.specs.Prelude.{◌≡◌, ◌↔◌, ◌<◌, ◌≤◌, ℕ, ◌+◌, ◌*◌, List, [], ◌++◌, Some, Ok, Err, length, slice_index_or};
+ghost use Rattle.std.specs.List.{AllByRecursion, flat_map};
 ghost use Rattle.serde_json.specs.Data.{Data, null};
 ghost use Rattle.hdf_types.specs.Elems.{Elem};
 ghost use Rattle.hdf_types.specs.Reading.{size_of};
 ghost use Rattle.hdf_types.specs.Types.{IsSoundType};
-ghost use Rattle.shapes.specs.Places.{IsInside, place};
+ghost use Rattle.shapes.specs.declared.Shape.{Shape};
+ghost use Rattle.shapes.specs.Places.{IsInside, cell_count, place};
 ghost use Rattle.hdf_values.specs.Elements.{Fits, bytes_of, normal, decoded, encoded, zero_of, IsEncoded};
 ghost use Rattle.hdf_values.specs.Nested.{FitsNested, elements, tree_at, nested_bytes, nested_normal, nested_decoded, nested_from};
+ghost use Rattle.hdf_values.specs.Pieces.{AreEncoded, piece_at, pieces_at, with_pieces};
+ghost use Rattle.hdf_values.specs.Shaped.{IsValue, value_from};
 ghost use Rattle.hdf_values.specs.Attributes.{Content, IsAttribute, attribute_of};
 ghost use Rattle.hdf_values.specs.declared.faults.Misfit.{Misfit};
 ghost use Rattle.hdf_values.specs.declared.faults.ValueFault.{ValueFault};
@@ -28,6 +32,39 @@ pub fn value_or_fault()
     ensures fault { (e : Elem) (d : Data) (m : Misfit) → encoded e d ≡ Err m → Fits e d → ⊥ }
 {}
 
+/// Bytes are those of so many elements where they have the length and each piece is an element. So
+/// elements behind elements are elements, and so are some of them in a row, and all of them after
+/// some were replaced by as many. The value that an element stands for is one, with its bytes.
+pub fn encoded_elements()
+    ensures each { (e : Elem) (n : ℕ) (bs : List ℕ)
+        → (AreEncoded e n bs
+        ↔ ((length bs ≡ n * size_of e)
+        × ((i : ℕ) → i < n → IsEncoded e (piece_at (size_of e) i bs)))) }
+    ensures none { (e : Elem) → AreEncoded e 0 [] }
+    ensures one { (e : Elem) (bs : List ℕ) → IsSoundType e → (AreEncoded e 1 bs ↔ IsEncoded e bs) }
+    ensures joined { (e : Elem) (m n : ℕ) (xs ys : List ℕ) → AreEncoded e m xs → AreEncoded e n ys
+        → AreEncoded e (m + n) (xs ++ ys) }
+    ensures gathered { (e : Elem) (f : List ℕ → List ℕ) (ats : List (List ℕ)) → IsSoundType e
+        → AllByRecursion (λ at. IsEncoded e (f at)) ats
+        → AreEncoded e (length ats) (flat_map f ats) }
+    ensures slice { (e : Elem) (n i m : ℕ) (bs : List ℕ) → AreEncoded e n bs → i + m ≤ n
+        → AreEncoded e m (pieces_at (size_of e) i m bs) }
+    ensures replaced { (e : Elem) (n i : ℕ) (x bs : List ℕ) → IsSoundType e → AreEncoded e n bs
+        → IsEncoded e x → i < n → AreEncoded e n (with_pieces (size_of e) i x bs) }
+    ensures all_replaced { (e : Elem) (n i m : ℕ) (xs bs : List ℕ) → AreEncoded e n bs → AreEncoded e m xs
+        → i + m ≤ n → AreEncoded e n (with_pieces (size_of e) i xs bs) }
+    ensures fits { (e : Elem) (bs : List ℕ) → IsSoundType e → IsEncoded e bs
+        → Fits e (decoded e bs) × (bytes_of e (decoded e bs) ≡ bs) }
+{}
+
+/// A tree is a value of a type and a shape, or it has a first fault, and never both.
+pub fn shaped_or_fault()
+    ensures value { (e : Elem) (s : Shape) (d : Data) (bs : List ℕ) → IsValue e s d bs
+        → value_from e s d ≡ Ok bs }
+    ensures fault { (e : Elem) (s : Shape) (d : Data) (bs : List ℕ) (f : ValueFault)
+        → value_from e s d ≡ Err f → IsValue e s d bs → ⊥ }
+{}
+
 /// A tree nests by extents, or it has a first fault, and never both; what it is written as reads
 /// back. The element at coordinates, which is found by going down the lists, stands at their place
 /// in row-major order, among the elements and among the bytes.
@@ -35,8 +72,11 @@ pub fn nested_or_fault()
     ensures value { (e : Elem) (dims : List ℕ) (p : ℕ) (d : Data) → FitsNested e dims d → nested_from e dims p d ≡ Ok (nested_bytes e dims d) }
     ensures fault { (e : Elem) (dims : List ℕ) (p : ℕ) (d : Data) (f : ValueFault) → nested_from e dims p d ≡ Err f → FitsNested e dims d → ⊥ }
     ensures back { (e : Elem) (dims : List ℕ) (d : Data) → IsSoundType e → FitsNested e dims d → nested_decoded e dims (nested_bytes e dims d) ≡ nested_normal e dims d }
+    ensures fits { (e : Elem) (dims bs : List ℕ) → IsSoundType e → AreEncoded e (cell_count dims) bs
+        → FitsNested e dims (nested_decoded e dims bs)
+        × (nested_bytes e dims (nested_decoded e dims bs) ≡ bs) }
     ensures rows { (e : Elem) (dims coords : List ℕ) (d : Data) → FitsNested e dims d → IsInside coords dims → tree_at coords d ≡ Some (slice_index_or (elements dims d) (place coords dims) null) }
-    ensures bytes { (e : Elem) (dims coords : List ℕ) (d : Data) → IsSoundType e → FitsNested e dims d → IsInside coords dims → (x : Data) × (tree_at coords d ≡ Some x) × Fits e x × (take (size_of e) (drop (place coords dims * size_of e) (nested_bytes e dims d)) ≡ bytes_of e x) }
+    ensures bytes { (e : Elem) (dims coords : List ℕ) (d : Data) → IsSoundType e → FitsNested e dims d → IsInside coords dims → (x : Data) × (tree_at coords d ≡ Some x) × Fits e x × (piece_at (size_of e) (place coords dims) (nested_bytes e dims d) ≡ bytes_of e x) }
 {}
 
 /// A tree spells one attribute, or it has a first fault, and never both.

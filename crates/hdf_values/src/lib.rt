@@ -12,6 +12,8 @@ mod faults;
 mod integers;
 mod laws;
 mod nested;
+mod pieces;
+mod shaped;
 #[cfg(test)]
 mod tests;
 mod texts;
@@ -19,8 +21,13 @@ mod texts;
 pub use attributes::{Attribute, AttributeFault, Bytes, read_attribute};
 pub use elements::{decode, encode, is_encoded, zero};
 pub use faults::{Misfit, ValueFault};
-pub use laws::{attribute_or_fault, nested_or_fault, value_or_fault, values_read_back};
+pub use laws::{
+    attribute_or_fault, encoded_elements, nested_or_fault, shaped_or_fault, value_or_fault,
+    values_read_back,
+};
 pub use nested::{read_nested, write_nested};
+pub use pieces::first_unencoded;
+pub use shaped::{read_value, write_value};
 
 /// The most bytes of an attribute's value.
 pub const MAX_ATTRIBUTE: u64 = 65_536;

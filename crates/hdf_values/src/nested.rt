@@ -11,7 +11,8 @@ ghost use Rattle.shapes.specs.Places.{cell_count};
 ghost use Rattle.hdf_values.specs.declared.TheConstants.{MAX_AHEAD};
 ghost use Rattle.hdf_values.specs.Elements.{Fits};
 ghost use Rattle.hdf_values.specs.Faults.{Gives};
-ghost use Rattle.hdf_values.specs.Nested.{FitsNested, nested_bytes, nested_normal, nested_from, nested_decoded, AreEncoded, Appends, AppendsEach, pieces};
+ghost use Rattle.hdf_values.specs.Nested.{FitsNested, nested_bytes, nested_normal, nested_from, nested_decoded, Appends, AppendsEach};
+ghost use Rattle.hdf_values.specs.Pieces.{AreEncoded, pieces};
 
 use crate::elements::{decode, encode_part};
 use crate::{MAX_AHEAD, ValueFault};

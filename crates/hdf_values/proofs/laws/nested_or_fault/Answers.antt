@@ -1,5 +1,5 @@
 -- A tree that nests is read as its bytes, and these stand for it.
-use Rattle.hdf_values.proofs.NestedLemmas.{nested_read, nested_back}
+use Rattle.hdf_values.proofs.NestedLemmas.{nested_read, nested_back, nested_fits}
 use Rattle.hdf_values.proofs.RowLemmas.{in_rows, row_bytes}
 use Rattle.hdf_values.proofs.laws.nested_or_fault.Goals as goal
 
@@ -17,3 +17,6 @@ returns-clause-rows c = in_rows
 
 pub returns-clause-bytes : goal.returns-clause-bytes
 returns-clause-bytes c = row_bytes
+
+pub returns-clause-fits : goal.returns-clause-fits
+returns-clause-fits c = nested_fits

@@ -3,7 +3,8 @@ use Rattle.std.proofs.Common.{◌≡◌, ◌+◌, ◌++◌, length, drop, take, 
 use Rattle.std.proofs.lemmas.List.{length-append}
 use Rattle.hdf_types.specs.Views.{elem}
 use Rattle.hdf_values.specs.Nested.{placed}
-use Rattle.hdf_values.proofs.NestedLemmas.{some_size, first_piece}
+use Rattle.hdf_values.proofs.PieceLemmas.{some_size}
+use Rattle.hdf_values.proofs.NestedLemmas.{first_piece}
 use Rattle.hdf_values.proofs.ReadLemmas.{place_within, kept_front}
 use Rattle.hdf_values.proofs.nested.read_one.Goals as goal
 
