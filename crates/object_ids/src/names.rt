@@ -1,9 +1,14 @@
-ghost use Rattle.std.specs.Prelude.{◌≡◌, true, false, IfOk, IsErrOf, length, string_bytes};
+ghost use Rattle.std.specs.Prelude.{◌≡◌, Some, true, false, IfOk, IsErrOf, length, refl, string_bytes};
+ghost use Rattle.std.specs.Cmp.{partial_equiv_from_equiv};
+ghost use Rattle.std.specs.Cmp.Lexicographic.{nat_list_cmp_total, nat_list_eq_equiv, texts_po, texts_ties};
 ghost use Rattle.std.specs.List.{list_all};
+ghost use Rattle.std.specs.Str.{bytes_eq};
 ghost use Rattle.object_ids.specs.Names.{is_name, is_name_byte};
 ghost use Rattle.object_ids.specs.declared.names.NameFault.TheVariants.{NoMemory};
+ghost use Rattle.text_maps.specs.Keyed.{text_order};
 
 use std::alloc::{AllocError, Global};
+use std::cmp::Ordering;
 use std::marker::Model;
 
 /// A text of at least one byte, without control characters of ASCII: no byte is below 0x20, and none is 0x7F.
@@ -21,6 +26,45 @@ impl Model for Name {
     ghost view = { λ n. string_bytes n.text };
 
     ghost invariant = { λ n. is_name (length (string_bytes n.text)) (string_bytes n.text) ≡ true };
+}
+
+// Names are the same where their bytes are, and stand in the order of their bytes.
+impl PartialEq for Name {
+    ghost eq = { bytes_eq };
+
+    ghost laws = { partial_equiv_from_equiv nat_list_eq_equiv };
+
+    fn eq(&self, other: &Name) -> bool {
+        self.text == other.text
+    }
+}
+
+impl Eq for Name {
+    ghost laws = { nat_list_eq_equiv };
+}
+
+impl Ord for Name {
+    ghost cmp = { text_order };
+
+    ghost total = { nat_list_cmp_total };
+
+    ghost matches_partial_cmp = { λ x y. refl };
+
+    ghost matches_eq = { texts_ties };
+
+    fn cmp(&self, other: &Name) -> Ordering {
+        self.text.cmp(&other.text)
+    }
+}
+
+impl PartialOrd for Name {
+    ghost partial_cmp = { λ x y. Some (text_order x y) };
+
+    ghost laws = { texts_po };
+
+    fn partial_cmp(&self, other: &Name) -> Option<Ordering> {
+        Some(self.cmp(other))
+    }
 }
 
 /// Why a text was not read as a name.

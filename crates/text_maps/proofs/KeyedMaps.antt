@@ -1,6 +1,7 @@
 -- A sorted map, whose keys compare by their bytes, is the finite map from those bytes.
 -- `bytes` gives the bytes of a key.
-use Rattle.std.proofs.Common.{◌≡◌, ℕ, suc, Bool, true, false, cond, List, [], ◌∷◌, map, length, Option, Some, None, Ordering, Less, Equal, is_eq, bytes_eq, refl, sym, ap, subst, ◌∙◌, ⊎_elim, arith, Result, Ok, Err, OnErr}
+use Rattle.std.specs.List.{filter}
+use Rattle.std.proofs.Common.{option_map, ◌≡◌, ℕ, suc, Bool, true, false, cond, List, [], ◌∷◌, map, length, Option, Some, None, Ordering, Less, Equal, is_eq, bytes_eq, refl, sym, ap, subst, ◌∙◌, ⊎_elim, arith, Result, Ok, Err, OnErr}
 use Rattle.std.specs.BTreeMap.{BTreeMap, UpdatesBy, is_at}
 use Rattle.std.specs.Map.{lookup, IsKeyTest, AreApart, KeepsOthers}
 use Rattle.std.specs.Cmp.{eq_by_cmp_equiv}
@@ -13,6 +14,7 @@ use Rattle.std.proofs.lemmas.Map.Keys.{sorted_head, sorted_tail}
 use Rattle.std.proofs.lemmas.Map.Text.{is_eq-slice_cmp}
 use Rattle.std.proofs.lemmas.Bool.{cases_Bool, cond-true, cond-false}
 use Rattle.text_maps.specs.Keyed.{text_order, keyed}
+use Rattle.text_maps.specs.Nexts.{first}
 
 -- only equal texts tie
 pub exact_texts : (x y : List ℕ) → text_order x y ≡ Equal → x ≡ y
@@ -119,3 +121,13 @@ module _ {K X : Type 0} (bytes : K → List ℕ) where
   -- each entry is one of the map's
   pub len-keyed : (es : List (K × X)) → IsStrictlySortedBy (order_by bytes) (map (λ e. e.0) es) → len (from_entries {R = text_order} (keyed bytes es)) ≡ length es
   len-keyed es rising = len-entries (from_entries {R = text_order} (keyed bytes es)) ∙ ap length (entries-keyed es rising) ∙ length-keyed es
+
+  -- the first entry whose bytes pass a test
+  pub first-keyed : (test : List ℕ → Bool) (es : List (K × X)) → option_map (λ e. (bytes e.0, e.1)) (first (filter (λ e. test (bytes e.0)) es)) ≡ first (filter (λ e. test e.0) (keyed bytes es))
+  first-keyed test [] = refl
+  first-keyed test (e ∷ es) = at (test (bytes e.0)) (first-keyed test es) where
+    at : (b : Bool) → option_map (λ d. (bytes d.0, d.1)) (first (filter (λ d. test (bytes d.0)) es)) ≡ first (filter (λ d. test d.0) (keyed bytes es))
+        → option_map (λ d. (bytes d.0, d.1)) (first (cond b (e ∷ filter (λ d. test (bytes d.0)) es) (filter (λ d. test (bytes d.0)) es)))
+        ≡ first (cond b ((bytes e.0, e.1) ∷ filter (λ d. test d.0) (keyed bytes es)) (filter (λ d. test d.0) (keyed bytes es)))
+    at true later = refl
+    at false later = later

@@ -1,1 +1,3 @@
 pub mod KeyedMaps
+pub mod Walks
+pub mod Lending

@@ -5,6 +5,8 @@
 
 mod byte_map;
 mod joined;
+mod nexts;
+mod replace;
 mod text_map;
 
 pub use byte_map::ByteMap;

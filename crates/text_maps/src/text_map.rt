@@ -1,14 +1,19 @@
 // Maps from texts.
-ghost use Rattle.std.specs.Prelude.{◌≡◌, ◌++◌, ◌↔◌, List, ℕ, OnOk, OnErr, IfSome, IfNone, IfOk, IsTrue, string_bytes, is_some};
+ghost use Rattle.std.specs.Prelude.{◌≡◌, ◌++◌, ◌↔◌, List, ℕ, Some, OnOk, OnErr, IfSome, IfNone, IfOk, IsTrue, string_bytes, is_some, option_map};
+ghost use Rattle.std.specs.Borrow.{LendsIf, sem};
 ghost use Rattle.std.specs.FinMap as map;
-ghost use Rattle.std.specs.Option.{option_copied};
+ghost use Rattle.std.specs.Option.{option_copied, option_copied_mut};
 ghost use Rattle.std.specs.BTreeMap.{UpdatesBy, IsUnchanged, get_by_text};
 ghost use Rattle.std.specs.Cmp.Lexicographic.{slice_cmp};
 ghost use Rattle.std.specs.Ordering.{nat_cmp};
 ghost use Rattle.std.specs.String.{string_cmp};
-ghost use Rattle.text_maps.specs.Keyed.{text_order};
+ghost use Rattle.text_maps.specs.Keyed.{text_order, keyed};
+ghost use Rattle.text_maps.specs.Nexts.{IsNext, IsStep};
+ghost use Rattle.text_maps.specs.contracts.text_map.TextMap.{the_row};
 
 use crate::joined::is_joined;
+use crate::nexts::next_entry;
+use crate::replace::replace;
 use std::alloc::{AllocError, Global};
 use std::collections::BTreeMap;
 use std::marker::Model;
@@ -65,6 +70,26 @@ impl<V> TextMap<V> {
         self.entries.get(key)
     }
 
+    /// The entries, in the order of the texts' bytes.
+    pub fn as_tree(&self) -> &BTreeMap<String, V>
+        ensures { map.entries self.now ≡ keyed string_bytes result.now.entries }
+    {
+        let _count = self.entries.len();
+        &self.entries
+    }
+
+    /// The entry of the least text behind another, or of the least text of all. Where the map has the other text, it is
+    /// found in the order of the tree; else each text before it is looked at.
+    pub fn next_key(&self, after: Option<&str>) -> Option<(&str, &V)>
+        ensures least { IsNext self.now (option_copied after.entry) (option_map (λ e. e.0.now) result) }
+        ensures value { IfSome result (λ e. map.get self.now e.0.now ≡ Some e.1.now) }
+        ensures step { IsStep self.now (option_copied after.entry)
+            (option_map (λ e. (e.0.now, e.1.now)) result) }
+    {
+        let (key, value) = next_entry(&self.entries, after)?;
+        Some((key.as_str(), value))
+    }
+
     /// The value at the text that is `front` and then `rest`, without making that text. It looks at each entry.
     pub fn get_joined(&self, front: &str, rest: &str) -> Option<&V>
         ensures { option_copied result ≡ map.get self.now (front.now ++ rest.now) }
@@ -77,6 +102,17 @@ impl<V> TextMap<V> {
         ensures { result ≡ map.contains_key self.now key.now }
     {
         self.entries.contains_key(key)
+    }
+}
+
+impl<V> TextMap<V> {
+    /// The value at a text, to be changed in place.
+    pub fn get_mut(&mut self, key: &str) -> Option<&mut V>
+        ensures* writes_back { sem 𝓛 (LendsIf (the_row V.row) V.row self.entry result
+            (map.insert self.old key.now) self.old) }
+        ensures value { option_copied_mut result ≡ map.get self.old key.now }
+    {
+        self.entries.get_mut(key)
     }
 }
 
@@ -126,22 +162,6 @@ fn find_joined<'a, V>(entries: &'a BTreeMap<String, V>, front: &str, rest: &str)
         }
     }
     None
-}
-
-// Writes a value at a text that the map has, or gives the value back.
-fn replace<V: Drop>(entries: &mut BTreeMap<String, V>, key: &str, value: V) -> Option<V>
-    ensures there { IfNone result (UpdatesBy string_cmp (λ k. slice_cmp nat_cmp key.now (string_bytes k)) entries.old entries.new (Some value)) }
-    ensures unchanged { IfSome result (λ _. IsUnchanged entries.old entries.new) }
-    ensures absent { IfSome result (λ _. get_by_text entries.old key.now ≡ None) }
-    ensures given_back { IfSome result (λ v. v ≡ value) }
-{
-    match entries.get_mut(key) {
-        Some(slot) => {
-            *slot = value;
-            None
-        }
-        None => Some(value),
-    }
 }
 
 #[cfg(test)]

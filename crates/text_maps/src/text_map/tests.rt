@@ -13,6 +13,19 @@ fn keeps_the_last_value_of_each_text(rt: HostRuntime) -> Result<(), Fail> {
     assert_eq!(rt; map.get("b").copied(), Some(3));
     assert_eq!(rt; map.get_joined("g:", "x").copied(), Some(4));
     assert_eq!(rt; map.get_joined("g", "x").copied(), None);
+    if let Some(value) = map.get_mut("a") {
+        *value += 10;
+    }
+    assert_eq!(rt; map.get("a").copied(), Some(12));
+    for (after, next) in [
+        (None, Some("a")),
+        (Some(""), Some("a")),
+        (Some("a"), Some("b")),
+        (Some("aa"), Some("b")),
+        (Some("g:x"), None),
+    ] {
+        assert!(rt; map.next_key(after).map(|(key, _)| key) == next);
+    }
     assert_eq!(rt; map.remove("b"), Some(3));
     assert!(rt; !map.contains_key("b"));
     Ok(())
