@@ -47,7 +47,7 @@ pub first_batch-is : (bytes : List ℕ) → first_batch bytes ≡ option_and_the
 unfolding first_batch behind_number
 first_batch-is bytes = refl
 
-behind_number-cut : (n : ℕ) (p tail : List ℕ) (rs : List Record) → length p ≡ n → records_of p ≡ Some rs → behind_number (n, p ++ tail) ≡ Some (record { size = n; records = rs; rest = tail })
+pub behind_number-cut : (n : ℕ) (p tail : List ℕ) (rs : List Record) → length p ≡ n → records_of p ≡ Some rs → behind_number (n, p ++ tail) ≡ Some (record { size = n; records = rs; rest = tail })
 unfolding behind_number
 behind_number-cut n p tail rs size are =
     ap (option_and_then (λ (p : List ℕ × List ℕ). option_and_then (λ (rs : List Record). Some (record { size = n; records = rs; rest = p.1 })) (records_of p.0))) (cut-append n p tail size)

@@ -14,3 +14,7 @@ pub mod PayloadLemmas
 pub mod ReadLemmas
 pub mod NewLemmas
 pub mod NextLemmas
+pub mod EncodingLemmas
+pub mod HeaderLemmas
+pub mod BlockLemmas
+pub mod LayoutLemmas

@@ -1,5 +1,6 @@
 pub mod Files
 pub mod Batches
+pub mod Blocks
 pub mod Frames
 pub mod Gates
 pub mod Moments

@@ -7,6 +7,7 @@ mod create;
 mod gates;
 mod header;
 mod journal;
+mod laws;
 mod read;
 mod records;
 mod recovered;
@@ -16,6 +17,7 @@ mod window;
 
 pub use batch::Batch;
 pub use journal::Journal;
+pub use laws::{journal_or_fault, payload_is_encoding};
 pub use recovered::Recovered;
 pub use report::Report;
 pub use why::{JournalRefused, Why};

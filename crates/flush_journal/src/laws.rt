@@ -1,0 +1,18 @@
+// What bytes mean, in other words than the reading of them.
+ghost use Rattle.std.specs.Prelude.{◌≡◌, ◌↔◌, ℕ, List, Some, Ok, Err, All};
+ghost use Rattle.flush_journal.specs.Records.{Record, IsRecord, AreBytes, records_of, encoded_all};
+ghost use Rattle.flush_journal.specs.Files.{Content, content};
+ghost use Rattle.flush_journal.specs.Blocks.{IsJournal, IsFault};
+
+/// A payload is some records exactly where it is their encoding, and their keys and bodies have lengths that a record can have.
+pub fn payload_is_encoding()
+    ensures { (bytes : List ℕ) (records : List Record) → AreBytes bytes
+        → ((records_of bytes ≡ Some records) ↔ ((bytes ≡ encoded_all records) × All IsRecord records)) }
+{}
+
+/// A file has a content exactly where it is a header, whole blocks, a gate that isn't open and anything behind it, which make this
+/// content; and it is no journal exactly where one of these is missing, at the place of the first that is.
+pub fn journal_or_fault()
+    ensures journal { (bytes : List ℕ) (c : Content) → AreBytes bytes → ((content bytes ≡ Ok c) ↔ IsJournal bytes c) }
+    ensures fault { (bytes : List ℕ) (at : ℕ) → AreBytes bytes → ((content bytes ≡ Err at) ↔ IsFault bytes at) }
+{}
