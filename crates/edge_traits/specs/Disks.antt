@@ -20,6 +20,10 @@ Fills at bytes n buf = take n buf ≡ take (length buf) (drop at bytes)
 abbrev pub LeavesNoMore : (List ℕ → Type 0) → (List ℕ → Type 0) → Type 0
 LeavesNoMore old new = (c : List ℕ) → new c → old c
 
+-- a crash may leave all that it could before
+abbrev pub LeavesAll : (List ℕ → Type 0) → (List ℕ → Type 0) → Type 0
+LeavesAll old new = (c : List ℕ) → old c → new c
+
 -- what a step makes of an image that a crash could leave before
 abbrev pub After : (List ℕ → List ℕ → Type 0) → (List ℕ → Type 0) → List ℕ → Type 0
 After step old c = (d : List ℕ) × old d × step d c
