@@ -1,13 +1,13 @@
 -- A disk in memory: what its record of calls gives, after one call more.
-use Rattle.std.proofs.Common.{◌≡◌, inl, inr, ⊎_elim, ℕ, suc, zero, ◌+◌, ◌-◌, ◌≤◌, ◌<◌, min, max, Bool, true, false, List, [], ◌∷◌, ◌++◌, length, get_or, take, drop, replicate, Vec, Global, Result, Ok, Err, IfOk, refl, sym, ◌∙◌, ap, subst, arith, append_assoc, length-append, length-drop, take-append-drop}
+use Rattle.std.proofs.Common.{◌≡◌, inl, inr, ⊎_elim, ℕ, suc, zero, ◌+◌, ◌-◌, ◌≤◌, ◌<◌, max, Bool, true, false, List, [], ◌∷◌, ◌++◌, length, take, drop, replicate, Vec, Global, Result, Ok, Err, IfOk, refl, sym, ◌∙◌, ap, subst, arith, append_assoc, length-append, length-drop}
 use Rattle.std.specs.Prelude.{◌&&◌, ◌⊎◌, nat_le}
+use Rattle.std.specs.Cmp.{second_so}
 use Rattle.std.proofs.lemmas.Bool.Decides.{nat_tests}
-use Rattle.std.proofs.lemmas.List.{take_at, drop_at, take_more, drop_more, take_all, drop_all, length-take, length-take-le, length-replicate, take_min, append-nil, drop-drop, take-append-le, drop-append-le}
+use Rattle.std.proofs.lemmas.List.{take_at, take_all, drop_all, length-take, length-take-le, length-replicate, append-nil, drop-drop, take-append-le, drop-append-le}
 use Rattle.std.proofs.Math.Seq.{drop-append-add}
-use Rattle.edge_traits.specs.Disks.{Written, Torn, Follows, After, Only, LeavesNoMore, LeavesAll, Elapses, ElapsesBy}
-use Rattle.edge_traits.specs.MemDisks.{Write, Memory, overwritten, begun, written, synced, TornBy, IsImage, lengthened, cut_short, cut_all_short}
-use Rattle.edge_traits.specs.DiskCalls.{step, after, writes_of, all_done, holding, LeftSince, writes_fit, size_after, Unsynced, Tears}
-use Rattle.edge_traits.specs.DiskLaws.{second, torn_written, done_is_torn}
+use Rattle.edge_traits.specs.Disks.{Written, overwritten, Torn, Follows, After, LeavesAll, Elapses, ElapsesBy}
+use Rattle.edge_traits.specs.MemDisks.{Write, Memory, begun, written, synced, TornBy, IsImage, lengthened, cut_short, cut_all_short}
+use Rattle.edge_traits.specs.DiskCalls.{step, after, writes_of, all_done, holding, LeftSince, writes_fit, size_after, Unsynced}
 use Rattle.edge_traits.specs.declared.mem_disk.Call.{Call}
 use Rattle.edge_traits.specs.declared.mem_disk.Call.TheVariants.{Wrote, Synced}
 
@@ -39,9 +39,9 @@ torn_pop : (writes : List Write) (w : Write) (old new : List ℕ) → TornBy (wr
 torn_pop [] w old new torn = (old, refl, subst (Torn w.at (length w.bytes) old) (sym torn.2) torn.1)
 torn_pop (v ∷ writes) w old new torn = let last = torn_pop writes w torn.0 new torn.2 in (last.0, (torn.0, torn.1, last.1), last.2)
 
-all_done-push : (writes : List Write) (w : Write) (old : List ℕ) → all_done (writes ++ w ∷ []) old ≡ overwritten w (all_done writes old)
+all_done-push : (writes : List Write) (w : Write) (old : List ℕ) → all_done (writes ++ w ∷ []) old ≡ overwritten w.at w.bytes (all_done writes old)
 all_done-push [] w old = refl
-all_done-push (v ∷ writes) w old = all_done-push writes w (overwritten v old)
+all_done-push (v ∷ writes) w old = all_done-push writes w (overwritten v.at v.bytes old)
 
 -- a write that was put into the record
 module _ (old new bytes base : List ℕ) (calls later : List Call) (at synced_at : ℕ) (copy : Vec ℕ Global) (is : later ≡ calls ++ Wrote at copy ∷ []) (copied : copy.items ≡ bytes)
@@ -59,7 +59,7 @@ module _ (old new bytes base : List ℕ) (calls later : List Call) (at synced_at
 
   pub done_written : all_done (writes_of (drop synced_at calls)) base ≡ old → all_done (writes_of (drop synced_at later)) base ≡ new
   done_written was = ap (λ (l : List Write). all_done l base) split ∙ all_done-push (writes_of (drop synced_at calls)) (record { at = at; bytes = bytes }) base
-      ∙ ap (overwritten (record { at = at; bytes = bytes })) was ∙ sym done
+      ∙ ap (overwritten at bytes) was ∙ sym done
 
 -- what a crash may leave after a write
 module _ (m now : Memory) (w : Write) (is : now ≡ written w m) where
@@ -148,12 +148,6 @@ size_after_le size [] = omega arith
 size_after_le size (Wrote a b ∷ calls) = omega (arith, size_after_le (max size (a + length b.items)) calls)
 size_after_le size (Synced ∷ calls) = size_after_le size calls
 
--- what lies past the old end is 0
-lengthened_zeros : (end : ℕ) (old zeros : List ℕ) → zeros ≡ replicate (length zeros) 0 → length (old ++ zeros) ≡ end → old ++ zeros ≡ lengthened end old
-lengthened_zeros end old zeros all size =
-    let n : length zeros ≡ end - length old = omega (arith, size, length-append old zeros) in
-    ap (λ (l : List ℕ). old ++ l) (all ∙ ap (λ (k : ℕ). replicate k 0) n)
-
 lengthened_length : (end : ℕ) (old : List ℕ) → length (lengthened end old) ≡ max (length old) end
 lengthened_length end old = length-append old (replicate (end - length old) 0) ∙ omega (arith, length-replicate {A = ℕ} (end - length old) 0)
 
@@ -189,13 +183,6 @@ cut_torn n w old inside =
       no_longer = omega (arith, cut_length n w old inside);
     }
 
--- a write that was kept whole is done
-pub cut_whole : (at n : ℕ) (bytes old : List ℕ) → n ≡ length bytes → Written at bytes old (cut_short n (record { at = at; bytes = bytes }) old)
-cut_whole at n bytes old all =
-    let kept : take n bytes ≡ bytes = take_all n bytes (omega (arith, all)) in
-    ap (λ (l : List ℕ). take at old ++ l ++ drop (at + length l) (lengthened (at + length bytes) old)) kept
-    ∙ ap (λ (l : List ℕ). take at old ++ bytes ++ l) (lengthened_past (at + length bytes) old)
-
 -- writes that were cut short are writes that were torn
 pub all_cut_torn : (n size : ℕ) (calls : List Call) (old : List ℕ) → length old ≡ size → writes_fit size calls ≡ true → TornBy (writes_of calls) old (cut_all_short n (writes_of calls) old)
 all_cut_torn n size [] old is fit = refl
@@ -206,34 +193,9 @@ all_cut_torn n size (Wrote a b ∷ calls) old is fit =
       cut_torn n w old inside,
       all_cut_torn (n - length b.items) (max size (a + length b.items)) calls (cut_short n w old)
           (cut_length n w old inside ∙ ap (λ (k : ℕ). max k (a + length b.items)) is)
-          (second (nat_le a size) (writes_fit (max size (a + length b.items)) calls) fit),
+          (second_so (nat_le a size) (writes_fit (max size (a + length b.items)) calls) fit),
     )
 all_cut_torn n size (Synced ∷ calls) old is fit = absurd (cc)
-
--- one write more was cut short
-pub tear_more : (start image image' : List ℕ) (kept left keep k : ℕ) (calls : List Call) (at : ℕ) (b : Vec ℕ Global) (call : Call) → k < length calls → call ≡ get_or calls k call → call ≡ Wrote at b
-    → keep ≡ min left (length b.items) → image' ≡ cut_short keep (record { at = at; bytes = b.items }) image → length image' ≡ max (length image) (at + length b.items)
-    → Tears start image kept left k calls → Tears start image' kept (left - keep) (k + 1) calls
-tear_more start image image' kept left keep k calls at b call lt is wrote kept_is cut grown t =
-    let dropped : drop k calls ≡ Wrote at b ∷ drop (k + 1) calls = drop_more calls k call lt ∙ ap (λ (c : Call). c ∷ drop (k + 1) calls) (sym is ∙ wrote) in
-    let w : Write = record { at = at; bytes = b.items } in
-    record {
-      whole = ap (λ (l : List ℕ). cut_all_short (left - keep) (writes_of (drop (k + 1) calls)) l) (cut ∙ cut_min left keep w image kept_is)
-          ∙ ap (λ (n : ℕ). cut_all_short n (writes_of (drop (k + 1) calls)) (cut_short left w image)) (let e : left - keep ≡ left - length b.items = omega (arith, kept_is) in e)
-          ∙ ap (λ (l : List Call). cut_all_short left (writes_of l) image) (sym dropped) ∙ t.whole;
-      fit = ap (λ (n : ℕ). writes_fit n (drop (k + 1) calls)) grown
-          ∙ second (nat_le at (length image)) (writes_fit (max (length image) (at + length b.items)) (drop (k + 1) calls)) (ap (writes_fit (length image)) (sym dropped) ∙ t.fit);
-      reach = ap (λ (n : ℕ). size_after n (drop (k + 1) calls)) grown ∙ ap (size_after (length image)) (sym dropped) ∙ t.reach;
-    }
-  where
-    cut_min : (left keep : ℕ) (w : Write) (image : List ℕ) → keep ≡ min left (length w.bytes) → cut_short keep w image ≡ cut_short left w image
-    cut_min left keep w image is = ap (λ (l : List ℕ). take w.at image ++ l ++ drop (w.at + length l) (lengthened (w.at + length w.bytes) image)) (ap (λ (k : ℕ). take k w.bytes) is ∙ take_min left w.bytes)
-
--- no sync stands among them
-pub no_sync : (size k : ℕ) (calls : List Call) (call : Call) → k < length calls → call ≡ get_or calls k call → call ≡ Synced → writes_fit size (drop k calls) ≡ true → ⊥
-no_sync size k calls call lt is synced fit =
-    let dropped : drop k calls ≡ Synced ∷ drop (k + 1) calls = drop_more calls k call lt ∙ ap (λ (c : Call). c ∷ drop (k + 1) calls) (sym is ∙ synced) in
-    let no : false ≡ true = ap (writes_fit size) (sym dropped) ∙ fit in absurd (cc)
 
 -- a fact on bytes holds of the value that has them
 pub if_ok_has : {T E : Type 0} (r : Result T E) (f : T → List ℕ) (x : List ℕ) (P : List ℕ → Type 0) → P x → IfOk r (λ d. f d ≡ x) → IfOk r (λ d. P (f d))

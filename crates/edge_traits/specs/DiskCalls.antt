@@ -1,6 +1,7 @@
 -- The record of calls that a disk in memory keeps, and what it says of the disk's bytes.
 use Rattle.std.specs.Prelude.{◌≡◌, ℕ, ◌+◌, ◌≤◌, max, Bool, true, false, List, [], ◌∷◌, length, take, drop, nat_le, ◌&&◌}
-use Rattle.edge_traits.specs.MemDisks.{Write, Memory, overwritten, begun, written, synced, IsImage, cut_all_short}
+use Rattle.edge_traits.specs.Disks.{overwritten}
+use Rattle.edge_traits.specs.MemDisks.{Write, Memory, begun, written, synced, IsImage, cut_all_short}
 use Rattle.edge_traits.specs.declared.mem_disk.Call.{Call}
 use Rattle.edge_traits.specs.declared.mem_disk.Call.TheVariants.{Wrote, Synced}
 
@@ -27,7 +28,7 @@ holding bytes base calls = record { reads = bytes; base = base; unsynced = write
 -- each of these writes done, in order
 abbrev pub all_done : List Write → List ℕ → List ℕ
 all_done [] old = old
-all_done (w ∷ writes) old = all_done writes (overwritten w old)
+all_done (w ∷ writes) old = all_done writes (overwritten w.at w.bytes old)
 
 -- what a crash at call t or later might have left
 abbrev pub LeftSince : List ℕ → List Call → ℕ → List ℕ → Type 0

@@ -1,16 +1,17 @@
 -- What holds of each disk in memory.
-use Rattle.std.specs.Prelude.{◌≡◌, ℕ, ◌+◌, ◌-◌, ◌≤◌, max, Bool, true, false, List, [], ◌∷◌, ◌++◌, length, take, drop, nat_le, ◌&&◌}
+use Rattle.std.specs.Prelude.{◌≡◌, ℕ, ◌+◌, ◌-◌, ◌≤◌, max, true, List, [], ◌∷◌, ◌++◌, length, take, drop, nat_le}
+use Rattle.std.specs.Cmp.{second_so}
 use Rattle.std.proofs.Common.{refl, subst, sym, ap, arith, ◌∙◌, append_assoc, length-append, length-drop}
 use Rattle.std.proofs.lemmas.Bool.Decides.{nat_tests}
 use Rattle.std.proofs.lemmas.List.{take_at, drop_at, take_all, length-take-le}
-use Rattle.edge_traits.specs.Disks.{Torn}
-use Rattle.edge_traits.specs.MemDisks.{Write, Memory, overwritten, begun, TornBy, IsImage}
+use Rattle.edge_traits.specs.Disks.{Torn, overwritten}
+use Rattle.edge_traits.specs.MemDisks.{Memory, begun, TornBy, IsImage}
 use Rattle.edge_traits.specs.DiskCalls.{after, holding, writes_of, all_done, writes_fit, LeftSince, Unsynced}
 use Rattle.edge_traits.specs.declared.mem_disk.Call.{Call}
 use Rattle.edge_traits.specs.declared.mem_disk.Call.TheVariants.{Wrote, Synced}
 
--- a write that was done is one that may have been cut short
-pub torn_written : (at : ℕ) (bytes old : List ℕ) → at ≤ length old → Torn at (length bytes) old (take at old ++ bytes ++ drop (at + length bytes) old)
+-- a write that was done is one way in which it may be torn
+pub torn_written : (at : ℕ) (bytes old : List ℕ) → at ≤ length old → Torn at (length bytes) old (overwritten at bytes old)
 torn_written at bytes old inside =
     let front : length (take at old) ≡ at = length-take-le at old inside in
     let rest = drop (at + length bytes) old in
@@ -23,26 +24,20 @@ torn_written at bytes old inside =
       no_longer = omega (arith, size);
     }
 
--- the second of two tests
-pub second : (p q : Bool) → (p && q) ≡ true → q ≡ true
-second true q e = e
-second false q e = absurd (cc)
-
-overwritten_length : (w : Write) (old : List ℕ) → w.at ≤ length old → length (overwritten w old) ≡ max (length old) (w.at + length w.bytes)
-overwritten_length w old inside = length-append (take w.at old ++ w.bytes) (drop (w.at + length w.bytes) old)
-    ∙ omega (arith, length-append (take w.at old) w.bytes, length-take-le w.at old inside, length-drop (w.at + length w.bytes) old)
+overwritten_length : (at : ℕ) (bytes old : List ℕ) → at ≤ length old → length (overwritten at bytes old) ≡ max (length old) (at + length bytes)
+overwritten_length at bytes old inside = length-append (take at old ++ bytes) (drop (at + length bytes) old)
+    ∙ omega (arith, length-append (take at old) bytes, length-take-le at old inside, length-drop (at + length bytes) old)
 
 -- writes that were done are writes that may have been torn
 all_done_torn : (size : ℕ) (calls : List Call) (old : List ℕ) → length old ≡ size → writes_fit size calls ≡ true → TornBy (writes_of calls) old (all_done (writes_of calls) old)
 all_done_torn size [] old is fit = refl
 all_done_torn size (Wrote a b ∷ calls) old is fit =
-    let w : Write = record { at = a; bytes = b.items } in
     let inside : a ≤ length old = grind (arith, nat_tests, fit, is) in (
-      overwritten w old,
+      overwritten a b.items old,
       torn_written a b.items old inside,
-      all_done_torn (max size (a + length b.items)) calls (overwritten w old)
-          (overwritten_length w old inside ∙ ap (λ (k : ℕ). max k (a + length b.items)) is)
-          (second (nat_le a size) (writes_fit (max size (a + length b.items)) calls) fit),
+      all_done_torn (max size (a + length b.items)) calls (overwritten a b.items old)
+          (overwritten_length a b.items old inside ∙ ap (λ (k : ℕ). max k (a + length b.items)) is)
+          (second_so (nat_le a size) (writes_fit (max size (a + length b.items)) calls) fit),
     )
 all_done_torn size (Synced ∷ calls) old is fit = absurd (cc)
 

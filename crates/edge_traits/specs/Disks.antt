@@ -1,9 +1,12 @@
 -- What the calls of a disk do to its bytes, and what a crash may leave of them.
 use Rattle.std.specs.Prelude.{◌≡◌, ◌⊎◌, ℕ, ◌+◌, ◌≤◌, max, List, ◌++◌, length, take, drop}
 
--- new is old with these bytes at this place
+-- old with these bytes at this place
+abbrev pub overwritten : ℕ → List ℕ → List ℕ → List ℕ
+overwritten at bytes old = take at old ++ bytes ++ drop (at + length bytes) old
+
 abbrev pub Written : ℕ → List ℕ → List ℕ → List ℕ → Type 0
-Written at bytes old new = new ≡ take at old ++ bytes ++ drop (at + length bytes) old
+Written at bytes old new = new ≡ overwritten at bytes old
 
 -- a write of n bytes that was cut short: any bytes in its range and past the old end, the same elsewhere
 pub record Torn (at n : ℕ) (old new : List ℕ) : Type 0 where

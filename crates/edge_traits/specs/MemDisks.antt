@@ -1,12 +1,13 @@
 -- What a disk in memory holds, and what a crash may leave of it.
 use Rattle.std.specs.Prelude.{◌≡◌, ℕ, ◌+◌, ◌-◌, List, [], ◌∷◌, ◌++◌, length, take, drop, replicate}
-use Rattle.edge_traits.specs.Disks.{Torn}
+use Rattle.edge_traits.specs.Disks.{Torn, overwritten}
 
 -- these bytes were written, from this place on
 pub record Write : Type 0 where
   pub at : ℕ
   pub bytes : List ℕ
 
+-- what a disk in memory holds
 pub record Memory : Type 0 where
   -- what reads give
   pub reads : List ℕ
@@ -15,17 +16,13 @@ pub record Memory : Type 0 where
   -- the writes since, in order
   pub unsynced : List Write
 
--- a write that is done: its bytes over what stood there
-abbrev pub overwritten : Write → List ℕ → List ℕ
-overwritten w old = take w.at old ++ w.bytes ++ drop (w.at + length w.bytes) old
-
 -- before the first call
 abbrev pub begun : List ℕ → Memory
 begun bytes = record { reads = bytes; base = bytes; unsynced = [] }
 
 -- after one write more
 abbrev pub written : Write → Memory → Memory
-written w m = record { reads = overwritten w m.reads; base = m.base; unsynced = m.unsynced ++ w ∷ [] }
+written w m = record { reads = overwritten w.at w.bytes m.reads; base = m.base; unsynced = m.unsynced ++ w ∷ [] }
 
 -- after a sync
 abbrev pub synced : Memory → Memory
@@ -36,11 +33,11 @@ abbrev pub TornBy : List Write → List ℕ → List ℕ → Type 0
 TornBy [] old new = new ≡ old
 TornBy (w ∷ writes) old new = (mid : List ℕ) × Torn w.at (length w.bytes) old mid × TornBy writes mid new
 
--- what a crash may leave: the base, with each write since torn
+-- what a crash may leave: the base, with each write since torn in any way
 abbrev pub IsImage : Memory → List ℕ → Type 0
 IsImage m c = TornBy m.unsynced m.base c
 
--- with zeros behind it up to this length
+-- these bytes, with zeros behind them up to this length
 abbrev pub lengthened : ℕ → List ℕ → List ℕ
 lengthened n bytes = bytes ++ replicate (n - length bytes) 0
 

@@ -1,9 +1,10 @@
 // A disk in memory, which keeps a record of its writes and syncs.
-ghost use Rattle.std.specs.Prelude.{◌≡◌, ℕ, ◌+◌, ◌^◌, ◌<◌, ◌≤◌, ◌↔◌, max, List, [], ◌∷◌, ◌++◌, length, take, drop};
+ghost use Rattle.std.specs.Prelude.{◌≡◌, ℕ, ◌+◌, ◌^◌, ◌<◌, ◌≤◌, ◌↔◌, max, List, [], ◌∷◌, ◌++◌, length, drop};
 ghost use Rattle.std.specs.Prelude.{OnOk, OnErr, IfOk, IsErr, vec_len, true};
 ghost use Rattle.std.specs.Io.{ReadsAtMost};
 ghost use Rattle.edge_traits.specs.Causes.{HasCause};
-ghost use Rattle.edge_traits.specs.Disks.{Written, Torn, Fills, LeavesNoMore, LeavesAll, After, Follows, Only, Elapses, ElapsesBy};
+ghost use Rattle.edge_traits.specs.Disks.{Written, Torn, Fills, LeavesNoMore, LeavesAll, After, Follows, Only};
+ghost use Rattle.edge_traits.specs.Disks.{Elapses, ElapsesBy, overwritten};
 ghost use Rattle.edge_traits.specs.MemDisks.{begun, written, synced, cut_short, cut_all_short, crashed};
 ghost use Rattle.edge_traits.specs.DiskCalls.{after, holding, writes_of, all_done, Unsynced, writes_fit, size_after};
 ghost use Rattle.edge_traits.specs.declared.mem_disk.Call.TheVariants.{Wrote, Synced};
@@ -43,7 +44,7 @@ pub struct MemDisk {
 // Puts bytes in the place of others.
 fn set_range(image: &mut [u8], at: usize, bytes: &[u8])
     requires { at + length bytes.now ≤ length image.old }
-    ensures { image.new ≡ take at image.old ++ bytes.now ++ drop (at + length bytes.now) image.old }
+    ensures { image.new ≡ overwritten at bytes.now image.old }
 {
     image[at..at + bytes.len()].copy_from_slice(bytes);
 }
@@ -176,9 +177,12 @@ impl MemDisk {
     /// end.
     pub fn crash(&self, kept: u64) -> Result<MemDisk, AllocError>
         ensures memory { IfOk result (λ d. memory_of d ≡ begun (crashed kept (memory_of self.now))) }
-        ensures image { IfOk result (λ d. ⟦<MemDisk as Disk>⟧.images self.now (⟦<MemDisk as Disk>⟧.reads d)) }
-        ensures only { IfOk result (λ d. Only (⟦<MemDisk as Disk>⟧.reads d) (⟦<MemDisk as Disk>⟧.images d)) }
-        ensures room { IfOk result (λ d. ⟦<MemDisk as Disk>⟧.most d ≡ ⟦<MemDisk as Disk>⟧.most self.now) }
+        ensures image { IfOk result (λ d. ⟦<MemDisk as Disk>⟧.images self.now
+            (⟦<MemDisk as Disk>⟧.reads d)) }
+        ensures only { IfOk result (λ d. Only
+            (⟦<MemDisk as Disk>⟧.reads d) (⟦<MemDisk as Disk>⟧.images d)) }
+        ensures room { IfOk result (λ d.
+            ⟦<MemDisk as Disk>⟧.most d ≡ ⟦<MemDisk as Disk>⟧.most self.now) }
         ensures faults { IfOk result (λ d. ⟦<MemDisk as Disk>⟧.faults d ≡ 0) }
         ensures plan { IfOk result (λ d. disk_plan d ≡ first_plan []) }
     {
@@ -217,13 +221,16 @@ impl Disk for MemDisk {
         ensures length { IfOk result (λ n. n ≡ length (⟦<MemDisk as Disk>⟧.reads self.old)) }
         ensures within { IfOk result (λ n. n ≤ ⟦<MemDisk as Disk>⟧.most self.old) }
         ensures reads { ⟦<MemDisk as Disk>⟧.reads self.new ≡ ⟦<MemDisk as Disk>⟧.reads self.old }
-        ensures images { LeavesNoMore (⟦<MemDisk as Disk>⟧.images self.old) (⟦<MemDisk as Disk>⟧.images self.new) }
-        ensures time { Elapses (⟦<MemDisk as Disk>⟧.moment self.old) (⟦<MemDisk as Disk>⟧.moment self.new)
+        ensures images { LeavesNoMore
+            (⟦<MemDisk as Disk>⟧.images self.old) (⟦<MemDisk as Disk>⟧.images self.new) }
+        ensures time { Elapses
+            (⟦<MemDisk as Disk>⟧.moment self.old) (⟦<MemDisk as Disk>⟧.moment self.new)
             (⟦<MemDisk as Disk>⟧.left_since self.old) (⟦<MemDisk as Disk>⟧.left_since self.new)
             (⟦<MemDisk as Disk>⟧.images self.new) }
         ensures most { ⟦<MemDisk as Disk>⟧.most self.new ≡ ⟦<MemDisk as Disk>⟧.most self.old }
         ensures memory { memory_of self.new ≡ memory_of self.old }
-        ensures cause { HasCause (⟦<MemDisk as Disk>⟧.faults self.old) (⟦<MemDisk as Disk>⟧.faults self.new) result }
+        ensures cause { HasCause
+            (⟦<MemDisk as Disk>⟧.faults self.old) (⟦<MemDisk as Disk>⟧.faults self.new) result }
 
         // It fails at the numbers that are planned.
         ensures planned { IsErr result ↔ FailsNext (disk_plan self.old) }
@@ -243,13 +250,16 @@ impl Disk for MemDisk {
         ensures bound { ReadsAtMost result buf.old }
         ensures bytes { IfOk result (λ n. Fills at (⟦<MemDisk as Disk>⟧.reads self.old) n buf.new) }
         ensures reads { ⟦<MemDisk as Disk>⟧.reads self.new ≡ ⟦<MemDisk as Disk>⟧.reads self.old }
-        ensures images { LeavesNoMore (⟦<MemDisk as Disk>⟧.images self.old) (⟦<MemDisk as Disk>⟧.images self.new) }
-        ensures time { Elapses (⟦<MemDisk as Disk>⟧.moment self.old) (⟦<MemDisk as Disk>⟧.moment self.new)
+        ensures images { LeavesNoMore
+            (⟦<MemDisk as Disk>⟧.images self.old) (⟦<MemDisk as Disk>⟧.images self.new) }
+        ensures time { Elapses
+            (⟦<MemDisk as Disk>⟧.moment self.old) (⟦<MemDisk as Disk>⟧.moment self.new)
             (⟦<MemDisk as Disk>⟧.left_since self.old) (⟦<MemDisk as Disk>⟧.left_since self.new)
             (⟦<MemDisk as Disk>⟧.images self.new) }
         ensures most { ⟦<MemDisk as Disk>⟧.most self.new ≡ ⟦<MemDisk as Disk>⟧.most self.old }
         ensures memory { memory_of self.new ≡ memory_of self.old }
-        ensures cause { HasCause (⟦<MemDisk as Disk>⟧.faults self.old) (⟦<MemDisk as Disk>⟧.faults self.new) result }
+        ensures cause { HasCause
+            (⟦<MemDisk as Disk>⟧.faults self.old) (⟦<MemDisk as Disk>⟧.faults self.new) result }
 
         // It fails at the numbers that are planned.
         ensures planned { IsErr result ↔ FailsNext (disk_plan self.old) }
@@ -264,27 +274,35 @@ impl Disk for MemDisk {
     fn write_at(&mut self, at: u64, bytes: &[u8]) -> Result<(), Failed>
         requires room { at + length bytes.now ≤ ⟦<MemDisk as Disk>⟧.most self.old }
         requires inside { at ≤ length (⟦<MemDisk as Disk>⟧.reads self.old) }
-        ensures ok { OnOk result (Written at bytes.now (⟦<MemDisk as Disk>⟧.reads self.old) (⟦<MemDisk as Disk>⟧.reads self.new)) }
+        ensures ok { OnOk result (Written at bytes.now
+            (⟦<MemDisk as Disk>⟧.reads self.old) (⟦<MemDisk as Disk>⟧.reads self.new)) }
         ensures err { OnErr result (Torn at (length bytes.now)
             (⟦<MemDisk as Disk>⟧.reads self.old) (⟦<MemDisk as Disk>⟧.reads self.new)) }
         ensures images { Follows (Torn at (length bytes.now))
             (⟦<MemDisk as Disk>⟧.images self.old) (⟦<MemDisk as Disk>⟧.images self.new) }
-        ensures time { ElapsesBy (Torn at (length bytes.now)) (⟦<MemDisk as Disk>⟧.moment self.old) (⟦<MemDisk as Disk>⟧.moment self.new)
+        ensures time { ElapsesBy (Torn at (length bytes.now))
+            (⟦<MemDisk as Disk>⟧.moment self.old) (⟦<MemDisk as Disk>⟧.moment self.new)
             (⟦<MemDisk as Disk>⟧.left_since self.old) (⟦<MemDisk as Disk>⟧.left_since self.new)
             (⟦<MemDisk as Disk>⟧.images self.old) }
         ensures most { ⟦<MemDisk as Disk>⟧.most self.new ≡ ⟦<MemDisk as Disk>⟧.most self.old }
-        ensures cause { HasCause (⟦<MemDisk as Disk>⟧.faults self.old) (⟦<MemDisk as Disk>⟧.faults self.new) result }
+        ensures cause { HasCause
+            (⟦<MemDisk as Disk>⟧.faults self.old) (⟦<MemDisk as Disk>⟧.faults self.new) result }
 
-        // It fails at the numbers that are planned, else writes all, or finds no memory. Where it fails, all is as before.
+        // It fails at the numbers that are planned, else writes all, or finds no memory. Where it fails, all is as
+        // before, at each moment.
         ensures planned { FailsNext (disk_plan self.old) → IsErr result }
         ensures plan { disk_plan self.new ≡ later_plan (disk_plan self.old) }
         ensures wrote { OnOk result (memory_of self.new
             ≡ written (record { at = at; bytes = bytes.now }) (memory_of self.old)) }
         ensures unwritten { OnErr result (memory_of self.new ≡ memory_of self.old) }
+        ensures quiet { OnErr result (Elapses
+            (⟦<MemDisk as Disk>⟧.moment self.old) (⟦<MemDisk as Disk>⟧.moment self.new)
+            (⟦<MemDisk as Disk>⟧.left_since self.old) (⟦<MemDisk as Disk>⟧.left_since self.new)
+            (⟦<MemDisk as Disk>⟧.images self.new)) }
 
         // However the write may be torn, a crash may leave it so.
-        ensures torn { OnOk result (LeavesAll (After (Torn at (length bytes.now)) (⟦<MemDisk as Disk>⟧.images self.old))
-            (⟦<MemDisk as Disk>⟧.images self.new)) }
+        ensures torn { OnOk result (LeavesAll
+            (After (Torn at (length bytes.now)) (⟦<MemDisk as Disk>⟧.images self.old)) (⟦<MemDisk as Disk>⟧.images self.new)) }
         ensures stays { LeavesAll (⟦<MemDisk as Disk>⟧.images self.old) (⟦<MemDisk as Disk>⟧.images self.new) }
     {
         if self.schedule.call_fails() {
@@ -304,14 +322,18 @@ impl Disk for MemDisk {
     }
 
     fn sync(&mut self) -> Result<(), Failed>
-        ensures ok { OnOk result (Only (⟦<MemDisk as Disk>⟧.reads self.old) (⟦<MemDisk as Disk>⟧.images self.new)) }
+        ensures ok { OnOk result (Only
+            (⟦<MemDisk as Disk>⟧.reads self.old) (⟦<MemDisk as Disk>⟧.images self.new)) }
         ensures reads { ⟦<MemDisk as Disk>⟧.reads self.new ≡ ⟦<MemDisk as Disk>⟧.reads self.old }
-        ensures images { LeavesNoMore (⟦<MemDisk as Disk>⟧.images self.old) (⟦<MemDisk as Disk>⟧.images self.new) }
-        ensures time { Elapses (⟦<MemDisk as Disk>⟧.moment self.old) (⟦<MemDisk as Disk>⟧.moment self.new)
+        ensures images { LeavesNoMore
+            (⟦<MemDisk as Disk>⟧.images self.old) (⟦<MemDisk as Disk>⟧.images self.new) }
+        ensures time { Elapses
+            (⟦<MemDisk as Disk>⟧.moment self.old) (⟦<MemDisk as Disk>⟧.moment self.new)
             (⟦<MemDisk as Disk>⟧.left_since self.old) (⟦<MemDisk as Disk>⟧.left_since self.new)
             (⟦<MemDisk as Disk>⟧.images self.new) }
         ensures most { ⟦<MemDisk as Disk>⟧.most self.new ≡ ⟦<MemDisk as Disk>⟧.most self.old }
-        ensures cause { HasCause (⟦<MemDisk as Disk>⟧.faults self.old) (⟦<MemDisk as Disk>⟧.faults self.new) result }
+        ensures cause { HasCause
+            (⟦<MemDisk as Disk>⟧.faults self.old) (⟦<MemDisk as Disk>⟧.faults self.new) result }
 
         // It fails at the numbers that are planned, else syncs, or finds no memory. Where it fails, all is as before.
         ensures planned { FailsNext (disk_plan self.old) → IsErr result }

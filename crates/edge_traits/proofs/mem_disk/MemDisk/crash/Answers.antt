@@ -1,4 +1,4 @@
-use Rattle.std.proofs.Common.{◌≡◌, ◌∙◌, ◌-◌, sym, ap, subst, List, ℕ, length, length-drop, drop, refl, arith, rules}
+use Rattle.std.proofs.Common.{◌≡◌, ◌∙◌, ◌-◌, sym, ap, subst, List, length, length-drop, drop, refl, arith, rules}
 use Rattle.std.proofs.lemmas.List.{take_all}
 use Rattle.edge_traits.specs.MemDisks.{TornBy, cut_all_short}
 use Rattle.edge_traits.specs.DiskCalls.{writes_of}

@@ -1,4 +1,4 @@
-use Rattle.std.proofs.Common.{◌≡◌, ◌≤◌, ◌∙◌, sym, subst, refl, arith, List, ℕ, length, drop}
+use Rattle.std.proofs.Common.{◌≡◌, ◌≤◌, ◌∙◌, sym, subst, refl, arith, length, drop}
 use Rattle.edge_traits.specs.MemDisks.{Memory, IsImage}
 use Rattle.edge_traits.specs.DiskCalls.{holding}
 use Rattle.edge_traits.specs.DiskLaws.{done_is_torn}

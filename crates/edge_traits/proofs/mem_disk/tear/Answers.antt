@@ -1,1 +1,0 @@
-use Rattle.edge_traits.proofs.mem_disk.tear.Goals as goal
