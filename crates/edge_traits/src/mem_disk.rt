@@ -118,7 +118,8 @@ fn tear(image: &mut Vec<u8>, calls: &[Call], kept: u64) -> Result<(), AllocError
     requires short { size_after (length image.old.items) calls.now < 2 ^ 64 }
     ensures torn { OnOk result (image.new.items
         ≡ cut_all_short kept (writes_of calls.now) image.old.items) }
-    ensures len { OnOk result (length image.new.items ≡ size_after (length image.old.items) calls.now) }
+    ensures len { OnOk result (length image.new.items
+        ≡ size_after (length image.old.items) calls.now) }
 {
     let mut left = kept;
     for call in calls {
@@ -176,7 +177,8 @@ impl MemDisk {
     /// answered Ok the first `kept`, in order of writing, stand; the others are as they were before, or 0 past the old
     /// end.
     pub fn crash(&self, kept: u64) -> Result<MemDisk, AllocError>
-        ensures memory { IfOk result (λ d. memory_of d ≡ begun (crashed kept (memory_of self.now))) }
+        ensures memory { IfOk result (λ d. memory_of d
+            ≡ begun (crashed kept (memory_of self.now))) }
         ensures image { IfOk result (λ d. ⟦<MemDisk as Disk>⟧.images self.now
             (⟦<MemDisk as Disk>⟧.reads d)) }
         ensures only { IfOk result (λ d. Only
@@ -302,8 +304,10 @@ impl Disk for MemDisk {
 
         // However the write may be torn, a crash may leave it so.
         ensures torn { OnOk result (LeavesAll
-            (After (Torn at (length bytes.now)) (⟦<MemDisk as Disk>⟧.images self.old)) (⟦<MemDisk as Disk>⟧.images self.new)) }
-        ensures stays { LeavesAll (⟦<MemDisk as Disk>⟧.images self.old) (⟦<MemDisk as Disk>⟧.images self.new) }
+            (After (Torn at (length bytes.now)) (⟦<MemDisk as Disk>⟧.images self.old))
+            (⟦<MemDisk as Disk>⟧.images self.new)) }
+        ensures stays { LeavesAll
+            (⟦<MemDisk as Disk>⟧.images self.old) (⟦<MemDisk as Disk>⟧.images self.new) }
     {
         if self.schedule.call_fails() {
             return Err(Failed);
