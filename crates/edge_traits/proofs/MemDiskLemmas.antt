@@ -1,117 +1,118 @@
 -- A disk in memory: what its record of calls gives, after one call more.
-use Rattle.std.proofs.Common.{◌≡◌, inl, inr, ⊎_elim, ℕ, suc, zero, ◌+◌, ◌-◌, ◌≤◌, ◌<◌, max, Bool, true, false, List, [], ◌∷◌, ◌++◌, length, get_or, take, drop, Vec, Global, Result, Ok, Err, IfOk, refl, sym, ◌∙◌, ap, subst, arith, append_assoc, length-append, length-drop, take-append-drop}
+use Rattle.std.proofs.Common.{◌≡◌, inl, inr, ⊎_elim, ℕ, suc, zero, ◌+◌, ◌-◌, ◌≤◌, ◌<◌, max, Bool, true, false, List, [], ◌∷◌, ◌++◌, length, take, drop, replicate, Vec, Global, Result, Ok, Err, IfOk, refl, sym, ◌∙◌, ap, subst, arith, append_assoc, length-append, length-drop}
 use Rattle.std.specs.Prelude.{◌&&◌, ◌⊎◌, nat_le}
+use Rattle.std.specs.Cmp.{second_so}
 use Rattle.std.proofs.lemmas.Bool.Decides.{nat_tests}
-use Rattle.std.proofs.lemmas.List.{take_at, drop_at, take_more, drop_more, take_all, drop_all, length-take-le, take-append-le, drop-append-le}
-use Rattle.edge_traits.specs.Disks.{Written, Torn, Follows, Only, LeavesNoMore, Elapses, ElapsesBy}
-use Rattle.edge_traits.specs.MemDisks.{Memory, begun, step, after, TornBy, IsImage, LeftSince, IsRested, Replays, writes_fit, size_after, Unsynced, Tears}
+use Rattle.std.proofs.lemmas.List.{take_at, take_all, drop_all, length-take, length-take-le, length-replicate, append-nil, drop-drop, take-append-le, drop-append-le}
+use Rattle.std.proofs.Math.Seq.{drop-append-add}
+use Rattle.edge_traits.specs.Disks.{Written, overwritten, Torn, Follows, After, LeavesAll, Elapses, ElapsesBy}
+use Rattle.edge_traits.specs.MemDisks.{Write, Memory, begun, written, synced, TornBy, IsImage, lengthened, cut_short, cut_all_short}
+use Rattle.edge_traits.specs.DiskCalls.{step, after, writes_of, all_done, holding, LeftSince, writes_fit, size_after, Unsynced}
 use Rattle.edge_traits.specs.declared.mem_disk.Call.{Call}
 use Rattle.edge_traits.specs.declared.mem_disk.Call.TheVariants.{Wrote, Synced}
 
-pub after-push : (m : Memory) (calls : List Call) (c : Call) → after m (calls ++ c ∷ []) ≡ step (after m calls) c
+after-push : (m : Memory) (calls : List Call) (c : Call) → after m (calls ++ c ∷ []) ≡ step (after m calls) c
 after-push m [] c = refl
 after-push m (d ∷ calls) c = after-push (step m d) calls c
+
+writes_of-push : (calls : List Call) (at : ℕ) (copy : Vec ℕ Global) → writes_of (calls ++ Wrote at copy ∷ []) ≡ writes_of calls ++ record { at = at; bytes = copy.items } ∷ []
+writes_of-push [] at copy = refl
+writes_of-push (Wrote a b ∷ calls) at copy = ap (λ (l : List Write). record { at = a; bytes = b.items } ∷ l) (writes_of-push calls at copy)
+writes_of-push (Synced ∷ calls) at copy = writes_of-push calls at copy
 
 order : (k n : ℕ) → (k ≤ n) ⊎ (n < k)
 order zero n = inl (omega arith)
 order (suc k) zero = inr (omega arith)
 order (suc k) (suc n) = ⊎_elim (λ (h : k ≤ n). inl (omega arith)) (λ (h : n < k). inr (omega arith)) (order k n)
 
--- a write that was done is one that may have been cut short
-pub torn_written : (at : ℕ) (bytes old : List ℕ) → at ≤ length old → Torn at (length bytes) old (take at old ++ bytes ++ drop (at + length bytes) old)
-torn_written at bytes old inside =
-    let front : length (take at old) ≡ at = length-take-le at old inside in
-    let rest = drop (at + length bytes) old in
-    let size : length (take at old ++ bytes ++ rest) ≡ at + length bytes + (length old - (at + length bytes)) =
-    length-append (take at old ++ bytes) rest ∙ omega (arith, length-append (take at old) bytes, front, length-drop (at + length bytes) old) in
-    record {
-      before = ap (take at) (append_assoc (take at old) bytes rest) ∙ take_at (take at old) (bytes ++ rest) at front;
-      after = drop_at (take at old ++ bytes) rest (at + length bytes) (length-append (take at old) bytes ∙ omega (arith, front));
-      no_shorter = omega (arith, size);
-      no_longer = omega (arith, size);
-    }
+-- nothing need be torn
+torn_none : (at n : ℕ) (bytes : List ℕ) → Torn at n bytes bytes
+torn_none at n bytes = record { before = refl; after = refl; no_shorter = omega arith; no_longer = omega arith }
 
--- an image after a write is one before it, torn there
-pub image_written : (m : Memory) (at : ℕ) (bytes : Vec ℕ Global) (c : List ℕ) → at ≤ length m.reads → IsImage (step m (Wrote at bytes)) c → (d : List ℕ) × IsImage m d × Torn at (length bytes.items) d c
-image_written m at bytes c inside (inl is) = (m.reads, inl refl, subst (Torn at (length bytes.items) m.reads) (sym is) (torn_written at bytes.items m.reads inside))
-image_written m at bytes c inside (inr torn) = (torn.0, inr torn.1, torn.2)
+-- one write more, torn
+torn_push : (writes : List Write) (w : Write) (old mid new : List ℕ) → TornBy writes old mid → Torn w.at (length w.bytes) mid new → TornBy (writes ++ w ∷ []) old new
+torn_push [] w old mid new is torn = (new, subst (λ (l : List ℕ). Torn w.at (length w.bytes) l new) is torn, refl)
+torn_push (v ∷ writes) w old mid new torn last = (torn.0, torn.1, torn_push writes w torn.0 mid new torn.2 last)
 
--- after a sync there is one image
-pub image_synced : (m : Memory) (c : List ℕ) → IsImage (step m Synced) c → c ≡ m.reads
-image_synced m c (inl is) = is
-image_synced m c (inr is) = is
+-- .. and the image before that one
+torn_pop : (writes : List Write) (w : Write) (old new : List ℕ) → TornBy (writes ++ w ∷ []) old new → (mid : List ℕ) × TornBy writes old mid × Torn w.at (length w.bytes) mid new
+torn_pop [] w old new torn = (old, refl, subst (Torn w.at (length w.bytes) old) (sym torn.2) torn.1)
+torn_pop (v ∷ writes) w old new torn = let last = torn_pop writes w torn.0 new torn.2 in (last.0, (torn.0, torn.1, last.1), last.2)
 
-module _ (first : List ℕ) (calls later : List Call) (call : Call) (is : later ≡ calls ++ call ∷ []) where
+all_done-push : (writes : List Write) (w : Write) (old : List ℕ) → all_done (writes ++ w ∷ []) old ≡ overwritten w.at w.bytes (all_done writes old)
+all_done-push [] w old = refl
+all_done-push (v ∷ writes) w old = all_done-push writes w (overwritten v.at v.bytes old)
+
+-- a write that was put into the record
+module _ (old new bytes base : List ℕ) (calls later : List Call) (at synced_at : ℕ) (copy : Vec ℕ Global) (is : later ≡ calls ++ Wrote at copy ∷ []) (copied : copy.items ≡ bytes)
+    (place : synced_at ≤ length calls) (done : Written at bytes old new) where
+  split : writes_of (drop synced_at later) ≡ writes_of (drop synced_at calls) ++ record { at = at; bytes = bytes } ∷ []
+  split = ap (λ (l : List Call). writes_of (drop synced_at l)) is ∙ ap writes_of (drop-append-le synced_at calls (Wrote at copy ∷ []) place)
+      ∙ writes_of-push (drop synced_at calls) at copy ∙ ap (λ (l : List ℕ). writes_of (drop synced_at calls) ++ record { at = at; bytes = l } ∷ []) copied
+
+  pub holding_written : holding new base (drop synced_at later) ≡ written (record { at = at; bytes = bytes }) (holding old base (drop synced_at calls))
+  holding_written i = record { reads = done i; base = base; unsynced = split i }
+
+  pub replays_written : (first : List ℕ) → after (begun first) calls ≡ holding old base (drop synced_at calls) → after (begun first) later ≡ holding new base (drop synced_at later)
+  replays_written first r = ap (after (begun first)) is ∙ after-push (begun first) calls (Wrote at copy) ∙ ap (λ (m : Memory). step m (Wrote at copy)) r
+      ∙ ap (λ (l : List ℕ). written (record { at = at; bytes = l }) (holding old base (drop synced_at calls))) copied ∙ sym holding_written
+
+  pub done_written : all_done (writes_of (drop synced_at calls)) base ≡ old → all_done (writes_of (drop synced_at later)) base ≡ new
+  done_written was = ap (λ (l : List Write). all_done l base) split ∙ all_done-push (writes_of (drop synced_at calls)) (record { at = at; bytes = bytes }) base
+      ∙ ap (overwritten at bytes) was ∙ sym done
+
+-- what a crash may leave after a write
+module _ (m now : Memory) (w : Write) (is : now ≡ written w m) where
+  pub images_torn : LeavesAll (After (Torn w.at (length w.bytes)) (IsImage m)) (IsImage now)
+  images_torn c from = subst (λ (n : Memory). IsImage n c) (sym is) (torn_push m.unsynced w m.base from.0 c from.1 from.2)
+
+  pub images_stay : LeavesAll (IsImage m) (IsImage now)
+  images_stay c image = images_torn c (c, image, torn_none w.at (length w.bytes) c)
+
+  pub images_follow : Follows (Torn w.at (length w.bytes)) (IsImage m) (IsImage now)
+  images_follow c image = torn_pop m.unsynced w m.base c (subst (λ (n : Memory). IsImage n c) is image)
+
+-- a sync that was put into the record
+module _ (bytes base' : List ℕ) (later : List Call) (synced_at : ℕ) (all : length later ≤ synced_at) (copied : base' ≡ bytes) where
+  none : writes_of (drop synced_at later) ≡ []
+  none = ap writes_of (drop_all synced_at later all)
+
+  pub holding_synced : holding bytes base' (drop synced_at later) ≡ begun bytes
+  holding_synced i = record { reads = bytes; base = copied i; unsynced = none i }
+
+  pub replays_synced : (first : List ℕ) (calls : List Call) (m : Memory) → later ≡ calls ++ Synced ∷ [] → after (begun first) calls ≡ m → m.reads ≡ bytes
+      → after (begun first) later ≡ holding bytes base' (drop synced_at later)
+  replays_synced first calls m is r reads = ap (after (begun first)) is ∙ after-push (begun first) calls Synced ∙ ap (λ (n : Memory). begun n.reads) r ∙ ap begun reads ∙ sym holding_synced
+
+  pub done_synced : all_done (writes_of (drop synced_at later)) base' ≡ bytes
+  done_synced = ap (λ (l : List Write). all_done l base') none ∙ copied
+
+-- a call was put into the record: time goes on
+module _ (first : List ℕ) (calls later : List Call) (call : Call) (now : Memory) (is : later ≡ calls ++ call ∷ []) (replayed : after (begun first) later ≡ now) where
   size : length later ≡ length calls + 1
   size = ap length is ∙ length-append calls (call ∷ [])
 
   front : (k : ℕ) → k ≤ length calls → take k later ≡ take k calls
   front k le = ap (take k) is ∙ take-append-le k calls (call ∷ []) le
 
-  image_later : (c : List ℕ) → IsImage (after (begun first) later) c → IsImage (step (after (begun first) calls) call) c
-  image_later c image = subst (λ (m : Memory). IsImage m c) (ap (after (begun first)) is ∙ after-push (begun first) calls call) image
-
-  pub elapses_push : Elapses (length calls) (length later) (LeftSince first calls) (LeftSince first later) (IsImage (after (begun first) later))
+  pub elapses_push : Elapses (length calls) (length later) (LeftSince first calls) (LeftSince first later) (IsImage now)
   elapses_push = record {
     later = omega (arith, size);
     nothing_else = λ t c le left.
         ⊎_elim
         (λ (small : left.0 ≤ length calls). inl (left.0, left.1, small, subst (λ (l : List Call). IsImage (after (begun first) l) c) (front left.0 small) left.3))
-        (λ (big : length calls < left.0). inr (subst (λ (l : List Call). IsImage (after (begun first) l) c) (take_all left.0 later (omega (arith, size, big))) left.3))
+        (λ (big : length calls < left.0). inr (subst (λ (m : Memory). IsImage m c) (ap (after (begun first)) (take_all left.0 later (omega (arith, size, big))) ∙ replayed) left.3))
         (order left.0 (length calls));
     keeps = λ t c le left. (left.0, left.1, omega (arith, left.2, size), subst (λ (l : List Call). IsImage (after (begun first) l) c) (sym (front left.0 left.2)) left.3);
   }
 
-  pub replays_written : (at : ℕ) (copy : Vec ℕ Global) (bytes old new kept : List ℕ) → call ≡ Wrote at copy → copy.items ≡ bytes → Written at bytes old new → Replays first calls old kept → Replays first later new kept
-  replays_written at copy bytes old new kept c copied written r = record {
-    reads = ap (λ (m : Memory). m.reads) grown ∙ (λ i. take at (r.reads i) ++ copied i ++ drop (at + length (copied i)) (r.reads i)) ∙ sym written;
-    base = ap (λ (m : Memory). m.base) grown ∙ r.base;
-  }
-    where
-      grown : after (begun first) later ≡ step (after (begun first) calls) (Wrote at copy)
-      grown = ap (after (begun first)) is ∙ after-push (begun first) calls call ∙ ap (step (after (begun first) calls)) c
-
-  pub replays_synced : (bytes kept base' : List ℕ) → call ≡ Synced → base' ≡ bytes → Replays first calls bytes kept → Replays first later bytes base'
-  replays_synced bytes kept base' c copied r = record {
-    reads = ap (λ (m : Memory). m.reads) grown ∙ r.reads;
-    base = ap (λ (m : Memory). m.base) grown ∙ r.reads ∙ sym copied;
-  }
-    where
-      grown : after (begun first) later ≡ step (after (begun first) calls) Synced
-      grown = ap (after (begun first)) is ∙ after-push (begun first) calls call ∙ ap (step (after (begun first) calls)) c
-
-  pub rested_written : (synced : ℕ) (kept : List ℕ) → synced ≤ length calls → IsRested first (take synced calls) kept → IsRested first (take synced later) kept
-  rested_written synced kept le r = subst (λ (l : List Call). IsRested first l kept) (sym (front synced le)) r
-
-  pub rested_synced : (synced : ℕ) (bytes kept base' : List ℕ) → call ≡ Synced → length later ≤ synced → base' ≡ bytes → Replays first calls bytes kept → IsRested first (take synced later) base'
-  rested_synced synced bytes kept base' c all copied r = subst (λ (l : List Call). IsRested first l base') (sym (take_all synced later all)) (record {
-    base = ap (λ (m : Memory). m.base) grown ∙ r.reads ∙ sym copied;
-    torn = ap (λ (m : Memory). m.torn) grown;
-  })
-    where
-      grown : after (begun first) later ≡ step (after (begun first) calls) Synced
-      grown = ap (after (begun first)) is ∙ after-push (begun first) calls call ∙ ap (step (after (begun first) calls)) c
-
-  pub images_written : (at : ℕ) (copy : Vec ℕ Global) (bytes old kept : List ℕ) → call ≡ Wrote at copy → copy.items ≡ bytes → at ≤ length old → Replays first calls old kept
-      → Follows (Torn at (length bytes)) (IsImage (after (begun first) calls)) (IsImage (after (begun first) later))
-  images_written at copy bytes old kept c copied inside r = λ i image.
-      let m = after (begun first) calls in
-      let from = image_written m at copy i (omega (arith, inside, ap length r.reads)) (subst (λ (x : Call). IsImage (step m x) i) c (image_later i image)) in
-      (from.0, from.1, subst (λ (l : List ℕ). Torn at (length l) from.0 i) copied from.2)
-
-  pub elapses_written : (step' : List ℕ → List ℕ → Type 0) → Follows step' (IsImage (after (begun first) calls)) (IsImage (after (begun first) later))
-      → ElapsesBy step' (length calls) (length later) (LeftSince first calls) (LeftSince first later) (IsImage (after (begun first) calls))
-  elapses_written step' follows = record {
+  pub elapses_written : (m : Memory) (w : Write) → now ≡ written w m
+      → ElapsesBy (Torn w.at (length w.bytes)) (length calls) (length later) (LeftSince first calls) (LeftSince first later) (IsImage m)
+  elapses_written m w made = record {
     later = elapses_push.later;
-    nothing_else = λ t c le left. ⊎_elim (λ was. inl was) (λ now. inr (follows c now)) (elapses_push.nothing_else t c le left);
+    nothing_else = λ t c le left. ⊎_elim (λ was. inl was) (λ is_now. inr (images_follow m now w made c is_now)) (elapses_push.nothing_else t c le left);
     keeps = elapses_push.keeps;
   }
-
-  pub only_synced : (bytes kept : List ℕ) → call ≡ Synced → Replays first calls bytes kept → Only bytes (IsImage (after (begun first) later))
-  only_synced bytes kept c r = λ i image. image_synced (after (begun first) calls) i (subst (λ (x : Call). IsImage (step (after (begun first) calls) x) i) c (image_later i image)) ∙ r.reads
-
-  pub fewer_synced : (bytes kept : List ℕ) → call ≡ Synced → Replays first calls bytes kept → LeavesNoMore (IsImage (after (begun first) calls)) (IsImage (after (begun first) later))
-  fewer_synced bytes kept c r = λ i image. inl (only_synced bytes kept c r i image ∙ sym r.reads)
 
 writes_fit-push : (size : ℕ) (calls : List Call) (at : ℕ) (copy : Vec ℕ Global) → writes_fit size calls ≡ true → at ≤ size_after size calls → writes_fit size (calls ++ Wrote at copy ∷ []) ≡ true
 writes_fit-push size [] at copy fit le = grind (arith, nat_tests)
@@ -147,45 +148,54 @@ size_after_le size [] = omega arith
 size_after_le size (Wrote a b ∷ calls) = omega (arith, size_after_le (max size (a + length b.items)) calls)
 size_after_le size (Synced ∷ calls) = size_after_le size calls
 
--- one write more was torn
-second : (p q : Bool) → (p && q) ≡ true → q ≡ true
-second true q e = e
-second false q e = absurd (cc)
+lengthened_length : (end : ℕ) (old : List ℕ) → length (lengthened end old) ≡ max (length old) end
+lengthened_length end old = length-append old (replicate (end - length old) 0) ∙ omega (arith, length-replicate {A = ℕ} (end - length old) 0)
 
-pub tear_more : (start image image' : List ℕ) (k : ℕ) (calls : List Call) (at : ℕ) (b : Vec ℕ Global) (call : Call) → k < length calls → call ≡ get_or calls k call → call ≡ Wrote at b
-    → Tears start image k calls → Torn at (length b.items) image image' → length image' ≡ max (length image) (at + length b.items) → Tears start image' (k + 1) calls
-tear_more start image image' k calls at b call lt is wrote t torn grown =
-    let this : get_or calls k call ≡ Wrote at b = sym is ∙ wrote in
-    let taken : take (k + 1) calls ≡ take k calls ++ Wrote at b ∷ [] = take_more calls k call lt ∙ ap (λ (c : Call). take k calls ++ c ∷ []) this in
-    let dropped : drop k calls ≡ Wrote at b ∷ drop (k + 1) calls = drop_more calls k call lt ∙ ap (λ (c : Call). c ∷ drop (k + 1) calls) this in
+lengthened_past : (end : ℕ) (old : List ℕ) → drop end (lengthened end old) ≡ drop end old
+lengthened_past end old = ⊎_elim
+    (λ (short : end ≤ length old). drop-append-le end old (replicate (end - length old) 0) short
+    ∙ ap (λ (k : ℕ). drop end old ++ replicate k 0) (let none : end - length old ≡ 0 = omega (arith, short) in none) ∙ append-nil (drop end old))
+    (λ (long : length old < end). drop_all end (lengthened end old) (omega (arith, long, lengthened_length end old)) ∙ sym (drop_all end old (omega (arith, long))))
+    (order end (length old))
+
+cut_length : (n : ℕ) (w : Write) (old : List ℕ) → w.at ≤ length old → length (cut_short n w old) ≡ max (length old) (w.at + length w.bytes)
+cut_length n w old inside =
+    let kept = take n w.bytes in
+    let rest = drop (w.at + length kept) (lengthened (w.at + length w.bytes) old) in
+    length-append (take w.at old ++ kept) rest
+    ∙ omega (arith, length-append (take w.at old) kept, length-take-le w.at old inside, length-take n w.bytes, length-drop (w.at + length kept) (lengthened (w.at + length w.bytes) old), lengthened_length (w.at + length w.bytes) old)
+
+-- a write that was cut short is one that was torn
+cut_torn : (n : ℕ) (w : Write) (old : List ℕ) → w.at ≤ length old → Torn w.at (length w.bytes) old (cut_short n w old)
+cut_torn n w old inside =
+    let end = w.at + length w.bytes in
+    let kept = take n w.bytes in
+    let from = w.at + length kept in
+    let rest = drop from (lengthened end old) in
+    let front : length (take w.at old ++ kept) ≡ from = length-append (take w.at old) kept ∙ omega (arith, length-take-le w.at old inside) in
     record {
-      torn = λ m s.
-          subst (λ (n : Memory). TornBy n.torn n.base image') (sym (ap (after m) taken ∙ after-push m (take k calls) (Wrote at b))) (image, t.torn m s, torn);
-      size = grown ∙ ap (λ (n : ℕ). max n (at + length b.items)) t.size ∙ sym (size_after-push (length start) (take k calls) at b) ∙ ap (size_after (length start)) (sym taken);
-      fit = ap (λ (n : ℕ). writes_fit n (drop (k + 1) calls)) grown
-          ∙ second (nat_le at (length image)) (writes_fit (max (length image) (at + length b.items)) (drop (k + 1) calls)) (ap (writes_fit (length image)) (sym dropped) ∙ t.fit);
-      reach = ap (λ (n : ℕ). size_after n (drop (k + 1) calls)) grown ∙ ap (size_after (length image)) (sym dropped) ∙ t.reach;
+      before = ap (take w.at) (append_assoc (take w.at old) kept rest) ∙ take_at (take w.at old) (kept ++ rest) w.at (length-take-le w.at old inside);
+      after = ap (λ (k : ℕ). drop k (cut_short n w old)) (let e : end ≡ from + (end - from) = omega (arith, length-take n w.bytes) in e)
+          ∙ ap (λ (k : ℕ). drop (k + (end - from)) (cut_short n w old)) (sym front) ∙ drop-append-add (take w.at old ++ kept) rest (end - from)
+          ∙ drop-drop (end - from) from (lengthened end old)
+          ∙ ap (λ (k : ℕ). drop k (lengthened end old)) (let e : from + (end - from) ≡ end = omega (arith, length-take n w.bytes) in e) ∙ lengthened_past end old;
+      no_shorter = omega (arith, cut_length n w old inside);
+      no_longer = omega (arith, cut_length n w old inside);
     }
 
--- no sync stands among them
-pub no_sync : (size k : ℕ) (calls : List Call) (call : Call) → k < length calls → call ≡ get_or calls k call → call ≡ Synced → writes_fit size (drop k calls) ≡ true → ⊥
-no_sync size k calls call lt is synced fit =
-    let dropped : drop k calls ≡ Synced ∷ drop (k + 1) calls = drop_more calls k call lt ∙ ap (λ (c : Call). c ∷ drop (k + 1) calls) (sym is ∙ synced) in
-    let no : false ≡ true = ap (writes_fit size) (sym dropped) ∙ fit in absurd (cc)
-
-after-append : (m : Memory) (calls more : List Call) → after m (calls ++ more) ≡ after (after m calls) more
-after-append m [] more = refl
-after-append m (c ∷ calls) more = after-append (step m c) calls more
-
--- what is torn since the last sync, over what stood there, is an image
-pub image_torn : (first : List ℕ) (synced : ℕ) (calls : List Call) (kept image : List ℕ) → IsRested first (take synced calls) kept
-    → ((m : Memory) → TornBy m.torn m.base kept → TornBy (after m (drop synced calls)).torn (after m (drop synced calls)).base image)
-    → IsImage (after (begun first) calls) image
-image_torn first synced calls kept image r tears =
-    let m = after (begun first) (take synced calls) in
-    let start : TornBy m.torn m.base kept = subst (λ (w : List (ℕ × ℕ)). TornBy w m.base kept) (sym r.torn) (sym r.base) in
-    let whole : after m (drop synced calls) ≡ after (begun first) calls = sym (after-append (begun first) (take synced calls) (drop synced calls)) ∙ ap (after (begun first)) (take-append-drop synced calls) in
-    subst (λ (n : Memory). IsImage n image) whole (inr (tears m start))
+-- writes that were cut short are writes that were torn
+pub all_cut_torn : (n size : ℕ) (calls : List Call) (old : List ℕ) → length old ≡ size → writes_fit size calls ≡ true → TornBy (writes_of calls) old (cut_all_short n (writes_of calls) old)
+all_cut_torn n size [] old is fit = refl
+all_cut_torn n size (Wrote a b ∷ calls) old is fit =
+    let w : Write = record { at = a; bytes = b.items } in
+    let inside : a ≤ length old = grind (arith, nat_tests, fit, is) in (
+      cut_short n w old,
+      cut_torn n w old inside,
+      all_cut_torn (n - length b.items) (max size (a + length b.items)) calls (cut_short n w old)
+          (cut_length n w old inside ∙ ap (λ (k : ℕ). max k (a + length b.items)) is)
+          (second_so (nat_le a size) (writes_fit (max size (a + length b.items)) calls) fit),
+    )
+all_cut_torn n size (Synced ∷ calls) old is fit = absurd (cc)
 
 -- a fact on bytes holds of the value that has them
 pub if_ok_has : {T E : Type 0} (r : Result T E) (f : T → List ℕ) (x : List ℕ) (P : List ℕ → Type 0) → P x → IfOk r (λ d. f d ≡ x) → IfOk r (λ d. P (f d))

@@ -1,9 +1,12 @@
 -- What the calls of a disk do to its bytes, and what a crash may leave of them.
 use Rattle.std.specs.Prelude.{◌≡◌, ◌⊎◌, ℕ, ◌+◌, ◌≤◌, max, List, ◌++◌, length, take, drop}
 
--- new is old with these bytes at this place
+-- old with these bytes at this place
+abbrev pub overwritten : ℕ → List ℕ → List ℕ → List ℕ
+overwritten at bytes old = take at old ++ bytes ++ drop (at + length bytes) old
+
 abbrev pub Written : ℕ → List ℕ → List ℕ → List ℕ → Type 0
-Written at bytes old new = new ≡ take at old ++ bytes ++ drop (at + length bytes) old
+Written at bytes old new = new ≡ overwritten at bytes old
 
 -- a write of n bytes that was cut short: any bytes in its range and past the old end, the same elsewhere
 pub record Torn (at n : ℕ) (old new : List ℕ) : Type 0 where
@@ -19,6 +22,10 @@ Fills at bytes n buf = take n buf ≡ take (length buf) (drop at bytes)
 -- a crash may leave no more than it could before
 abbrev pub LeavesNoMore : (List ℕ → Type 0) → (List ℕ → Type 0) → Type 0
 LeavesNoMore old new = (c : List ℕ) → new c → old c
+
+-- a crash may leave all that it could before
+abbrev pub LeavesAll : (List ℕ → Type 0) → (List ℕ → Type 0) → Type 0
+LeavesAll old new = (c : List ℕ) → old c → new c
 
 -- what a step makes of an image that a crash could leave before
 abbrev pub After : (List ℕ → List ℕ → Type 0) → (List ℕ → Type 0) → List ℕ → Type 0

@@ -1,9 +1,10 @@
--- Which calls of an end in memory are to fail.
+-- Which calls of an object in memory are to fail.
 use Rattle.std.specs.Prelude.{ℕ, ◌+◌, ◌-◌, ◌^◌, min, List, Contains}
 use Rattle.edge_traits.specs.declared.schedule.Schedule.{Schedule}
 use Rattle.edge_traits.specs.declared.mem_source.MemSource.{MemSource}
 use Rattle.edge_traits.specs.declared.mem_sink.MemSink.{MemSink}
 use Rattle.edge_traits.specs.declared.mem_door.MemDoor.{MemDoor}
+use Rattle.edge_traits.specs.declared.mem_disk.MemDisk.{MemDisk}
 
 pub record Plan : Type 0 where
   -- the numbers of the calls that fail
@@ -41,3 +42,7 @@ write_plan s = schedule_plan s.schedule
 -- the plan of the calls for a link
 abbrev pub door_plan : MemDoor → Plan
 door_plan d = schedule_plan d.schedule
+
+-- the plan of a disk's calls, but for that of its room
+abbrev pub disk_plan : MemDisk → Plan
+disk_plan d = schedule_plan d.schedule

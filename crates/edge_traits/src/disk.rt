@@ -8,8 +8,8 @@ use crate::Failed;
 /// A row of bytes that outlasts the program. What was written since the last sync may be torn by a crash: each range
 /// that was written, and the part past the old end, may then hold any bytes, and all others stay.
 ///
-/// What a disk holds is told only where `honest` holds, so each clause on it stands under that premise. Counts of
-/// faults and the room are told by each disk.
+/// What a disk holds is told only where `honest` holds, so each clause on it stands under that premise. Its faults, its
+/// room and what stands beside it are told by each disk.
 pub trait Disk {
     /// That the disk tells what it holds, and obeys the rule of crashes.
     ghost honest: { Type 0 };

@@ -1,7 +1,12 @@
 // A disk in memory, which keeps a record of its writes and syncs.
-ghost use Rattle.std.specs.Prelude.{◌≡◌, ◌⊎◌, ℕ, ◌+◌, ◌^◌, ◌<◌, ◌≤◌, max, List, [], ◌∷◌, ◌++◌, length, take, drop, OnOk, OnErr, IfOk, vec_len, true};
-ghost use Rattle.edge_traits.specs.Disks.{Written, Torn, Fills, Only};
-ghost use Rattle.edge_traits.specs.MemDisks.{IsRested, Replays, Unsynced, Memory, TornBy, after, writes_fit, size_after};
+ghost use Rattle.std.specs.Prelude.{◌≡◌, ℕ, ◌+◌, ◌^◌, ◌<◌, ◌≤◌, ◌↔◌, max, List, [], ◌∷◌, ◌++◌, length, drop};
+ghost use Rattle.std.specs.Prelude.{OnOk, OnErr, IfOk, IsErr, vec_len, true};
+ghost use Rattle.std.specs.Io.{ReadsAtMost};
+ghost use Rattle.edge_traits.specs.Causes.{HasCause};
+ghost use Rattle.edge_traits.specs.Disks.{Written, Torn, Fills, LeavesNoMore, LeavesAll, After, Follows, Only};
+ghost use Rattle.edge_traits.specs.Disks.{Elapses, ElapsesBy, overwritten};
+ghost use Rattle.edge_traits.specs.MemDisks.{begun, written, synced, cut_short, cut_all_short, crashed};
+ghost use Rattle.edge_traits.specs.DiskCalls.{after, holding, writes_of, all_done, Unsynced, writes_fit, size_after};
 ghost use Rattle.edge_traits.specs.declared.mem_disk.Call.TheVariants.{Wrote, Synced};
 
 use crate::schedule::Schedule;
@@ -17,7 +22,7 @@ pub enum Call {
 
 /// A disk over bytes in memory, which tells what it holds and what a crash may leave. It keeps a record of its writes
 /// and syncs, and so answers for each moment since it was made. A call that finds no memory for that is a fault. A
-/// write or a sync that fails changes nothing.
+/// call that fails changes nothing.
 #[derive(Drop)]
 pub struct MemDisk {
     alloc: Global,
@@ -29,16 +34,17 @@ pub struct MemDisk {
     synced: usize,
     schedule: Schedule,
     ghost within: { length bytes.items ≤ room },
-    ghost replays: { Replays first.items calls.items bytes.items base.items },
-    ghost unsynced: { Unsynced (length base.items) (length bytes.items) (drop synced calls.items) },
     ghost place: { synced ≤ length calls.items },
-    ghost rested: { IsRested first.items (take synced calls.items) base.items },
+    ghost replays: { after (begun first.items) calls.items
+        ≡ holding bytes.items base.items (drop synced calls.items) },
+    ghost done: { all_done (writes_of (drop synced calls.items)) base.items ≡ bytes.items },
+    ghost unsynced: { Unsynced (length base.items) (length bytes.items) (drop synced calls.items) },
 }
 
 // Puts bytes in the place of others.
 fn set_range(image: &mut [u8], at: usize, bytes: &[u8])
     requires { at + length bytes.now ≤ length image.old }
-    ensures { image.new ≡ take at image.old ++ bytes.now ++ drop (at + length bytes.now) image.old }
+    ensures { image.new ≡ overwritten at bytes.now image.old }
 {
     image[at..at + bytes.len()].copy_from_slice(bytes);
 }
@@ -48,10 +54,11 @@ fn put(image: &mut Vec<u8>, at: usize, bytes: &[u8], keep: usize) -> Result<(), 
     requires inside { at ≤ vec_len image.old }
     requires some { keep ≤ length bytes.now }
     requires fits { at + length bytes.now < 2 ^ 64 }
-    ensures torn { OnOk result (Torn at (length bytes.now) image.old.items image.new.items) }
-    ensures whole { keep ≡ length bytes.now → OnOk result (Written at bytes.now image.old.items image.new.items) }
+    ensures kept { OnOk result (image.new.items
+        ≡ cut_short keep (record { at = at; bytes = bytes.now }) image.old.items) }
     ensures err { OnErr result (image.new.items ≡ image.old.items) }
-    ensures len { OnOk result (length image.new.items ≡ max (length image.old.items) (at + length bytes.now)) }
+    ensures len { OnOk result (length image.new.items
+        ≡ max (length image.old.items) (at + length bytes.now)) }
 {
     let end = at + bytes.len();
     if end > image.len() {
@@ -71,9 +78,11 @@ fn record_write(
 ) -> Result<(), AllocError>
     requires inside { at ≤ vec_len image.old }
     requires fits { at + length bytes.now < 2 ^ 64 }
-    ensures calls { OnOk result ((copy : _) × (copy.items ≡ bytes.now) × (calls.new.items ≡ calls.old.items ++ Wrote at copy ∷ [])) }
+    ensures calls { OnOk result ((copy : _) × (copy.items ≡ bytes.now)
+        × (calls.new.items ≡ calls.old.items ++ Wrote at copy ∷ [])) }
     ensures bytes { OnOk result (Written at bytes.now image.old.items image.new.items) }
-    ensures len { OnOk result (length image.new.items ≡ max (length image.old.items) (at + length bytes.now)) }
+    ensures len { OnOk result (length image.new.items
+        ≡ max (length image.old.items) (at + length bytes.now)) }
     ensures err { OnErr result (calls.new.items ≡ calls.old.items) }
     ensures unwritten { OnErr result (image.new.items ≡ image.old.items) }
 {
@@ -107,9 +116,10 @@ fn record_sync(
 fn tear(image: &mut Vec<u8>, calls: &[Call], kept: u64) -> Result<(), AllocError>
     requires fit { writes_fit (length image.old.items) calls.now ≡ true }
     requires short { size_after (length image.old.items) calls.now < 2 ^ 64 }
-    ensures torn { (m : Memory) → TornBy m.torn m.base image.old.items
-        → OnOk result (TornBy (after m calls.now).torn (after m calls.now).base image.new.items) }
-    ensures len { OnOk result (length image.new.items ≡ size_after (length image.old.items) calls.now) }
+    ensures torn { OnOk result (image.new.items
+        ≡ cut_all_short kept (writes_of calls.now) image.old.items) }
+    ensures len { OnOk result (length image.new.items
+        ≡ size_after (length image.old.items) calls.now) }
 {
     let mut left = kept;
     for call in calls {
@@ -123,6 +133,9 @@ fn tear(image: &mut Vec<u8>, calls: &[Call], kept: u64) -> Result<(), AllocError
 }
 
 impl MemDisk {
+    ghost use Rattle.edge_traits.specs.DiskMemory.{memory_of};
+    ghost use Rattle.edge_traits.specs.Plans.{first_plan, disk_plan};
+
     /// A disk that reads these bytes, and holds at most `room` of them. The calls whose numbers, from 0 on, `failing`
     /// lists are faults; each call counts but that of `room`.
     pub fn new(
@@ -132,10 +145,12 @@ impl MemDisk {
         failing: Vec<u64>,
     ) -> Result<MemDisk, AllocError>
         requires { length image.items ≤ room }
+        ensures memory { IfOk result (λ d. memory_of d ≡ begun image.items) }
         ensures reads { IfOk result (λ d. ⟦<MemDisk as Disk>⟧.reads d ≡ image.items) }
         ensures images { IfOk result (λ d. Only image.items (⟦<MemDisk as Disk>⟧.images d)) }
         ensures room { IfOk result (λ d. ⟦<MemDisk as Disk>⟧.most d ≡ room) }
         ensures faults { IfOk result (λ d. ⟦<MemDisk as Disk>⟧.faults d ≡ 0) }
+        ensures plan { IfOk result (λ d. disk_plan d ≡ first_plan failing.items) }
     {
         let first = image.as_slice().to_vec(alloc)?;
         let base = image.as_slice().to_vec(alloc)?;
@@ -162,10 +177,16 @@ impl MemDisk {
     /// answered Ok the first `kept`, in order of writing, stand; the others are as they were before, or 0 past the old
     /// end.
     pub fn crash(&self, kept: u64) -> Result<MemDisk, AllocError>
-        ensures image { IfOk result (λ d. ⟦<MemDisk as Disk>⟧.images self.now (⟦<MemDisk as Disk>⟧.reads d)) }
-        ensures only { IfOk result (λ d. Only (⟦<MemDisk as Disk>⟧.reads d) (⟦<MemDisk as Disk>⟧.images d)) }
-        ensures room { IfOk result (λ d. ⟦<MemDisk as Disk>⟧.most d ≡ ⟦<MemDisk as Disk>⟧.most self.now) }
+        ensures memory { IfOk result (λ d. memory_of d
+            ≡ begun (crashed kept (memory_of self.now))) }
+        ensures image { IfOk result (λ d. ⟦<MemDisk as Disk>⟧.images self.now
+            (⟦<MemDisk as Disk>⟧.reads d)) }
+        ensures only { IfOk result (λ d. Only
+            (⟦<MemDisk as Disk>⟧.reads d) (⟦<MemDisk as Disk>⟧.images d)) }
+        ensures room { IfOk result (λ d.
+            ⟦<MemDisk as Disk>⟧.most d ≡ ⟦<MemDisk as Disk>⟧.most self.now) }
         ensures faults { IfOk result (λ d. ⟦<MemDisk as Disk>⟧.faults d ≡ 0) }
+        ensures plan { IfOk result (λ d. disk_plan d ≡ first_plan []) }
     {
         let mut image = self.base.as_slice().to_vec(self.alloc)?;
         tear(&mut image, &self.calls[self.synced..], kept)?;
@@ -174,17 +195,21 @@ impl MemDisk {
 }
 
 impl Disk for MemDisk {
-    ghost use Rattle.edge_traits.specs.MemDisks.{begun, after, IsImage, LeftSince, reads_are_left, counts_now as was_now, only_now as is_now};
+    ghost use Rattle.edge_traits.specs.MemDisks.{IsImage};
+    ghost use Rattle.edge_traits.specs.DiskCalls.{LeftSince};
+    ghost use Rattle.edge_traits.specs.DiskLaws.{done_is_torn, counts_now as was_now, only_now as is_now};
+    ghost use Rattle.edge_traits.specs.DiskMemory.{memory_of};
+    ghost use Rattle.edge_traits.specs.Plans.{FailsNext, later_plan, disk_plan};
 
     ghost honest = { Unit {0} };
 
-    ghost reads = { λ d. d.bytes.items };
+    ghost reads = { λ d. (memory_of d).reads };
 
-    ghost images = { λ d c. IsImage (after (begun d.first.items) d.calls.items) c };
+    ghost images = { λ d. IsImage (memory_of d) };
 
     ghost moment = { λ d. length d.calls.items };
 
-    ghost left_since = { λ d t c. LeftSince d.first.items d.calls.items t c };
+    ghost left_since = { λ d. LeftSince d.first.items d.calls.items };
 
     ghost faults = { λ d. d.schedule.faults };
 
@@ -194,7 +219,25 @@ impl Disk for MemDisk {
 
     ghost beside = { λ _. tt };
 
-    fn length(&mut self) -> Result<u64, Failed> {
+    fn length(&mut self) -> Result<u64, Failed>
+        ensures length { IfOk result (λ n. n ≡ length (⟦<MemDisk as Disk>⟧.reads self.old)) }
+        ensures within { IfOk result (λ n. n ≤ ⟦<MemDisk as Disk>⟧.most self.old) }
+        ensures reads { ⟦<MemDisk as Disk>⟧.reads self.new ≡ ⟦<MemDisk as Disk>⟧.reads self.old }
+        ensures images { LeavesNoMore
+            (⟦<MemDisk as Disk>⟧.images self.old) (⟦<MemDisk as Disk>⟧.images self.new) }
+        ensures time { Elapses
+            (⟦<MemDisk as Disk>⟧.moment self.old) (⟦<MemDisk as Disk>⟧.moment self.new)
+            (⟦<MemDisk as Disk>⟧.left_since self.old) (⟦<MemDisk as Disk>⟧.left_since self.new)
+            (⟦<MemDisk as Disk>⟧.images self.new) }
+        ensures most { ⟦<MemDisk as Disk>⟧.most self.new ≡ ⟦<MemDisk as Disk>⟧.most self.old }
+        ensures memory { memory_of self.new ≡ memory_of self.old }
+        ensures cause { HasCause
+            (⟦<MemDisk as Disk>⟧.faults self.old) (⟦<MemDisk as Disk>⟧.faults self.new) result }
+
+        // It fails at the numbers that are planned.
+        ensures planned { IsErr result ↔ FailsNext (disk_plan self.old) }
+        ensures plan { disk_plan self.new ≡ later_plan (disk_plan self.old) }
+    {
         if self.schedule.call_fails() {
             return Err(Failed);
         }
@@ -205,14 +248,67 @@ impl Disk for MemDisk {
         self.room
     }
 
-    fn read_at(&mut self, at: u64, buf: &mut [u8]) -> Result<usize, Failed> {
+    fn read_at(&mut self, at: u64, buf: &mut [u8]) -> Result<usize, Failed>
+        ensures bound { ReadsAtMost result buf.old }
+        ensures bytes { IfOk result (λ n. Fills at (⟦<MemDisk as Disk>⟧.reads self.old) n buf.new) }
+        ensures reads { ⟦<MemDisk as Disk>⟧.reads self.new ≡ ⟦<MemDisk as Disk>⟧.reads self.old }
+        ensures images { LeavesNoMore
+            (⟦<MemDisk as Disk>⟧.images self.old) (⟦<MemDisk as Disk>⟧.images self.new) }
+        ensures time { Elapses
+            (⟦<MemDisk as Disk>⟧.moment self.old) (⟦<MemDisk as Disk>⟧.moment self.new)
+            (⟦<MemDisk as Disk>⟧.left_since self.old) (⟦<MemDisk as Disk>⟧.left_since self.new)
+            (⟦<MemDisk as Disk>⟧.images self.new) }
+        ensures most { ⟦<MemDisk as Disk>⟧.most self.new ≡ ⟦<MemDisk as Disk>⟧.most self.old }
+        ensures memory { memory_of self.new ≡ memory_of self.old }
+        ensures cause { HasCause
+            (⟦<MemDisk as Disk>⟧.faults self.old) (⟦<MemDisk as Disk>⟧.faults self.new) result }
+
+        // It fails at the numbers that are planned.
+        ensures planned { IsErr result ↔ FailsNext (disk_plan self.old) }
+        ensures plan { disk_plan self.new ≡ later_plan (disk_plan self.old) }
+    {
         if self.schedule.call_fails() {
             return Err(Failed);
         }
         Ok(copy_from(self.bytes.as_slice(), at, buf))
     }
 
-    fn write_at(&mut self, at: u64, bytes: &[u8]) -> Result<(), Failed> {
+    fn write_at(&mut self, at: u64, bytes: &[u8]) -> Result<(), Failed>
+        requires room { at + length bytes.now ≤ ⟦<MemDisk as Disk>⟧.most self.old }
+        requires inside { at ≤ length (⟦<MemDisk as Disk>⟧.reads self.old) }
+        ensures ok { OnOk result (Written at bytes.now
+            (⟦<MemDisk as Disk>⟧.reads self.old) (⟦<MemDisk as Disk>⟧.reads self.new)) }
+        ensures err { OnErr result (Torn at (length bytes.now)
+            (⟦<MemDisk as Disk>⟧.reads self.old) (⟦<MemDisk as Disk>⟧.reads self.new)) }
+        ensures images { Follows (Torn at (length bytes.now))
+            (⟦<MemDisk as Disk>⟧.images self.old) (⟦<MemDisk as Disk>⟧.images self.new) }
+        ensures time { ElapsesBy (Torn at (length bytes.now))
+            (⟦<MemDisk as Disk>⟧.moment self.old) (⟦<MemDisk as Disk>⟧.moment self.new)
+            (⟦<MemDisk as Disk>⟧.left_since self.old) (⟦<MemDisk as Disk>⟧.left_since self.new)
+            (⟦<MemDisk as Disk>⟧.images self.old) }
+        ensures most { ⟦<MemDisk as Disk>⟧.most self.new ≡ ⟦<MemDisk as Disk>⟧.most self.old }
+        ensures cause { HasCause
+            (⟦<MemDisk as Disk>⟧.faults self.old) (⟦<MemDisk as Disk>⟧.faults self.new) result }
+
+        // It fails at the numbers that are planned, else writes all, or finds no memory. Where it fails, all is as
+        // before, at each moment.
+        ensures planned { FailsNext (disk_plan self.old) → IsErr result }
+        ensures plan { disk_plan self.new ≡ later_plan (disk_plan self.old) }
+        ensures wrote { OnOk result (memory_of self.new
+            ≡ written (record { at = at; bytes = bytes.now }) (memory_of self.old)) }
+        ensures unwritten { OnErr result (memory_of self.new ≡ memory_of self.old) }
+        ensures quiet { OnErr result (Elapses
+            (⟦<MemDisk as Disk>⟧.moment self.old) (⟦<MemDisk as Disk>⟧.moment self.new)
+            (⟦<MemDisk as Disk>⟧.left_since self.old) (⟦<MemDisk as Disk>⟧.left_since self.new)
+            (⟦<MemDisk as Disk>⟧.images self.new)) }
+
+        // However the write may be torn, a crash may leave it so.
+        ensures torn { OnOk result (LeavesAll
+            (After (Torn at (length bytes.now)) (⟦<MemDisk as Disk>⟧.images self.old))
+            (⟦<MemDisk as Disk>⟧.images self.new)) }
+        ensures stays { LeavesAll
+            (⟦<MemDisk as Disk>⟧.images self.old) (⟦<MemDisk as Disk>⟧.images self.new) }
+    {
         if self.schedule.call_fails() {
             return Err(Failed);
         }
@@ -229,7 +325,26 @@ impl Disk for MemDisk {
         Ok(())
     }
 
-    fn sync(&mut self) -> Result<(), Failed> {
+    fn sync(&mut self) -> Result<(), Failed>
+        ensures ok { OnOk result (Only
+            (⟦<MemDisk as Disk>⟧.reads self.old) (⟦<MemDisk as Disk>⟧.images self.new)) }
+        ensures reads { ⟦<MemDisk as Disk>⟧.reads self.new ≡ ⟦<MemDisk as Disk>⟧.reads self.old }
+        ensures images { LeavesNoMore
+            (⟦<MemDisk as Disk>⟧.images self.old) (⟦<MemDisk as Disk>⟧.images self.new) }
+        ensures time { Elapses
+            (⟦<MemDisk as Disk>⟧.moment self.old) (⟦<MemDisk as Disk>⟧.moment self.new)
+            (⟦<MemDisk as Disk>⟧.left_since self.old) (⟦<MemDisk as Disk>⟧.left_since self.new)
+            (⟦<MemDisk as Disk>⟧.images self.new) }
+        ensures most { ⟦<MemDisk as Disk>⟧.most self.new ≡ ⟦<MemDisk as Disk>⟧.most self.old }
+        ensures cause { HasCause
+            (⟦<MemDisk as Disk>⟧.faults self.old) (⟦<MemDisk as Disk>⟧.faults self.new) result }
+
+        // It fails at the numbers that are planned, else syncs, or finds no memory. Where it fails, all is as before.
+        ensures planned { FailsNext (disk_plan self.old) → IsErr result }
+        ensures plan { disk_plan self.new ≡ later_plan (disk_plan self.old) }
+        ensures synced { OnOk result (memory_of self.new ≡ synced (memory_of self.old)) }
+        ensures unsynced { OnErr result (memory_of self.new ≡ memory_of self.old) }
+    {
         if self.schedule.call_fails() {
             return Err(Failed);
         }
@@ -246,11 +361,14 @@ impl Disk for MemDisk {
         Ok(())
     }
 
-    ghost reads_left = { λ d _. reads_are_left d.first.items d.calls.items d.bytes.items d.base.items d.replays };
+    ghost reads_left = { λ d _. done_is_torn (length d.bytes.items) (drop d.synced d.calls.items)
+        d.base.items d.bytes.items d.done d.unsynced };
 
-    ghost counts_now = { λ d t c _ le image. was_now d.first.items d.calls.items t c le image };
+    ghost counts_now = { λ d t c _ le image. was_now d.first.items d.bytes.items d.base.items d.calls.items
+        (drop d.synced d.calls.items) t c d.replays le image };
 
-    ghost only_now = { λ d c _ left. is_now d.first.items d.calls.items c left };
+    ghost only_now = { λ d c _ left. is_now d.first.items d.bytes.items d.base.items d.calls.items
+        (drop d.synced d.calls.items) c d.replays left };
 }
 
 // Fills as much of `buf` as stands from a place to the end.

@@ -149,6 +149,24 @@ impl std::io::Write for Full {
     }
 }
 
+#[test]
+fn a_disk_fails_at_its_numbers_and_stays_as_it_was(rt: HostRuntime) -> Result<(), Fail> {
+    let alloc = rt.alloc();
+    let failing = Vec::from_slice(alloc, &[1, 3])?;
+    let mut disk = MemDisk::new(alloc, b"abcd".to_vec(alloc)?, 8, failing)?;
+    let mut buf = [0; 4];
+    assert_eq!(rt; disk.length(), Ok(4));
+    assert_eq!(rt; disk.read_at(1, &mut buf), Err(Failed));
+    assert_eq!(rt; disk.read_at(1, &mut buf), Ok(3));
+    assert_eq!(rt; &buf[..3], b"bcd".as_slice());
+    assert_eq!(rt; disk.write_at(4, b"e"), Err(Failed));
+    assert_eq!(rt; disk.bytes(), b"abcd".as_slice());
+    assert_eq!(rt; disk.write_at(4, b"e"), Ok(()));
+    assert_eq!(rt; disk.sync(), Ok(()));
+    assert_eq!(rt; disk.bytes(), b"abcde".as_slice());
+    Ok(())
+}
+
 // What a crash that keeps so many bytes leaves, after a sync and two writes.
 fn crashed(alloc: Global, kept: u64) -> Result<Vec<u8>, AllocError> {
     let mut disk = MemDisk::new(alloc, b"abcd".to_vec(alloc)?, 16, Vec::new(alloc))?;

@@ -1,30 +1,41 @@
-use Rattle.std.proofs.Common.{◌≡◌, ◌∙◌, refl, arith}
+use Rattle.std.proofs.Common.{◌≡◌, ◌≤◌, ◌∙◌, sym, subst, refl, arith, length, drop}
+use Rattle.edge_traits.specs.MemDisks.{Memory, IsImage}
+use Rattle.edge_traits.specs.DiskCalls.{holding}
+use Rattle.edge_traits.specs.DiskLaws.{done_is_torn}
+use Rattle.edge_traits.specs.DiskMemory.{memory_of}
 use Rattle.edge_traits.specs.declared.mem_disk.Call.TheVariants.{Synced}
-use Rattle.edge_traits.proofs.MemDiskLemmas.{elapses_push, replays_synced, rested_synced, only_synced, fewer_synced, unsynced_none}
+use Rattle.edge_traits.proofs.MemDiskLemmas.{elapses_push, holding_synced, replays_synced, done_synced, unsynced_none}
 use Rattle.edge_traits.proofs.mem_disk.MemDiskDisk.sync.Goals as goal
 
 pub invariant_of-self-2 : goal.invariant_of-self-2
 invariant_of-self-2 c =
-    let same : c.record_sync.new.base.items ≡ c.args.self.now.bytes.items = c.in_default.ensures.base ∙ c.as_slice.ensures.value in
+    let old = c.args.self.now in
+    let later = c.record_sync.new.calls.items in
+    let base = c.record_sync.new.base.items in
+    let all : length later ≤ c.len-self.result = omega (arith, c.len-self.ensures) in
+    let same : base ≡ old.bytes.items = c.in_default.ensures.base ∙ c.as_slice.ensures.value in
     record {
-      within = c.args.self.now.within;
-      replays = replays_synced c.args.self.now.first.items c.args.self.now.calls.items c.record_sync.new.calls.items Synced c.in_default.ensures.calls
-          c.args.self.now.bytes.items c.args.self.now.base.items c.record_sync.new.base.items refl same c.args.self.now.replays;
-      unsynced = unsynced_none c.record_sync.new.base.items c.args.self.now.bytes.items c.len-self.result c.record_sync.new.calls.items (omega (arith, c.len-self.ensures)) same;
+      within = old.within;
       place = omega (arith, c.len-self.ensures);
-      rested = rested_synced c.args.self.now.first.items c.args.self.now.calls.items c.record_sync.new.calls.items Synced c.in_default.ensures.calls
-          c.len-self.result c.args.self.now.bytes.items c.args.self.now.base.items c.record_sync.new.base.items refl (omega (arith, c.len-self.ensures)) same c.args.self.now.replays;
+      replays = replays_synced old.bytes.items base later c.len-self.result all same old.first.items old.calls.items (memory_of old) c.in_default.ensures.calls old.replays refl;
+      done = done_synced old.bytes.items base later c.len-self.result all same;
+      unsynced = unsynced_none base old.bytes.items c.len-self.result later all same;
     }
 
-pub returns-clause-ok : goal.returns-clause-ok
-returns-clause-ok c = λ h.
-    only_synced c.args.self.now.first.items c.args.self.now.calls.items c.record_sync.new.calls.items Synced c.in_default.ensures.calls
-    c.args.self.now.bytes.items c.args.self.now.base.items refl c.args.self.now.replays
-
 pub returns-clause-images : goal.returns-clause-images
-returns-clause-images c = λ h.
-    fewer_synced c.args.self.now.first.items c.args.self.now.calls.items c.record_sync.new.calls.items Synced c.in_default.ensures.calls
-    c.args.self.now.bytes.items c.args.self.now.base.items refl c.args.self.now.replays
+returns-clause-images c = λ image left.
+    let old = c.args.self.now in
+    let all : length c.record_sync.new.calls.items ≤ c.len-self.result = omega (arith, c.len-self.ensures) in
+    let same : c.record_sync.new.base.items ≡ old.bytes.items = c.in_default.ensures.base ∙ c.as_slice.ensures.value in
+    let is : image ≡ old.bytes.items = subst (λ (m : Memory). IsImage m image) (holding_synced old.bytes.items c.record_sync.new.base.items c.record_sync.new.calls.items c.len-self.result all same) left in
+    subst (IsImage (memory_of old)) (sym is) (done_is_torn (length old.bytes.items) (drop old.synced old.calls.items) old.base.items old.bytes.items old.done old.unsynced)
 
 pub returns-clause-time : goal.returns-clause-time
-returns-clause-time c = λ h. elapses_push c.args.self.now.first.items c.args.self.now.calls.items c.record_sync.new.calls.items Synced c.in_default.ensures.calls
+returns-clause-time c =
+    let old = c.args.self.now in
+    let later = c.record_sync.new.calls.items in
+    let base = c.record_sync.new.base.items in
+    let all : length later ≤ c.len-self.result = omega (arith, c.len-self.ensures) in
+    let same : base ≡ old.bytes.items = c.in_default.ensures.base ∙ c.as_slice.ensures.value in
+    elapses_push old.first.items old.calls.items later Synced (holding old.bytes.items base (drop c.len-self.result later)) c.in_default.ensures.calls
+    (replays_synced old.bytes.items base later c.len-self.result all same old.first.items old.calls.items (memory_of old) c.in_default.ensures.calls old.replays refl)
