@@ -1,1 +1,3 @@
+pub mod IdOrders
+pub mod NamedMaps
 pub mod PathLemmas

@@ -1,12 +1,16 @@
 //! Names, the paths of folders and domains, and the ids of objects.
 #![tactic(auto)]
 
+mod id_map;
 mod ids;
+mod name_map;
 mod names;
 mod paths;
 mod texts;
 
+pub use id_map::IdMap;
 pub use ids::{Kind, ObjectId};
+pub use name_map::{NameMap, Named};
 pub use names::{Name, NameFault};
 pub use paths::{
     DomainPath, MAX_PART_LEN, MAX_PATH_LEN, PathFault, parent_text, path_text, read_path,
