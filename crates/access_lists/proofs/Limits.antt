@@ -3,7 +3,7 @@ use Rattle.std.proofs.Common.{◌≡◌, ℕ, ◌+◌, ◌<◌, ◌≤◌, ◌�
 use Rattle.std.specs.Cmp.Lexicographic.{nat_list_cmp_total}
 use Rattle.std.specs.FinMap.{get, insert, len, len-insert}
 use Rattle.access_lists.specs.InForce.{Entries}
-use Rattle.access_lists.specs.declared.rule.Rights.{Rights}
+use Rattle.access_lists.specs.declared.rights.Rights.{Rights}
 
 one_more : (o : Option Rights) (n : ℕ) → (o ≡ None → n < 1024) → n ≤ 1024 → cond (is_some o) n (n + 1) ≤ 1024
 one_more None n room most = omega (arith, room refl)

@@ -3,8 +3,8 @@ use Rattle.std.proofs.Common.{◌≡◌, List, [], ◌∷◌, ◌++◌, Bool, tr
 use Rattle.std.specs.List.{list_any, cons_option}
 use Rattle.std.proofs.lemmas.List.Folds.{list_any-append}
 use Rattle.std.proofs.lemmas.List.Elements.{filter_map-append}
-use Rattle.access_lists.specs.declared.rule.Right.{Right}
-use Rattle.access_lists.specs.declared.rule.Rights.{Rights}
+use Rattle.access_lists.specs.declared.right.Right.{Right}
+use Rattle.access_lists.specs.declared.rights.Rights.{Rights}
 use Rattle.access_lists.specs.RightWords.{holds}
 use Rattle.access_lists.specs.InForce.{union_holds, joined}
 

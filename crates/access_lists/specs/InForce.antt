@@ -1,5 +1,6 @@
 -- Which right an access list gives a caller.
 --     Entries      an access list: a finite map from names to entries
+--     most_entries      the most entries of a list
 --     own_entry      the entry of the caller's user name
 --     group_entries      the entries of the caller's groups
 --     default_entry      the entry for everybody else
@@ -12,12 +13,15 @@ use Rattle.std.specs.List.{list_any}
 use Rattle.std.specs.FinMap.{FinMap, get}
 use Rattle.text_maps.specs.Keyed.{text_order}
 use Rattle.access_lists.specs.declared.people.Caller.{Caller}
-use Rattle.access_lists.specs.declared.rule.Right.{Right}
-use Rattle.access_lists.specs.declared.rule.Rights.{Rights}
+use Rattle.access_lists.specs.declared.right.Right.{Right}
+use Rattle.access_lists.specs.declared.rights.Rights.{Rights}
 use Rattle.access_lists.specs.RightWords.{holds}
 
 abbrev pub Entries : Type 0
 Entries = FinMap text_order Rights
+
+abbrev pub most_entries : ℕ
+most_entries = 1024
 
 -- a caller who showed no token
 abbrev pub anonymous_caller : Caller

@@ -2,9 +2,9 @@
 --     right_name      how a right is written
 --     holds right entry      whether an entry has the right
 use Rattle.std.specs.Prelude.{ℕ, List, Bool, codes}
-use Rattle.access_lists.specs.declared.rule.Right.{Right}
-use Rattle.access_lists.specs.declared.rule.Right.TheVariants.{Create, Read, Update, Delete, ReadAcl, UpdateAcl}
-use Rattle.access_lists.specs.declared.rule.Rights.{Rights}
+use Rattle.access_lists.specs.declared.right.Right.{Right}
+use Rattle.access_lists.specs.declared.right.Right.TheVariants.{Create, Read, Update, Delete, ReadAcl, UpdateAcl}
+use Rattle.access_lists.specs.declared.rights.Rights.{Rights}
 
 abbrev pub right_name : Right → List ℕ
 right_name Create = codes "create"

@@ -5,7 +5,8 @@ ghost use Rattle.access_lists.specs.RightWords.{holds};
 
 use crate::list::AccessList;
 use crate::people::Caller;
-use crate::rule::{Right, Rights};
+use crate::right::Right;
+use crate::rights::Rights;
 use object_ids::Name;
 
 /// The name of the entry for everybody who has no entry of his own and of no group.

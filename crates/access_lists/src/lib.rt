@@ -7,12 +7,14 @@
 mod decision;
 mod list;
 mod people;
-mod rule;
+mod right;
+mod rights;
 
 pub use decision::decide;
 pub use list::{AccessList, ListFault, MAX_ENTRIES};
 pub use people::{Caller, Names};
-pub use rule::{Right, Rights};
+pub use right::Right;
+pub use rights::Rights;
 
 #[cfg(test)]
 mod tests;

@@ -1,9 +1,10 @@
 ghost use Rattle.std.specs.Prelude.{◌≡◌, ◌↔◌, ◌≤◌, ◌++◌, OnOk, OnErr, IsErrOf, IsTrue};
 ghost use Rattle.std.specs.FinMap as map;
 ghost use Rattle.std.specs.Option.{option_copied};
+ghost use Rattle.access_lists.specs.InForce.{most_entries};
 ghost use Rattle.access_lists.specs.declared.list.ListFault.TheVariants.{NoMemory};
 
-use crate::rule::Rights;
+use crate::rights::Rights;
 use object_ids::Name;
 use std::alloc::{AllocError, Global};
 use std::marker::Model;
@@ -24,9 +25,9 @@ impl Model for AccessList {
     ghost use Rattle.std.specs.FinMap as map;
     ghost use Rattle.std.specs.Coded.{coded_ℕ, coded_list};
     ghost use Rattle.text_maps.specs.Keyed.{text_order};
-    ghost use Rattle.access_lists.specs.declared.rule.Rights.{Rights};
-    ghost use Rattle.access_lists.specs.contracts.rule.Rights as rights;
-    ghost use Rattle.access_lists.specs.declared.list.TheConstants.{MAX_ENTRIES};
+    ghost use Rattle.access_lists.specs.declared.rights.Rights.{Rights};
+    ghost use Rattle.access_lists.specs.contracts.rights.Rights as rights;
+    ghost use Rattle.access_lists.specs.InForce.{most_entries};
 
     ghost Value = { map.FinMap text_order Rights };
 
@@ -34,7 +35,7 @@ impl Model for AccessList {
 
     ghost view = { λ a. a.entries };
 
-    ghost invariant = { λ a. map.len a.entries ≤ MAX_ENTRIES };
+    ghost invariant = { λ a. map.len a.entries ≤ most_entries };
 }
 
 /// Why an entry was not put into a list.
@@ -67,7 +68,7 @@ impl AccessList {
     /// How many entries the list has.
     pub fn len(&self) -> usize
         ensures len { result ≡ map.len self.now }
-        ensures most { map.len self.now ≤ MAX_ENTRIES }
+        ensures most { map.len self.now ≤ most_entries }
     {
         self.entries.len()
     }
@@ -90,7 +91,8 @@ impl AccessList {
     pub fn put(&mut self, name: Name, rights: Rights) -> Result<(), ListFault>
         ensures ok { OnOk result (self.new ≡ map.insert self.old name rights) }
         ensures err { OnErr result (self.new ≡ self.old) }
-        ensures limit { IsErrOf result ListFault.Limit ↔ ((map.get self.old name ≡ None) × (MAX_ENTRIES ≤ map.len self.old)) }
+        ensures limit { IsErrOf result ListFault.Limit
+            ↔ ((map.get self.old name ≡ None) × (most_entries ≤ map.len self.old)) }
         ensures memory { IsErrOf result ListFault.NoMemory → map.get self.old name ≡ None }
     {
         if self.is_full_for(name.text()) {
@@ -102,7 +104,8 @@ impl AccessList {
 
     // Whether the text has no entry, and there is no room for one.
     fn is_full_for(&self, text: &str) -> bool
-        ensures { IsTrue result ↔ ((map.get self.now text.now ≡ None) × (MAX_ENTRIES ≤ map.len self.now)) }
+        ensures { IsTrue result
+            ↔ ((map.get self.now text.now ≡ None) × (most_entries ≤ map.len self.now)) }
     {
         !self.entries.contains_key(text) && self.entries.len() >= MAX_ENTRIES
     }

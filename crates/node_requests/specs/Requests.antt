@@ -6,7 +6,7 @@ use Rattle.serde_json.specs.Written.{compact_text}
 use Rattle.http_replies.specs.declared.status.ReplyStatus.TheVariants as status
 use Rattle.http_replies.specs.Reply.{reply_bytes}
 use Rattle.access_lists.specs.declared.people.Caller.{Caller}
-use Rattle.access_lists.specs.declared.rule.Right.TheVariants.{Read}
+use Rattle.access_lists.specs.declared.right.Right.TheVariants.{Read}
 use Rattle.access_lists.specs.InForce.{has}
 use Rattle.domains.specs.declared.classes.Node.{Node}
 use Rattle.domains.specs.Contents.{Contents}

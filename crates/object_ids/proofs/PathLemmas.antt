@@ -10,8 +10,7 @@ use Rattle.std.proofs.lemmas.List.Sums.{suffix_len_is}
 use Rattle.std.proofs.lemmas.List.Splits.{slice_split-cons_yes, slice_split-cons_no, length-slice_split}
 use Rattle.std.proofs.lemmas.Slice.Eq.{bytes_eq-Decides, ends_is}
 use Rattle.std.proofs.Math.Seq.{split_at, take-append_seam, get_or-append_seam, get_or-append_right}
-use Rattle.object_ids.specs.Paths.{root_path, is_slash, starts_with_slash, parts_of, is_part, is_path, without_trailing_slash, path_of, parent_of}
-use Rattle.object_ids.specs.declared.paths.TheConstants.{MAX_PATH_LEN}
+use Rattle.object_ids.specs.Paths.{most_of_path, root_path, is_slash, starts_with_slash, parts_of, is_part, is_path, without_trailing_slash, path_of, parent_of}
 
 onto_first-append : {X : Type 0} (x : X) (ps r : List (List X)) → 0 < length ps → onto_first x (ps ++ r) ≡ onto_first x ps ++ r
 onto_first-append x [] r h = absurd (omega arith)
@@ -42,7 +41,7 @@ parts-append front part h =
 
 -- the three facts of a path that is not `/`
 pub record IsLongPath (path : List ℕ) : Type 0 where
-  pub small : length path ≤ MAX_PATH_LEN
+  pub small : length path ≤ most_of_path
   pub begins : starts_with_slash path ≡ true
   pub parts : list_all is_part (parts_of path) ≡ true
 
@@ -50,15 +49,15 @@ pub path_cases : (path : List ℕ) → is_path path ≡ true → (path ≡ root_
 path_cases path h = elim (or_cases (bytes_eq path root_path) _ h) [
   | inl same ↦ inl ((bytes_eq-Decides path root_path).0 same)
   | inr long ↦
-      let halves = and_parts (nat_le (length path) MAX_PATH_LEN && starts_with_slash path) (list_all is_part (parts_of path)) long in
-      let fronts = and_parts (nat_le (length path) MAX_PATH_LEN) (starts_with_slash path) halves.0 in
+      let halves = and_parts (nat_le (length path) most_of_path && starts_with_slash path) (list_all is_part (parts_of path)) long in
+      let fronts = and_parts (nat_le (length path) most_of_path) (starts_with_slash path) halves.0 in
       inr record { small = leb-true _ _ fronts.0; begins = fronts.1; parts = halves.1 }
 ]
 
 pub long_path : (path : List ℕ) → IsLongPath path → is_path path ≡ true
 long_path path h =
-    or_right (bytes_eq path root_path) _ (and_from (nat_le (length path) MAX_PATH_LEN && starts_with_slash path) (list_all is_part (parts_of path))
-    (and_from (nat_le (length path) MAX_PATH_LEN) (starts_with_slash path) (le-leb _ _ h.small) h.begins) h.parts)
+    or_right (bytes_eq path root_path) _ (and_from (nat_le (length path) most_of_path && starts_with_slash path) (list_all is_part (parts_of path))
+    (and_from (nat_le (length path) most_of_path) (starts_with_slash path) (le-leb _ _ h.small) h.begins) h.parts)
 
 -- what stands before a slash of a path, where it is not empty, is a path, and the slash is not the last byte
 front_of_long : (front part : List ℕ) → 0 < length front → IsLongPath (front ++ 47 ∷ part) → IsLongPath front × (list_all is_part (slice_split is_slash part) ≡ true)

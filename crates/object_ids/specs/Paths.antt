@@ -3,7 +3,13 @@ use Rattle.std.specs.Prelude.{ℕ, ◌-◌, List, [], ◌∷◌, Bool, false, no
 use Rattle.std.specs.List.{list_all, slice_split, ends_with, before_last}
 use Rattle.std.specs.Str.{bytes_eq}
 use Rattle.object_ids.specs.Names.{is_name}
-use Rattle.object_ids.specs.declared.paths.TheConstants.{MAX_PART_LEN, MAX_PATH_LEN}
+
+-- the most bytes of a path, and of a part
+abbrev pub most_of_path : ℕ
+most_of_path = 1024
+
+abbrev pub most_of_part : ℕ
+most_of_part = 255
 
 -- the path `/`
 abbrev pub root_path : List ℕ
@@ -22,11 +28,11 @@ parts_of path = slice_split is_slash (drop 1 path)
 
 -- a name that is neither `.` nor `..`
 abbrev pub is_part : List ℕ → Bool
-is_part part = is_name MAX_PART_LEN part && not (bytes_eq part (codes ".")) && not (bytes_eq part (codes ".."))
+is_part part = is_name most_of_part part && not (bytes_eq part (codes ".")) && not (bytes_eq part (codes ".."))
 
 -- `/`, or one part or more, each begun by a slash
 abbrev pub is_path : List ℕ → Bool
-is_path path = bytes_eq path root_path || (nat_le (length path) MAX_PATH_LEN && starts_with_slash path && list_all is_part (parts_of path))
+is_path path = bytes_eq path root_path || (nat_le (length path) most_of_path && starts_with_slash path && list_all is_part (parts_of path))
 
 -- a text without one slash at its end, where it is more than a slash
 abbrev pub without_trailing_slash : List ℕ → List ℕ

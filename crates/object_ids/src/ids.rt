@@ -1,8 +1,9 @@
-ghost use Rattle.std.specs.Prelude.{◌≡◌};
+ghost use Rattle.std.specs.Prelude.{◌≡◌, ◌<◌, ◌≤◌};
 ghost use Rattle.std.proofs.Common.{rules};
 ghost use Rattle.std.specs.Cmp.{partial_order_from_own_ties};
 ghost use Rattle.std.specs.Cmp.Rules.{comparing};
 ghost use Rattle.std.specs.Ordering.{as_partial_cmp};
+ghost use Rattle.object_ids.specs.Ids.{lane_of};
 ghost use Rattle.object_ids.specs.IdOrder.{kind_rank, id_order, id_eq};
 
 use std::cmp::Ordering;
@@ -53,6 +54,15 @@ impl Model for ObjectId {
     ghost invariant = { λ a. (a.domain < 2 ^ 48) × (a.run < 2 ^ 22) × (a.serial < 2 ^ 40) };
 
     ghost inverse = { λ id. record { kind = id.kind; domain = id.domain; run = id.run; serial = id.serial } };
+}
+
+/// The lane of an id, of so many lanes.
+pub fn lane(id: &ObjectId, lanes: u32) -> u32
+    requires some { 1 ≤ lanes }
+    ensures lane { result ≡ lane_of lanes id.now }
+    ensures below { result < lanes }
+{
+    (id.serial % u64::from(lanes)) as u32
 }
 
 impl PartialEq for ObjectId {

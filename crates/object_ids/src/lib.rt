@@ -1,17 +1,25 @@
 //! Names, the paths of folders and domains, and the ids of objects.
 #![tactic(auto)]
 
+mod id_laws;
+mod id_map;
 mod ids;
+mod limits;
+mod name_map;
 mod names;
 mod paths;
 mod texts;
 
-pub use ids::{Kind, ObjectId};
+pub use id_laws::id_texts_in_order;
+pub use id_map::IdMap;
+pub use ids::{Kind, ObjectId, lane};
+pub use limits::LimitKind;
+pub use name_map::{NameMap, Named};
 pub use names::{Name, NameFault};
 pub use paths::{
     DomainPath, MAX_PART_LEN, MAX_PATH_LEN, PathFault, parent_text, path_text, read_path,
 };
-pub use texts::id_text;
+pub use texts::{id_text, read_id};
 
 #[cfg(test)]
 mod tests;

@@ -108,6 +108,13 @@ impl Name {
         })
     }
 
+    /// The text of the name, which takes no memory.
+    pub fn into_text(self) -> String
+        ensures { string_bytes result ≡ self }
+    {
+        self.text
+    }
+
     /// The name as text.
     pub fn text(&self) -> &str
         ensures value { result.now ≡ self.now }

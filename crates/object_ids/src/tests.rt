@@ -1,5 +1,9 @@
-use crate::{Kind, Name, NameFault, ObjectId, PathFault, id_text, path_text, read_path};
+use crate::{
+    IdMap, Kind, LimitKind, Name, NameFault, NameMap, ObjectId, PathFault, id_text, lane,
+    path_text, read_id, read_path,
+};
 use std::alloc::Global;
+use std::test::Fail;
 
 #[test]
 fn names_are_read_and_copied(rt: HostRuntime) {
@@ -125,7 +129,7 @@ fn paths_have_a_greatest_length(rt: HostRuntime) {
 }
 
 #[test]
-fn ids_are_written(rt: HostRuntime) {
+fn ids_are_written_and_read(rt: HostRuntime) {
     let alloc = rt.alloc();
     let first = ObjectId {
         kind: Kind::Group,
@@ -151,8 +155,81 @@ fn ids_are_written(rt: HostRuntime) {
         (root, "t-00000000-0001-8000-8000-000000000000"),
     ] {
         match id_text(alloc, &id) {
-            Ok(written) => assert_eq!(rt; written.as_str(), text),
+            Ok(written) => {
+                assert_eq!(rt; written.as_str(), text);
+                assert!(rt; read_id(text) == Some(id), "{text}");
+            }
             Err(_) => panic!(rt; "no memory"),
         }
     }
+}
+
+#[test]
+fn other_texts_are_no_ids(rt: HostRuntime) {
+    for text in [
+        "",
+        "g-",
+        "00000000-0001-8000-8000-010000000002",
+        "x-00000000-0001-8000-8000-010000000002",
+        "D-00000000-0002-8000-bfff-ffffffffffff",
+        "d-00000000-0002-8000-BFFF-FFFFFFFFFFFF",
+        "g-00000000-0001-4000-8000-010000000002",
+        "g-00000000-0001-8001-8000-010000000002",
+        "g-00000000-0001-8000-c000-010000000002",
+        "g-00000000000180008000010000000002",
+        "g-{00000000-0001-8000-8000-010000000002}",
+        "g-00000000-0001-8000-8000-010000000002 ",
+    ] {
+        assert!(rt; read_id(text).is_none(), "{text}");
+    }
+}
+
+fn group(serial: u64) -> ObjectId {
+    ObjectId {
+        kind: Kind::Group,
+        domain: 1,
+        run: 1,
+        serial,
+    }
+}
+
+#[test]
+fn maps_are_walked_in_order(rt: HostRuntime) -> Result<(), Fail> {
+    let alloc = rt.alloc();
+    let mut ids = IdMap::new(alloc);
+    ids.put(group(7), 1_u64)?;
+    ids.put(group(3), 2)?;
+    if let Some(value) = ids.get_mut(&group(3)) {
+        *value += 10;
+    }
+    assert_eq!(rt; ids.get(&group(3)).copied(), Some(12));
+    assert!(rt; ids.next_id(None) == Some(group(3)));
+    assert!(rt; ids.next_id(Some(&group(4))) == Some(group(7)));
+    assert!(rt; ids.next_id(Some(&group(7))).is_none());
+    assert_eq!(rt; ids.remove(&group(3)), Some(12));
+    assert_eq!(rt; ids.as_tree().len(), ids.len());
+
+    let mut names = NameMap::new(alloc);
+    for text in ["b", "a", "b"] {
+        match Name::read(alloc, text, 9) {
+            Ok(name) => names.put(name, 1_u64)?,
+            Err(_) => panic!(rt; "no name"),
+        }
+    }
+    if let Some(value) = names.get_mut("b") {
+        *value += 10;
+    }
+    assert_eq!(rt; names.len(), 2);
+    assert_eq!(rt; names.get("b").copied(), Some(11));
+    assert!(rt; names.next_name(None).map(|name| name.text()) == Some("a"));
+    assert!(rt; names.next_name(Some("a")).map(|name| name.text()) == Some("b"));
+    assert_eq!(rt; names.remove("a"), Some(1));
+    assert_eq!(rt; names.as_tree().len(), 1);
+    Ok(())
+}
+
+#[test]
+fn lanes_and_limits_have_their_values(rt: HostRuntime) {
+    assert_eq!(rt; lane(&group(7), 4), 3);
+    assert_eq!(rt; LimitKind::Serial.word(), "serial");
 }

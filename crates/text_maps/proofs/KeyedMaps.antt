@@ -51,7 +51,7 @@ by_bytes f g bs w here other cs =
     (λ n. other cs n ∙ sym (cond-false (bytes_eq bs cs) w (f cs) n))
     (cases_Bool (bytes_eq bs cs))
 
-no_length : {A : Type 0} (es : List A) → length es ≡ 0 → es ≡ []
+pub no_length : {A : Type 0} (es : List A) → length es ≡ 0 → es ≡ []
 no_length [] e = refl
 no_length (x ∷ es) e = absurd (omega arith)
 

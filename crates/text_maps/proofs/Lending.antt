@@ -7,12 +7,12 @@ use Rattle.text_maps.specs.Keyed.{text_order, keyed}
 use Rattle.text_maps.proofs.KeyedMaps.{order_by, insert-keyed, get-keyed}
 use borrow.Follows.Closed.{read_of}
 
-lent_if : {D V : Type 0} (r : Option (MutBor V)) (F G : V → D) (v u : D) → (is_some r ≡ true → (w : V) → F w ≡ G w) → v ≡ u
+pub lent_if : {D V : Type 0} (r : Option (MutBor V)) (F G : V → D) (v u : D) → (is_some r ≡ true → (w : V) → F w ≡ G w) → v ≡ u
     → read_of (ghost_name_of r) F v ≡ read_of (ghost_name_of r) G u
 lent_if None F G v u some none = ap inr none
 lent_if (Some x) F G v u some none = λ i. inl (x.ghost_name, λ w. some refl w i)
 
-is_some-copied : {V : Type 0} (r : Option (MutBor V)) → is_some (option_copied_mut r) ≡ is_some r
+pub is_some-copied : {V : Type 0} (r : Option (MutBor V)) → is_some (option_copied_mut r) ≡ is_some r
 is_some-copied None = refl
 is_some-copied (Some x) = refl
 

@@ -1,3 +1,5 @@
 pub mod KeyedMaps
+pub mod TreeMaps
+pub mod ValueMaps
 pub mod Walks
 pub mod Lending

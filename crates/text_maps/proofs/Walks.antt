@@ -12,14 +12,14 @@ use Rattle.std.specs.FinMap.{FinMap, from_entries, entries, entries_sorted, get,
 use Rattle.std.specs.FinMap.Entries.{below_all}
 use Rattle.text_maps.specs.Keyed.{text_order, keyed}
 use Rattle.text_maps.proofs.KeyedMaps.{order_by, entries-keyed, first-keyed}
-use Rattle.text_maps.specs.Nexts.{first, is_behind, left, IsNext, IsStep}
+use Rattle.text_maps.specs.Nexts.{first, is_behind, left, IsNext, IsStep, IsKeyStep}
 
-halves : (a b : Bool) → T (a && b) → T a × T b
+pub halves : (a b : Bool) → T (a && b) → T a × T b
 halves true true h = (tt, tt)
 halves true false h = absurd h
 halves false b h = absurd h
 
-less : (o : Ordering) → T (is_lt o) → o ≡ Less
+pub less : (o : Ordering) → T (is_lt o) → o ≡ Less
 less Less h = refl
 less Equal h = absurd h
 less Greater h = absurd h
@@ -62,7 +62,7 @@ module _ {K X : Type 0} {R : K → K → Ordering} (o : IsTotalOrder R) where
   above_at x q e es v true t h found later = alike_right o q e.0 x ((Equal-is (R q e.0)).0 t) ∙ less _ (halves _ _ h).0
   above_at x q e es v false t h found later = later (halves _ _ h).1 (sym (ap (λ b. cond b (Some e.1) (find R q es)) t) ∙ found)
 
-  found_above : (x q : K) (es : List (K × X)) (v : X) → T (below_all R x es) → find R q es ≡ Some v → R x q ≡ Less
+  pub found_above : (x q : K) (es : List (K × X)) (v : X) → T (below_all R x es) → find R q es ≡ Some v → R x q ≡ Less
   found_above x q [] v h found = cc
   found_above x q (e ∷ es) v h found = above_at x q e es v (eq_by_cmp R q e.0) refl h found (found_above x q es v)
 
@@ -125,6 +125,16 @@ module _ {K X : Type 0} {R : K → K → Ordering} (o : IsTotalOrder R) where
   pub found : {A B : Type 0} (key : A → K) (value : B → X) (m : FinMap R X) (after : Option K) (r : Option (A × B))
       → option_map (λ e. (key e.0, value e.1)) r ≡ first (left R after (entries m)) → IsFound key value m after r
   found key value m after r e = as_found key value m after r (subst (Says after (entries m)) (sym e) (says after (entries m) (entries_sorted m)))
+
+  -- the first key behind another is the next one of the walk
+  pub found_key : (m : FinMap R X) (after r : Option K) → r ≡ option_map (λ e. e.0) (first (left R after (entries m))) → IsNext m after r × IsKeyStep m after r
+  found_key m after r e =
+      let both : (r : Option K) → Type 0 = λ r. IsNext m after r × IsKeyStep m after r in
+      subst both (sym e) (at (first (left R after (entries m))) (says after (entries m) (entries_sorted m)))
+    where
+      at : (w : Option (K × X)) → Says after (entries m) w → IsNext m after (option_map (λ e. e.0) w) × IsKeyStep m after (option_map (λ e. e.0) w)
+      at None s = ((as_found (λ k. k) (λ v. v) m after None s).least, s.0)
+      at (Some d) s = ((as_found (λ k. k) (λ v. v) m after (Some d) s).least, (d.1, get-entries m d.0 ∙ s.1, s.0))
 
 module _ {K X : Type 0} (bytes : K → List ℕ) where
   behind-keyed : (after : Option (Bor (List ℕ))) (es : List (K × X))

@@ -1,7 +1,9 @@
 -- Maps keyed by bytes.
 --     text_order      texts in the order of their bytes
 --     keyed bytes es      the entries es, each at the bytes of its key
+--     with_values h m      the map m with h v for each value v
 use Rattle.std.specs.Prelude.{ℕ, List, map}
+use Rattle.std.specs.FinMap.{FinMap, entries, from_entries}
 use Rattle.std.specs.Ordering.{nat_cmp}
 use Rattle.std.specs.Cmp.Lexicographic.{slice_cmp}
 use Rattle.std.specs.declared.cmp.Ordering.{Ordering}
@@ -11,3 +13,6 @@ text_order = slice_cmp nat_cmp
 
 abbrev pub keyed : {K X : Type 0} → (K → List ℕ) → List (K × X) → List (List ℕ × X)
 keyed bytes es = map (λ e. (bytes e.0, e.1)) es
+
+abbrev pub with_values : {K X Y : Type 0} {R : K → K → Ordering} → (X → Y) → FinMap R X → FinMap R Y
+with_values h m = from_entries (map (λ e. (e.0, h e.1)) (entries m))

@@ -10,4 +10,5 @@ mod replace;
 mod text_map;
 
 pub use byte_map::ByteMap;
+pub use nexts::entry_behind;
 pub use text_map::TextMap;

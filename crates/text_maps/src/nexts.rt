@@ -3,7 +3,7 @@ ghost use Rattle.std.specs.Prelude.{◌≡◌, Some, option_map, true};
 ghost use Rattle.std.specs.BTreeMap.{IsOrdered};
 ghost use Rattle.std.specs.List.{filter};
 ghost use Rattle.std.specs.Ordering.{is_lt};
-ghost use Rattle.text_maps.specs.Nexts.{first, is_behind};
+ghost use Rattle.text_maps.specs.Nexts.{first, is_behind, left};
 
 use std::cmp::Ordering;
 use std::collections::BTreeMap;
@@ -23,19 +23,22 @@ pub(crate) fn next_entry<'a, K: Ord, V, Q: Comparable<K>>(
         return entries.iter().next();
     };
     match entries.get_key_value(after) {
-        Some((held, _)) => behind_held(entries, held),
+        Some((held, _)) => entry_behind(entries, held),
         None => behind(entries, after),
     }
 }
 
-// The first entry behind a key that the map has.
-fn behind_held<'a, K: Ord, V>(entries: &'a BTreeMap<K, V>, held: &'a K) -> Option<(&'a K, &'a V)>
+/// The entry of the least key of a tree behind another.
+pub fn entry_behind<'a, K: Ord, V>(
+    entries: &'a BTreeMap<K, V>,
+    key: &'a K,
+) -> Option<(&'a K, &'a V)>
     ensures first { option_map (λ e. (e.0.now, e.1.now)) result
-        ≡ first (filter (λ e. is_lt (K.cmp held.now e.0)) entries.now.entries) }
+        ≡ first (left K.cmp (Some key.now) entries.now.entries) }
     ensures ordered { IsOrdered K.cmp entries.now }
 {
     entries
-        .range((Bound::Excluded(held), Bound::Unbounded))
+        .range((Bound::Excluded(key), Bound::Unbounded))
         .next()
 }
 

@@ -4,7 +4,7 @@ use Rattle.std.specs.Map.Iter.{deref_pair}
 use Rattle.std.proofs.lemmas.Bool.{cond-true, cond-false, le-leb, lt-leb}
 use Rattle.std.proofs.lemmas.Map.Iter.{rest_more, rest_all}
 use Rattle.text_maps.specs.Keyed.{text_order}
-use Rattle.access_lists.specs.declared.rule.Rights.{Rights}
+use Rattle.access_lists.specs.declared.rights.Rights.{Rights}
 use Rattle.toml.specs.View.{view}
 use Rattle.configuration.specs.Places.{entry_of}
 use Rattle.configuration.specs.Tables.{all_of, with_entries}

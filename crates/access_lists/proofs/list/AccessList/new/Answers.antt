@@ -1,7 +1,7 @@
 use Rattle.std.proofs.Common.{◌≤◌, sym, subst, lit≤}
 use Rattle.std.specs.FinMap.{len, len-empty}
 use Rattle.text_maps.specs.Keyed.{text_order}
-use Rattle.access_lists.specs.declared.rule.Rights.{Rights}
+use Rattle.access_lists.specs.declared.rights.Rights.{Rights}
 use Rattle.access_lists.specs.InForce.{Entries}
 use Rattle.access_lists.proofs.list.AccessList.new.Goals as goal
 
