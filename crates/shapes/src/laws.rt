@@ -23,14 +23,18 @@ pub fn cells_are_inside()
     ensures inside { (s : Shape) → All (λ at. LiesIn at s) (cells_of s) }
     ensures counted { (s : Shape) → length (cells_of s) ≡ count_of s }
     ensures few { (s : Shape) → IsSound s → count_of s ≤ 2 ^ 48 }
-    ensures once { (s : Shape) (j k : ℕ) → j < count_of s → k < count_of s → cell_of s j ≡ cell_of s k → j ≡ k }
+    ensures once { (s : Shape) (j k : ℕ) → j < count_of s → k < count_of s
+        → cell_of s j ≡ cell_of s k → j ≡ k }
 {}
 
 /// Places and cells of a shape are each other's inverse, and the order of cells is that of their
 /// places.
 pub fn places_number_the_cells()
-    ensures place { (s : Shape) (k : ℕ) → k < count_of s → place (cell_of s k) (dims_of s) ≡ k }
-    ensures cell { (s : Shape) (at : List ℕ) → LiesIn at s → cell_of s (place at (dims_of s)) ≡ at }
+    ensures place { (s : Shape) (k : ℕ) → k < count_of s
+        → place (cell_of s k) (dims_of s) ≡ k }
+    ensures cell { (s : Shape) (at : List ℕ) → LiesIn at s
+        → cell_of s (place at (dims_of s)) ≡ at }
     ensures below { (s : Shape) (at : List ℕ) → LiesIn at s → place at (dims_of s) < count_of s }
-    ensures ordered { (s : Shape) (a b : List ℕ) → LiesIn a s → LiesIn b s → nat_cmp (place a (dims_of s)) (place b (dims_of s)) ≡ list_order a b }
+    ensures ordered { (s : Shape) (a b : List ℕ) → LiesIn a s → LiesIn b s
+        → nat_cmp (place a (dims_of s)) (place b (dims_of s)) ≡ list_order a b }
 {}

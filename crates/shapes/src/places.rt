@@ -65,7 +65,8 @@ pub fn coords_at(shape: &Shape, number: u64) -> Dims
     requires below { number < count_of shape.now }
     ensures inside { LiesIn result shape.now }
     ensures place { place result (dims_of shape.now) ≡ number }
-    ensures once { (at : List ℕ) → LiesIn at shape.now → place at (dims_of shape.now) ≡ number → result ≡ at }
+    ensures once { (at : List ℕ) → LiesIn at shape.now → place at (dims_of shape.now) ≡ number
+        → result ≡ at }
     ensures listed { cell_of shape.now number ≡ result }
 {
     match shape {

@@ -45,7 +45,8 @@ struct Spelled {
 /// The first fault in the order of [`ShapeFault`].
 pub fn read_shape(shape: Option<&Value>, maxdims: Option<&Value>) -> Result<Shape, ShapeFault>
     ensures spelled { IfOk result (IsShape (shown shape.entry) (shown maxdims.entry)) }
-    ensures only { (s : Shape) → IsShape (shown shape.entry) (shown maxdims.entry) s → result ≡ Ok s }
+    ensures only { (s : Shape) → IsShape (shown shape.entry) (shown maxdims.entry) s
+        → result ≡ Ok s }
     ensures first { result ≡ shape_of (shown shape.entry) (shown maxdims.entry) }
     ensures sound { IfOk result IsSound }
 {
@@ -54,9 +55,12 @@ pub fn read_shape(shape: Option<&Value>, maxdims: Option<&Value>) -> Result<Shap
 
 /// Trees spell one shape, or they have a fault, and never both.
 pub fn shape_or_fault()
-    ensures one { (shape limits : Option Data) (s t : Shape) → IsShape shape limits s → IsShape shape limits t → s ≡ t }
-    ensures spelled { (shape limits : Option Data) (s : Shape) → (IsShape shape limits s ↔ (shape_of shape limits ≡ Ok s)) }
-    ensures fault { (shape limits : Option Data) (f : ShapeFault) (s : Shape) → shape_of shape limits ≡ Err f → IsShape shape limits s → ⊥ }
+    ensures one { (shape limits : Option Data) (s t : Shape)
+        → IsShape shape limits s → IsShape shape limits t → s ≡ t }
+    ensures spelled { (shape limits : Option Data) (s : Shape)
+        → (IsShape shape limits s ↔ (shape_of shape limits ≡ Ok s)) }
+    ensures fault { (shape limits : Option Data) (f : ShapeFault) (s : Shape)
+        → shape_of shape limits ≡ Err f → IsShape shape limits s → ⊥ }
 {}
 
 #[tactic(auto, unfolding(crate::specs::Shapes::shape_of))]
@@ -110,13 +114,15 @@ fn worded(tree: &Value, limits: Option<&Value>) -> Result<Shape, ShapeFault>
 }
 
 fn inner_dims(tree: &Value) -> Option<Spelled>
-    ensures { result ≡ option_map kept_of (option_and_then extents_in (get (codes "dims") (view tree.now))) }
+    ensures { result
+        ≡ option_map kept_of (option_and_then extents_in (get (codes "dims") (view tree.now))) }
 {
     spelled_list(tree.get("dims")?, Role::Dim)
 }
 
 fn spelled_list(tree: &Value, role: Role) -> Option<Spelled>
-    ensures { result ≡ option_map kept_of (option_and_then (all_in (number_in role)) (list_in (view tree.now))) }
+    ensures { result
+        ≡ option_map kept_of (option_and_then (all_in (number_in role)) (list_in (view tree.now))) }
 {
     numbers(list_items(tree)?, role)
 }
@@ -131,7 +137,8 @@ fn spelled_dims(tree: &Value) -> Option<Spelled>
 }
 
 fn one_dim(tree: &Value) -> Option<Spelled>
-    ensures { result ≡ option_map kept_of (option_map (λ n. n ∷ []) (extent_in (view tree.now))) }
+    ensures { result
+        ≡ option_map kept_of (option_map (λ n. n ∷ []) (extent_in (view tree.now))) }
 {
     let n = extent(tree)?;
     Some(Spelled {
