@@ -1,8 +1,8 @@
 //! Trees of JSON (RFC 8259) that contracts see as data, and looking into them: their whole numbers,
 //! their lists, the texts at their keys.
 //!
-//! `specs/` has the words that contracts on trees share, and `Faults` those by which a contract says
-//! which of several faults comes first.
+//! `specs/` has the words that contracts on trees share, and `Faults` those by which a contract
+//! says which of several faults comes first.
 #![tactic(auto)]
 
 ghost use Rattle.std.specs.Prelude.{◌≡◌, ◌⊎◌, ◌↔◌, Ok, Err, Result, map, option_map};
@@ -51,8 +51,11 @@ pub fn member_text<'a>(tree: &'a Value, key: &str) -> Option<&'a str>
 /// Of two tests, one after the other: both pass exactly where the first passes and then the second
 /// over what it gave, and the fault is that of the first that fails.
 pub fn first_fault_decides<A, B, E>()
-    ensures passed { (r : Result A E) (next : A → Result B E) (y : B) → ((followed_by r next ≡ Ok y) ↔ ((x : A) × (r ≡ Ok x) × (next x ≡ Ok y))) }
-    ensures failed { (r : Result A E) (next : A → Result B E) (e : E) → ((followed_by r next ≡ Err e) ↔ ((r ≡ Err e) ⊎ ((x : A) × (r ≡ Ok x) × (next x ≡ Err e)))) }
+    ensures passed { (r : Result A E) (next : A → Result B E) (y : B)
+        → ((followed_by r next ≡ Ok y) ↔ ((x : A) × (r ≡ Ok x) × (next x ≡ Ok y))) }
+    ensures failed { (r : Result A E) (next : A → Result B E) (e : E)
+        → ((followed_by r next ≡ Err e)
+        ↔ ((r ≡ Err e) ⊎ ((x : A) × (r ≡ Ok x) × (next x ≡ Err e)))) }
 {}
 
 #[cfg(test)]

@@ -12,14 +12,15 @@ use Rattle.json_trees.specs.Faults.{◌>>=◌}
 use Rattle.json_trees.proofs.FaultLemmas.{chosen, test_ok, bind_ok}
 use Rattle.shapes.specs.declared.Shape.{Shape}
 use Rattle.shapes.specs.declared.Shape.TheVariants.{Null, Scalar, Simple}
-use Rattle.shapes.specs.Places.{IsInside}
+use Rattle.shapes.specs.Places.{IsInside, is_inside}
 use Rattle.shapes.specs.Shapes.{IsDims, LiesIn}
 use Rattle.shapes.proofs.ShapeLemmas.{dims_alone_told, dims_alone_read}
 use Rattle.point_select.specs.declared.TheConstants.{MAX_POINTS}
 use Rattle.point_select.specs.declared.PointFault.{PointFault}
 use Rattle.point_select.specs.declared.PointFault.TheVariants.{Syntax, TooMany, Rank, Past, NoMemory}
 use Rattle.point_select.specs.Points.{IsPoint, SpellsPoints, IsBadPoint, IsFirstBad}
-use Rattle.point_select.specs.Faults.{coords_in, is_inside, point_at, point_of, followed, points_from, points_in, counted_points, points_of, Tells, Answers}
+use Rattle.shapes.proofs.InsideLemmas.{inside_told, inside_read}
+use Rattle.point_select.specs.Faults.{coords_in, point_at, point_of, followed, points_from, points_in, counted_points, points_of, GivesPoints}
 
 -- ---- coordinates
 
@@ -30,35 +31,6 @@ read_at (Some ns) None d e told only = sym (dims_alone_read d ns told) ∙ e
 
 pub coords_read : (r : Option (List ℕ)) (d : Data) → IfSome r (IsDims d) → ((ns : List ℕ) → IsDims d ns → r ≡ Some ns) → r ≡ coords_in d
 coords_read r d told only = read_at r (coords_in d) d refl told only
-
-pub inside_next : (i : ℕ) (xs ns : List ℕ) → i < length xs → i < length ns → get_or xs i 0 < get_or ns i 0 → is_inside (drop i xs) (drop i ns) ≡ is_inside (drop (i + 1) xs) (drop (i + 1) ns)
-inside_next i xs ns h k l = rw (drop_more xs i 0 h, drop_more ns i 0 k, lt-ltb (get_or xs i 0) (get_or ns i 0) l)
-
-pub inside_here : (i : ℕ) (xs ns : List ℕ) → i < length xs → i < length ns → get_or ns i 0 ≤ get_or xs i 0 → is_inside (drop i xs) (drop i ns) ≡ false
-inside_here i xs ns h k l =
-    let high : nat_lt (get_or xs i 0) (get_or ns i 0) ≡ false = grind (arith, nat_tests) in
-    rw (drop_more xs i 0 h, drop_more ns i 0 k, high)
-
-pub inside_end : (i : ℕ) (xs ns : List ℕ) → length xs ≤ i → length ns ≤ i → is_inside (drop i xs) (drop i ns) ≡ true
-inside_end i xs ns h k = rw (drop_all i xs h, drop_all i ns k)
-
-both_true : (a b : Bool) → (a && b) ≡ true → (a ≡ true) × (b ≡ true)
-both_true true b e = (refl, e)
-both_true false b e = cc
-
-inside_told : (xs ns : List ℕ) → is_inside xs ns ≡ true → IsInside xs ns
-inside_told [] [] e = tt
-inside_told [] (n ∷ ns) e = cc
-inside_told (x ∷ xs) [] e = cc
-inside_told (x ∷ xs) (n ∷ ns) e =
-    let both = both_true (nat_lt x n) (is_inside xs ns) e in
-    (ltb-true x n both.0, inside_told xs ns both.1)
-
-inside_read : (xs ns : List ℕ) → IsInside xs ns → is_inside xs ns ≡ true
-inside_read [] [] h = refl
-inside_read [] (n ∷ ns) h = absurd h
-inside_read (x ∷ xs) [] h = absurd h
-inside_read (x ∷ xs) (n ∷ ns) h = rw (lt-ltb x n h.0, inside_read xs ns h.1)
 
 -- ---- one point
 
@@ -242,21 +214,14 @@ points_few d (Simple dims limits) points h = h.2
 
 -- ---- from an answer to what it says
 
-pub answer_told : (r want : Result (List (List ℕ)) PointFault) (P : List (List ℕ) → Type 0) → ((points : List (List ℕ)) → want ≡ Ok points → P points) → Answers r want → IfOk r P
+pub answer_told : (r want : Result (List (List ℕ)) PointFault) (P : List (List ℕ) → Type 0) → ((points : List (List ℕ)) → want ≡ Ok points → P points) → GivesPoints r want → IfOk r P
 answer_told (Ok points) want P h a = h points a
 answer_told (Err f) want P h a = tt
 
-pub answer_same : (r want also : Result (List (List ℕ)) PointFault) → want ≡ also → Answers r want → Answers r also
+pub answer_same : (r want also : Result (List (List ℕ)) PointFault) → want ≡ also → GivesPoints r want → GivesPoints r also
 answer_same r want also e a =
-    let P = λ (w : Result (List (List ℕ)) PointFault). Answers r w in
+    let P = λ (w : Result (List (List ℕ)) PointFault). GivesPoints r w in
     subst P e a
 
 pub same_points : (ps qs : List (List ℕ)) (r : Result (List (List ℕ)) PointFault) → r ≡ Ok ps → r ≡ Ok qs → ps ≡ qs
 same_points ps qs r e k = cc
-
-pub told_fault : (f : PointFault) (want : Result (List (List ℕ)) PointFault) → want ≡ Err f → Tells f want
-told_fault (Syntax k) want e = e
-told_fault (TooMany n) want e = e
-told_fault (Rank k) want e = e
-told_fault (Past k) want e = e
-told_fault NoMemory want e = tt

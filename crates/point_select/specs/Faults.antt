@@ -1,11 +1,12 @@
 -- The tests of points in order: the first that fails decides.
-use Rattle.std.specs.Prelude.{◌≡◌, ℕ, suc, ◌&&◌, Bool, true, false, List, [], ◌∷◌, ◌++◌, length, Option, Some, None, option_and_then, Result, Ok, Err, nat_lt, nat_eq, if◌then◌else◌}
+use Rattle.std.specs.Prelude.{◌≡◌, ℕ, suc, List, [], ◌∷◌, ◌++◌, length, Option, Some, None, option_and_then, Result, Ok, Err, nat_lt, nat_eq, if◌then◌else◌}
 use Rattle.serde_json.specs.Data.{Data}
 use Rattle.json_trees.specs.Trees.{list_in}
-use Rattle.json_trees.specs.Faults.{◌>>=◌}
+use Rattle.json_trees.specs.Faults.{◌>>=◌, Gives, Fails}
 use Rattle.shapes.specs.declared.Shape.{Shape}
 use Rattle.shapes.specs.declared.Shape.TheVariants.{Null, Scalar, Simple}
 use Rattle.shapes.specs.Extents.{dims_in}
+use Rattle.shapes.specs.Places.{is_inside}
 use Rattle.shapes.specs.Spelled.{few_of}
 use Rattle.point_select.specs.declared.TheConstants.{MAX_POINTS}
 use Rattle.point_select.specs.declared.PointFault.{PointFault}
@@ -14,13 +15,6 @@ use Rattle.point_select.specs.declared.PointFault.TheVariants.{Syntax, TooMany, 
 -- the coordinates that a tree spells
 abbrev pub coords_in : Data → Option (List ℕ)
 coords_in d = option_and_then few_of (dims_in d)
-
--- whether each coordinate is below its dim
-abbrev pub is_inside : List ℕ → List ℕ → Bool
-is_inside [] [] = true
-is_inside [] (n ∷ ns) = false
-is_inside (x ∷ xs) [] = false
-is_inside (x ∷ xs) (n ∷ ns) = nat_lt x n && is_inside xs ns
 
 -- the point with number `k`
 abbrev pub point_at : List ℕ → ℕ → Option (List ℕ) → Result (List ℕ) PointFault
@@ -54,11 +48,6 @@ counted_points shape (Some ds) = if nat_lt MAX_POINTS (length ds) then Err (TooM
 unfoldable pub points_of : Data → Shape → Result (List (List ℕ)) PointFault
 points_of d shape = counted_points shape (list_in d)
 
--- an answer is the one wanted, but that memory may run out instead
-abbrev pub Tells : PointFault → Result (List (List ℕ)) PointFault → Type 0
-Tells NoMemory want = Unit {0}
-Tells fault want = want ≡ Err fault
-
-abbrev pub Answers : Result (List (List ℕ)) PointFault → Result (List (List ℕ)) PointFault → Type 0
-Answers (Ok points) want = want ≡ Ok points
-Answers (Err fault) want = Tells fault want
+-- a call gives what the tests find, or memory ran out
+abbrev pub GivesPoints : Result (List (List ℕ)) PointFault → Result (List (List ℕ)) PointFault → Type 0
+GivesPoints = Gives (Fails NoMemory) (λ points. points)

@@ -2,58 +2,18 @@
 //! selection").
 #![tactic(auto)]
 
-ghost use Rattle.std.specs.Prelude.{◌≡◌, ◌↔◌, length, IsTrue};
+use std::alloc::AllocError;
 
-use shapes::Dims;
-use std::alloc::{AllocError, AllocFailed};
-use std::marker::Model;
-
+mod points;
 mod reading;
 #[cfg(test)]
 mod tests;
 
+pub use points::{Points, limit_of_points};
 pub use reading::{points_or_fault, read_points};
 
 /// The most points of one list.
 pub const MAX_POINTS: usize = 65_536;
-
-/// A list of points of a grid, in the order in which they were given; a point may stand in it more
-/// than once.
-#[derive(Debug, Drop)]
-pub struct Points {
-    list: Vec<Dims>,
-}
-
-impl Model for Points {
-    ghost use Rattle.std.specs.Prelude.{ℕ, List};
-
-    ghost Value = { List (List ℕ) };
-
-    ghost view = { λ a. a.list.items };
-}
-
-impl Points {
-    /// How many points there are.
-    pub fn len(&self) -> usize
-        ensures { result ≡ length self.now }
-    {
-        self.list.len()
-    }
-
-    /// Whether there is no point.
-    pub fn is_empty(&self) -> bool
-        ensures { IsTrue result ↔ (length self.now ≡ 0) }
-    {
-        self.list.is_empty()
-    }
-
-    /// The points in order.
-    pub fn as_slice(&self) -> &[Dims]
-        ensures { result.now ≡ self.now }
-    {
-        self.list.as_slice()
-    }
-}
 
 /// Why a tree spells no points of a shape. A tree that is no list, and then too many points, come
 /// first; of the other faults the one of the first bad point is told, and of one point's faults
@@ -92,17 +52,6 @@ impl From<AllocError> for PointFault {
     ghost from_gives = { λ _ e. e ≡ NoMemory };
 
     fn from(_error: AllocError) -> PointFault {
-        PointFault::NoMemory
-    }
-}
-
-impl<T: Drop> From<AllocFailed<T>> for PointFault {
-    ghost use Rattle.std.specs.Prelude.{◌≡◌};
-    ghost use Rattle.point_select.specs.declared.PointFault.TheVariants.{NoMemory};
-
-    ghost from_gives = { λ _ e. e ≡ NoMemory };
-
-    fn from(_error: AllocFailed<T>) -> PointFault {
         PointFault::NoMemory
     }
 }

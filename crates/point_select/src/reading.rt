@@ -5,12 +5,12 @@ ghost use Rattle.serde_json.specs.Data.{Data, Items, array};
 ghost use Rattle.serde_json.specs.View.{view};
 ghost use Rattle.shapes.specs.declared.Shape.{Shape};
 ghost use Rattle.shapes.specs.declared.Shape.TheVariants.{Simple};
-ghost use Rattle.shapes.specs.Shapes.{LiesIn};
+ghost use Rattle.shapes.specs.Places.{is_inside};
+ghost use Rattle.shapes.specs.Shapes.{LiesIn, lies_in, dims_of};
 ghost use Rattle.json_trees.specs.Trees.{list_of};
 ghost use Rattle.point_select.specs.Points.{SpellsPoints, IsFirstBad};
-ghost use Rattle.point_select.specs.Faults.{coords_in, is_inside, point_of, points_from, points_of, Answers};
+ghost use Rattle.point_select.specs.Faults.{coords_in, point_of, points_from, points_of, GivesPoints};
 ghost use Rattle.point_select.specs.declared.PointFault.{PointFault};
-ghost use Rattle.point_select.specs.declared.TheConstants.{MAX_POINTS};
 
 use crate::{MAX_POINTS, PointFault, Points};
 use json_trees::list_items;
@@ -26,10 +26,11 @@ use std::alloc::Global;
 /// The first fault in the order of [`PointFault`].
 pub fn read_points(alloc: Global, tree: &Value, shape: &Shape) -> Result<Points, PointFault>
     ensures spelled { IfOk result (SpellsPoints (view tree.now) shape.now) }
-    ensures only { (points : List (List ℕ)) → SpellsPoints (view tree.now) shape.now points → Answers result (Ok points) }
-    ensures first { Answers result (points_of (view tree.now) shape.now) }
+    ensures only { (points : List (List ℕ)) → SpellsPoints (view tree.now) shape.now points
+        → GivesPoints result (Ok points) }
+    ensures first { GivesPoints result (points_of (view tree.now) shape.now) }
     ensures inside { IfOk result (All (λ at. LiesIn at shape.now)) }
-    ensures few { IfOk result (λ points. length points ≤ MAX_POINTS) }
+    ensures few { IfOk result (λ points. length points ≤ 65536) }
 {
     first_of(alloc, tree, shape)
 }
@@ -37,15 +38,20 @@ pub fn read_points(alloc: Global, tree: &Value, shape: &Shape) -> Result<Points,
 /// A tree spells one list of points of a shape, or it has a fault, and never both. The fault of a
 /// list that isn't too long, on a shape with axes, is that of its first bad point.
 pub fn points_or_fault()
-    ensures one { (d : Data) (shape : Shape) (ps qs : List (List ℕ)) → SpellsPoints d shape ps → SpellsPoints d shape qs → ps ≡ qs }
-    ensures spelled { (d : Data) (shape : Shape) (ps : List (List ℕ)) → (SpellsPoints d shape ps ↔ (points_of d shape ≡ Ok ps)) }
-    ensures fault { (d : Data) (shape : Shape) (f : PointFault) (ps : List (List ℕ)) → points_of d shape ≡ Err f → SpellsPoints d shape ps → ⊥ }
-    ensures first { (d : Data) (dims limits : List ℕ) (items : Items) (f : PointFault) → d ≡ array items → length (list_of items) ≤ MAX_POINTS → points_of d (Simple dims limits) ≡ Err f → IsFirstBad dims 0 (list_of items) f }
+    ensures one { (d : Data) (shape : Shape) (ps qs : List (List ℕ))
+        → SpellsPoints d shape ps → SpellsPoints d shape qs → ps ≡ qs }
+    ensures spelled { (d : Data) (shape : Shape) (ps : List (List ℕ))
+        → (SpellsPoints d shape ps ↔ (points_of d shape ≡ Ok ps)) }
+    ensures fault { (d : Data) (shape : Shape) (f : PointFault) (ps : List (List ℕ))
+        → points_of d shape ≡ Err f → SpellsPoints d shape ps → ⊥ }
+    ensures first { (d : Data) (dims limits : List ℕ) (items : Items) (f : PointFault)
+        → d ≡ array items → length (list_of items) ≤ 65536
+        → points_of d (Simple dims limits) ≡ Err f → IsFirstBad dims 0 (list_of items) f }
 {}
 
 #[tactic(auto, unfolding(crate::specs::Faults::points_of))]
 fn first_of(alloc: Global, tree: &Value, shape: &Shape) -> Result<Points, PointFault>
-    ensures { Answers result (points_of (view tree.now) shape.now) }
+    ensures { GivesPoints result (points_of (view tree.now) shape.now) }
 {
     let Some(items) = list_items(tree) else {
         return Err(PointFault::Syntax { index: 0 });
@@ -56,34 +62,43 @@ fn first_of(alloc: Global, tree: &Value, shape: &Shape) -> Result<Points, PointF
         });
     }
     match shape {
-        Shape::Simple { dims, .. } => all_points(alloc, items, dims),
+        Shape::Simple { dims, .. } => all_points(alloc, items, shape, dims.len()),
         Shape::Null => Err(PointFault::Rank { index: 0 }),
         Shape::Scalar => Err(PointFault::Rank { index: 0 }),
     }
 }
 
-fn all_points(alloc: Global, items: &[Value], dims: &Dims) -> Result<Points, PointFault>
-    ensures { Answers result (points_from dims.now 0 (map view items.now)) }
+fn all_points(
+    alloc: Global,
+    items: &[Value],
+    shape: &Shape,
+    rank: usize,
+) -> Result<Points, PointFault>
+    requires few { length items.now ≤ 65536 }
+    requires rank { rank ≡ length (dims_of shape.now) }
+    requires axes { (at : List ℕ) → lies_in at shape.now ≡ is_inside at (dims_of shape.now) }
+    ensures { GivesPoints result (points_from (dims_of shape.now) 0 (map view items.now)) }
 {
-    let mut list = Vec::new(alloc);
+    let mut list = Vec::with_capacity(alloc, items.len())?;
     for (index, item) in items.iter().enumerate() {
-        let at = point(item, dims, index as u64)?;
-        list.push(at)?;
+        list.push_reserved(point(item, shape, rank, index as u64)?);
     }
-    Ok(Points { list })
+    Ok(Points::new(list))
 }
 
 #[tactic(auto, unfolding(crate::specs::Faults::point_of))]
-fn point(item: &Value, dims: &Dims, index: u64) -> Result<Dims, PointFault>
-    ensures { result ≡ point_of dims.now index (view item.now) }
+fn point(item: &Value, shape: &Shape, rank: usize, index: u64) -> Result<Dims, PointFault>
+    requires rank { rank ≡ length (dims_of shape.now) }
+    requires axes { (at : List ℕ) → lies_in at shape.now ≡ is_inside at (dims_of shape.now) }
+    ensures { result ≡ point_of (dims_of shape.now) index (view item.now) }
 {
     let Some(at) = coords(item) else {
         return Err(PointFault::Syntax { index });
     };
-    if at.len() != dims.len() {
+    if at.len() != rank {
         return Err(PointFault::Rank { index });
     }
-    if lies_in(&at, dims) {
+    if shape.contains(&at) {
         Ok(at)
     } else {
         Err(PointFault::Past { index })
@@ -94,16 +109,4 @@ fn coords(item: &Value) -> Option<Dims>
     ensures { result ≡ coords_in (view item.now) }
 {
     read_dims(item)
-}
-
-fn lies_in(at: &Dims, dims: &Dims) -> bool
-    requires { length at.now ≡ length dims.now }
-    ensures { result ≡ is_inside at.now dims.now }
-{
-    for axis in 0..at.len() {
-        if at.get(axis) >= dims.get(axis) {
-            return false;
-        }
-    }
-    true
 }

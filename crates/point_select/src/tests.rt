@@ -1,6 +1,6 @@
 use super::*;
 use serde_json::Value;
-use shapes::read_shape;
+use shapes::{read_dims, read_shape};
 use std::alloc::Global;
 use std::process::Abort;
 
@@ -64,6 +64,16 @@ fn trees_spell_points(rt: HostRuntime) -> Result<(), AllocError> {
         let got = told(&rt, shape, points)?;
         assert!(rt; got.as_str() == want, "{points} on {shape} gave {got}");
     }
+    Ok(())
+}
+
+#[test]
+fn a_vector_of_points_goes_in_and_out(rt: HostRuntime) -> Result<(), AllocError> {
+    let read = read_dims(&tree(&rt, "[1,2]")).expect(&rt, "coordinates");
+    let points = Points::new(vec![in rt.alloc(); read, read]?);
+    assert_eq!(rt; points.len(), 2);
+    let list = points.into_vec();
+    assert!(rt; list.as_slice() == [read, read].as_slice());
     Ok(())
 }
 

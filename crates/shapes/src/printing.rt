@@ -26,7 +26,8 @@ pub enum Form {
 /// Only where memory runs out.
 pub fn shape_json(alloc: Global, shape: &Shape, form: Form) -> Result<Value, AllocError>
     ensures tree { IfOk result (λ v. view v ≡ shape_tree shape.now form) }
-    ensures reads_back { IsSound shape.now → IfOk result (λ v. shape_of (Some (view v)) None ≡ Ok shape.now) }
+    ensures reads_back { IsSound shape.now
+        → IfOk result (λ v. shape_of (Some (view v)) None ≡ Ok shape.now) }
 {
     printed(alloc, shape, form)
 }

@@ -191,5 +191,6 @@ pub fn ordered_by_length_then_numbers()
     ensures total { IsTotalOrder list_order }
     ensures ties { (xs ys : List ℕ) → ((list_order xs ys ≡ Equal) ↔ (xs ≡ ys)) }
     ensures shorter { (xs ys : List ℕ) → length xs < length ys → list_order xs ys ≡ Less }
-    ensures first { (front xs ys : List ℕ) (m n : ℕ) → length xs ≡ length ys → m < n → list_order (front ++ m ∷ xs) (front ++ n ∷ ys) ≡ Less }
+    ensures first { (front xs ys : List ℕ) (m n : ℕ) → length xs ≡ length ys → m < n
+        → list_order (front ++ m ∷ xs) (front ++ n ∷ ys) ≡ Less }
 {}

@@ -22,4 +22,4 @@ returns-clause-inside c =
 
 pub returns-clause-few : goal.returns-clause-few
 returns-clause-few c =
-    answer_told c.first_of.result (points_of (view c.args.tree.now) c.args.shape.now) (λ points. length points ≤ MAX_POINTS) (λ points e. points_few (view c.args.tree.now) c.args.shape.now points (points_told (view c.args.tree.now) c.args.shape.now points e)) c.first_of.ensures
+    answer_told c.first_of.result (points_of (view c.args.tree.now) c.args.shape.now) (λ points. length points ≤ 65536) (λ points e. points_few (view c.args.tree.now) c.args.shape.now points (points_told (view c.args.tree.now) c.args.shape.now points e)) c.first_of.ensures
