@@ -20,8 +20,10 @@ use shapes::{Dims, Shape};
 pub fn default_layout(shape: &Shape, size: u32) -> Layout
     requires { IsSound shape.now }
     ensures rule { IsDefault size (dims_of shape.now) result.chunk }
-    ensures only { (chunk : List ℕ) → IsDefault size (dims_of shape.now) chunk → result.chunk ≡ chunk }
-    ensures small { (size * cell_count result.chunk ≤ DEFAULT_CHUNK_BYTES) ⊎ (cell_count result.chunk ≡ 1) }
+    ensures only { (chunk : List ℕ) → IsDefault size (dims_of shape.now) chunk
+        → result.chunk ≡ chunk }
+    ensures small { (size * cell_count result.chunk ≤ DEFAULT_CHUNK_BYTES)
+        ⊎ (cell_count result.chunk ≡ 1) }
     ensures fits { Fits size (dims_of shape.now) result.chunk }
     ensures chunk { 1 ≤ size → IsChunk result.chunk }
 {
