@@ -1,14 +1,19 @@
-//! Looking into a tree of JSON (RFC 8259): its whole numbers, its lists, the texts at its keys.
+//! Trees of JSON (RFC 8259) that contracts see as data, and looking into them: their whole numbers,
+//! their lists, the texts at their keys.
 //!
-//! `specs/` has the words that contracts on trees share, and `Fault` those by which a contract says
+//! `specs/` has the words that contracts on trees share, and `Faults` those by which a contract says
 //! which of several faults comes first.
 #![tactic(auto)]
 
-ghost use Rattle.std.specs.Prelude.{◌≡◌, map, option_map};
+ghost use Rattle.std.specs.Prelude.{◌≡◌, ◌⊎◌, ◌↔◌, Ok, Err, Result, map, option_map};
 ghost use Rattle.serde_json.specs.View.{view};
+ghost use Rattle.json_trees.specs.Faults.{◌>>=◌ as followed_by};
 ghost use Rattle.json_trees.specs.Trees.{whole_in, list_in, text_at, is_text};
 
+mod tree;
+
 use serde_json::Value;
+pub use tree::Tree;
 
 /// The number of a tree that is a whole number from 0 to 2^64 - 1, written without a fraction or
 /// an exponent.
@@ -43,6 +48,13 @@ pub fn member_text<'a>(tree: &'a Value, key: &str) -> Option<&'a str>
     tree.get(key).and_then(Value::as_str)
 }
 
+/// Of two tests, one after the other: both pass exactly where the first passes and then the second
+/// over what it gave, and the fault is that of the first that fails.
+pub fn first_fault_decides<A, B, E>()
+    ensures passed { (r : Result A E) (next : A → Result B E) (y : B) → ((followed_by r next ≡ Ok y) ↔ ((x : A) × (r ≡ Ok x) × (next x ≡ Ok y))) }
+    ensures failed { (r : Result A E) (next : A → Result B E) (e : E) → ((followed_by r next ≡ Err e) ↔ ((r ≡ Err e) ⊎ ((x : A) × (r ≡ Ok x) × (next x ≡ Err e)))) }
+{}
+
 #[cfg(test)]
 mod tests {
     use super::*;
@@ -71,6 +83,15 @@ mod tests {
         }
         assert_eq!(rt; found, 2);
         assert_eq!(rt; last, u64::MAX);
+        Ok(())
+    }
+
+    #[test]
+    fn a_tree_keeps_its_value(rt: HostRuntime) -> Result<(), std::alloc::AllocError> {
+        let tree = Tree::new(json!(in rt.alloc(); {"a": [null, true]})?);
+        let copied = tree.copy(rt.alloc())?;
+        assert!(rt; copied.value() == tree.value());
+        assert!(rt; list_items(&copied.into_value()).is_none());
         Ok(())
     }
 }

@@ -1,15 +1,27 @@
 //! Short lists of whole numbers that are copied as a number is, and that contracts see as lists.
 #![tactic(auto)]
 
-ghost use Rattle.std.specs.Prelude.{◌≡◌, ◌<◌, ◌≤◌, ◌↔◌, List, [], ◌∷◌, ◌++◌, length, slice_index, IsTrue};
+ghost use Rattle.std.specs.Prelude.{◌≡◌, ◌<◌, ◌≤◌, ◌↔◌, ℕ, List, [], ◌∷◌, ◌++◌, length, slice_index, take, replicate, IsTrue, IsSome, IfSome};
+ghost use Rattle.std.specs.Str.{bytes_eq};
+ghost use Rattle.std.proofs.Common.{rules, refl};
+ghost use Rattle.std.specs.Cmp.{IsTotalOrder, partial_order_from_agreeing_total, partial_equiv_from_equiv};
+ghost use Rattle.std.specs.Cmp.Rules.{comparing};
+ghost use Rattle.std.specs.Ordering.{as_partial_cmp};
+ghost use Rattle.std.specs.declared.cmp.Ordering.TheVariants.{Less, Equal};
+ghost use Rattle.short_lists.specs.Order.{list_order};
+ghost use Rattle.short_lists.specs.OrderLaws.{equal_where_tied};
 
+use std::cmp::Ordering;
 use std::marker::Model;
+
+#[cfg(test)]
+mod tests;
 
 /// A list of at most `N` whole numbers, kept in place.
 ///
 /// Two lists are equal where they have the same numbers. The order is by length first, then by the
 /// numbers from the front.
-#[derive(Clone, Copy, Debug, PartialEq, Eq, PartialOrd, Ord)]
+#[derive(Clone, Copy, Debug)]
 pub struct ShortList<const N: usize> {
     len: usize,
     room: [u64; N],
@@ -39,6 +51,33 @@ impl<const N: usize> ShortList<N> {
             len: 0,
             room: [0; N],
         }
+    }
+
+    /// A number several times.
+    pub fn repeated(n: u64, times: usize) -> Self
+        requires { times ≤ N }
+        ensures { result ≡ replicate times n }
+    {
+        let mut list = ShortList::new();
+        for _ in 0..times {
+            list.push(n);
+        }
+        list
+    }
+
+    /// The numbers of a slice, where there is room for all of them.
+    pub fn from_slice(numbers: &[u64]) -> Option<Self>
+        ensures same { IfSome result (λ list. list ≡ numbers.now) }
+        ensures fits { IsSome result ↔ (length numbers.now ≤ N) }
+    {
+        if numbers.len() > N {
+            return None;
+        }
+        let mut list = ShortList::new();
+        for n in numbers {
+            list.push(*n);
+        }
+        Some(list)
     }
 
     /// How many numbers the list has, `N` at most.
@@ -72,6 +111,15 @@ impl<const N: usize> ShortList<N> {
         self.len += 1;
     }
 
+    /// Adds a number at the end where there is room, so that of a longer list the front is kept.
+    pub fn keep(&mut self, n: u64)
+        ensures { self.new ≡ take N (self.old ++ n ∷ []) }
+    {
+        if self.len() < N {
+            self.push(n);
+        }
+    }
+
     /// The number at a place.
     pub fn get(&self, at: usize) -> u64
         requires { at < length self.now }
@@ -88,34 +136,51 @@ impl<const N: usize> ShortList<N> {
     }
 }
 
-#[cfg(test)]
-mod tests {
-    use super::*;
+impl<const N: usize> PartialEq for ShortList<N> {
+    ghost eq = { bytes_eq };
 
-    #[test]
-    fn keeps_numbers_in_order(rt: HostRuntime) {
-        let mut few: ShortList<3> = ShortList::new();
-        assert!(rt; few.is_empty());
-        few.push(7);
-        few.push(u64::MAX);
-        assert!(rt; !few.is_full());
-        few.push(0);
-        assert!(rt; few.is_full());
-        assert_eq!(rt; few.len(), 3);
-        assert_eq!(rt; few.get(1), u64::MAX);
-        assert_eq!(rt; few.as_slice(), [7, u64::MAX, 0].as_slice());
-        let copied = few;
-        assert!(rt; copied == few);
-    }
+    ghost laws = { Prim.search (comparing, rules) depth 9 };
 
-    #[test]
-    fn shorter_lists_come_first(rt: HostRuntime) {
-        let mut short: ShortList<3> = ShortList::new();
-        short.push(9);
-        let mut long: ShortList<3> = ShortList::new();
-        long.push(1);
-        long.push(0);
-        assert!(rt; short < long);
-        assert!(rt; short != long);
+    fn eq(&self, other: &ShortList<N>) -> bool {
+        self.as_slice() == other.as_slice()
     }
 }
+
+impl<const N: usize> Eq for ShortList<N> {
+    ghost laws = { Prim.search (comparing, rules) depth 9 };
+}
+
+impl<const N: usize> Ord for ShortList<N> {
+    ghost cmp = { list_order };
+
+    ghost total = { Prim.search (comparing, rules) depth 9 };
+
+    ghost matches_partial_cmp = { Prim.search (comparing, rules) depth 9 };
+
+    ghost matches_eq = { equal_where_tied };
+
+    fn cmp(&self, other: &ShortList<N>) -> Ordering {
+        self.len
+            .cmp(&other.len)
+            .then(self.as_slice().cmp(other.as_slice()))
+    }
+}
+
+impl<const N: usize> PartialOrd for ShortList<N> {
+    ghost partial_cmp = { as_partial_cmp list_order };
+
+    ghost laws = { partial_order_from_agreeing_total list_order (Prim.search (comparing, rules) depth 9) (λ x y. refl) equal_where_tied };
+
+    fn partial_cmp(&self, other: &ShortList<N>) -> Option<Ordering> {
+        Some(self.cmp(other))
+    }
+}
+
+/// The order of the lists: it is total, tells any two lists apart, puts shorter lists first, and
+/// of lists of one length decides by the first number in which they differ.
+pub fn ordered_by_length_then_numbers()
+    ensures total { IsTotalOrder list_order }
+    ensures ties { (xs ys : List ℕ) → ((list_order xs ys ≡ Equal) ↔ (xs ≡ ys)) }
+    ensures shorter { (xs ys : List ℕ) → length xs < length ys → list_order xs ys ≡ Less }
+    ensures first { (front xs ys : List ℕ) (m n : ℕ) → length xs ≡ length ys → m < n → list_order (front ++ m ∷ xs) (front ++ n ∷ ys) ≡ Less }
+{}

@@ -1,0 +1,15 @@
+-- The order's laws.
+use Rattle.short_lists.specs.OrderLaws.{order_total, tied_same, same_tied, shorter_first, first_decides}
+use Rattle.short_lists.proofs.ordered_by_length_then_numbers.Goals as goal
+
+pub returns-clause-total : goal.returns-clause-total
+returns-clause-total c = order_total
+
+pub returns-clause-ties : goal.returns-clause-ties
+returns-clause-ties c = λ xs ys. (tied_same xs ys, same_tied xs ys)
+
+pub returns-clause-shorter : goal.returns-clause-shorter
+returns-clause-shorter c = shorter_first
+
+pub returns-clause-first : goal.returns-clause-first
+returns-clause-first c = first_decides
