@@ -79,11 +79,7 @@ fn halve(chunk: &Dims) -> Dims
 fn first_chunk(shape: &Shape) -> Dims
     ensures { result ≡ at_least_one (dims_of shape.now) }
 {
-    match shape {
-        Shape::Simple { dims, .. } => without_zeros(dims),
-        Shape::Null => Dims::new(),
-        Shape::Scalar => Dims::new(),
-    }
+    without_zeros(&shape.dims())
 }
 
 fn without_zeros(dims: &Dims) -> Dims

@@ -5,6 +5,7 @@ ghost use Rattle.serde_json.specs.Data.{Data};
 ghost use Rattle.serde_json.specs.View.{view};
 ghost use Rattle.serde_json.specs.Find.{get};
 ghost use Rattle.json_trees.specs.Trees.{all_in, whole_in, text_at};
+ghost use Rattle.json_trees.specs.Shown.{shown};
 ghost use Rattle.shapes.specs.Shapes.{IsSound, dims_of};
 ghost use Rattle.shapes.specs.declared.TheConstants.{MAX_RANK};
 ghost use Rattle.chunk_layout.specs.Chunks.{IsChunk};
@@ -61,20 +62,10 @@ fn first_of(properties: &Value, shape: &Shape, size: u32) -> Result<Layout, Layo
     ensures { IsAnswer (dims_of shape.now) size
         (asked_of (view properties.now) (dims_of shape.now) size) result }
 {
-    match asked(properties, &dims_in(shape), size) {
+    match asked(properties, &shape.dims(), size) {
         Ok(Some(chunk)) => Ok(Layout { chunk }),
         Ok(None) => Ok(default_layout(shape, size)),
         Err(fault) => Err(fault),
-    }
-}
-
-fn dims_in(shape: &Shape) -> Dims
-    ensures { result ≡ dims_of shape.now }
-{
-    match shape {
-        Shape::Simple { dims, .. } => *dims,
-        Shape::Null => Dims::new(),
-        Shape::Scalar => Dims::new(),
     }
 }
 
@@ -106,7 +97,7 @@ fn by_class(layout: &Value, dims: &Dims, size: u32) -> Result<Option<Dims>, Layo
 
 fn chunked(tree: Option<&Value>, dims: &Dims, size: u32) -> Result<Option<Dims>, LayoutFault>
     ensures { result ≡ chunked_of dims.now size
-        (option_and_then wholes_in (option_map (λ v. view v.now) tree.entry)) }
+        (option_and_then wholes_in (shown tree.entry)) }
 {
     match tree {
         None => Err(LayoutFault::NotALayout),
@@ -142,17 +133,9 @@ fn numbers(items: &[Value]) -> Option<Dims>
 {
     let mut kept = Dims::new();
     for item in items {
-        keep(&mut kept, whole_number(item)?);
+        kept.keep(whole_number(item)?);
     }
     Some(kept)
-}
-
-fn keep(kept: &mut Dims, n: u64)
-    ensures { kept.new ≡ take MAX_RANK (kept.old ++ n ∷ []) }
-{
-    if kept.len() < MAX_RANK {
-        kept.push(n);
-    }
 }
 
 fn sized(chunk: &Dims, size: u32) -> Result<Option<Dims>, LayoutFault>
