@@ -1,11 +1,13 @@
 -- Chunks and places in them, on each axis by quotient and remainder.
 use Rattle.std.proofs.Common.{◌≡◌, ℕ, zero, suc, ◌+◌, ◌*◌, ◌/◌, ◌%◌, ◌<◌, ◌≤◌, List, [], ◌∷◌, ◌++◌, length, drop, get_or, All, refl, sym, ap, ◌∙◌, arith}
 use Rattle.std.proofs.lemmas.Nat.{div-add-mod', div-mul-add, mod-mul-add, div_below, mod_below, mul-le}
-use Rattle.std.proofs.lemmas.List.{drop_more, append_assoc}
-use Rattle.std.proofs.lemmas.List.Elements.{All-head, All-tail}
-use Rattle.shapes.specs.Places.{cell_count, IsInside, place}
-use Rattle.shapes.proofs.PlaceLemmas.{place_below, place_once, horner_bound, horner_end}
-use Rattle.chunk_layout.specs.Chunks.{IsChunkDim, quotients, remainders, offset_of}
+use Rattle.std.proofs.lemmas.List.{drop_more, drop_all, append_assoc, append-nil, length-map, get_or-map}
+use Rattle.std.proofs.lemmas.List.Elements.{All-head, All-tail, All-get_or}
+use Rattle.shapes.specs.declared.TheConstants.{MAX_EXTENT}
+use Rattle.shapes.specs.Places.{cell_count, IsInside, place, coordinates}
+use Rattle.shapes.proofs.PlaceLemmas.{place_below, place_once, horner_bound, horner_end, step_next as step_next_dim, step_above}
+use Rattle.shapes.proofs.GridLemmas.{length-coordinates, coordinates-place}
+use Rattle.chunk_layout.specs.Chunks.{IsChunkDim, quotients, remainders, offset_of, corner, added, digits, cell_at, chunk_cells}
 
 pub dim_at : (ns : List ℕ) (i : ℕ) → All IsChunkDim ns → i < length ns → 1 ≤ get_or ns i 0
 dim_at [] i h k = absurd (omega arith)
@@ -80,45 +82,97 @@ pub one_cell_there : (ns xs ys : List ℕ) → All IsChunkDim ns → length xs �
 one_cell_there ns xs ys h e f q o =
     same_cells ns xs ys e f q (place_once (remainders xs ns) (remainders ys ns) ns (inside_remainders xs ns h e) (inside_remainders ys ns h f) o)
 
--- the coordinates of a place
-coords_of : List ℕ → ℕ → List ℕ
-coords_of [] k = []
-coords_of (n ∷ ns) k = k / cell_count ns ∷ coords_of ns (k % cell_count ns)
+-- ---- the cell at a place of a chunk
 
-coords_placed : (ns : List ℕ) (k : ℕ) → All IsChunkDim ns → k < cell_count ns → IsInside (coords_of ns k) ns × (place (coords_of ns k) ns ≡ k)
-unfolding coords_of
-coords_placed [] k h l = (tt, omega arith)
-coords_placed (n ∷ ns) k h l =
+digits_placed : (ns : List ℕ) (k : ℕ) → All IsChunkDim ns → k < cell_count ns → IsInside (digits k ns) ns × (place (digits k ns) ns ≡ k)
+digits_placed [] k h l = (tt, omega arith)
+digits_placed (n ∷ ns) k h l =
     let tail = All-tail IsChunkDim n ns h in
     let some : 0 < cell_count ns = omega (arith, one_cell ns tail) in
-    let rest = coords_placed ns (k % cell_count ns) tail (mod_below k (cell_count ns) some) in
+    let rest = digits_placed ns (k % cell_count ns) tail (mod_below k (cell_count ns) some) in
     let high : k / cell_count ns < n = div_below k (cell_count ns) n some l in
     ((high, rest.0), rw rest.1 (div-add-mod' k (cell_count ns)))
 
--- the cell with these quotients and remainders
-joined : List ℕ → List ℕ → List ℕ → List ℕ
-joined [] rs ns = []
-joined (q ∷ qs) [] ns = []
-joined (q ∷ qs) (r ∷ rs) [] = []
-joined (q ∷ qs) (r ∷ rs) (n ∷ ns) = (q * n + r) ∷ joined qs rs ns
+-- the cell of a chunk with these coordinates inside it
+parts_again : (ns qs rs : List ℕ) → length qs ≡ length ns → IsInside rs ns → (quotients (added (corner qs ns) rs) ns ≡ qs) × (remainders (added (corner qs ns) rs) ns ≡ rs)
+parts_again [] [] [] e h = (refl, refl)
+parts_again [] [] (r ∷ rs) e h = absurd h
+parts_again [] (q ∷ qs) rs e h = absurd (omega (arith, e))
+parts_again (n ∷ ns) [] rs e h = absurd (omega (arith, e))
+parts_again (n ∷ ns) (q ∷ qs) [] e h = absurd h
+parts_again (n ∷ ns) (q ∷ qs) (r ∷ rs) e h =
+    let rest = parts_again ns qs rs (omega (arith, e)) h.1 in
+    (rw (div-mul-add q n r h.0, rest.0), rw (mod-mul-add q n r h.0, rest.1))
 
-joined_parts : (ns qs rs : List ℕ) → length qs ≡ length ns → IsInside rs ns → (length (joined qs rs ns) ≡ length ns) × (quotients (joined qs rs ns) ns ≡ qs) × (remainders (joined qs rs ns) ns ≡ rs)
-unfolding joined
-joined_parts [] [] [] e h = (refl, refl, refl)
-joined_parts [] [] (r ∷ rs) e h = absurd h
-joined_parts [] (q ∷ qs) rs e h = absurd (omega (arith, e))
-joined_parts (n ∷ ns) [] rs e h = absurd (omega (arith, e))
-joined_parts (n ∷ ns) (q ∷ qs) [] e h = absurd h
-joined_parts (n ∷ ns) (q ∷ qs) (r ∷ rs) e h =
-    let rest = joined_parts ns qs rs (omega (arith, e)) h.1 in
-    (ap suc rest.0, rw (div-mul-add q n r h.0, rest.1), rw (mod-mul-add q n r h.0, rest.2))
+pub cell_rank : (ns qs : List ℕ) (k : ℕ) → length qs ≡ length ns → length (cell_at qs k ns) ≡ length ns
+cell_rank [] [] k e = refl
+cell_rank [] (q ∷ qs) k e = absurd (omega (arith, e))
+cell_rank (n ∷ ns) [] k e = absurd (omega (arith, e))
+cell_rank (n ∷ ns) (q ∷ qs) k e = ap suc (cell_rank ns qs (k % cell_count ns) (omega (arith, e)))
 
-pub some_cell_there : (ns qs : List ℕ) (k : ℕ) → All IsChunkDim ns → length qs ≡ length ns → k < cell_count ns
-    → (at : List ℕ) × (length at ≡ length ns) × (quotients at ns ≡ qs) × (offset_of at ns ≡ k)
-some_cell_there ns qs k h e l =
-    let placed = coords_placed ns k h l in
-    let parts = joined_parts ns qs (coords_of ns k) e placed.0 in
-    (joined qs (coords_of ns k) ns, parts.0, parts.1, ap (λ rs. place rs ns) parts.2 ∙ placed.1)
+pub cell_chunk : (ns qs : List ℕ) (k : ℕ) → All IsChunkDim ns → length qs ≡ length ns → k < cell_count ns → quotients (cell_at qs k ns) ns ≡ qs
+cell_chunk ns qs k h e l = (parts_again ns qs (digits k ns) e (digits_placed ns k h l).0).0
+
+pub cell_offset : (ns qs : List ℕ) (k : ℕ) → All IsChunkDim ns → length qs ≡ length ns → k < cell_count ns → offset_of (cell_at qs k ns) ns ≡ k
+cell_offset ns qs k h e l =
+    let placed = digits_placed ns k h l in
+    ap (λ rs. place rs ns) (parts_again ns qs (digits k ns) e placed.0).1 ∙ placed.1
+
+length-quotients : (xs ns : List ℕ) → length xs ≡ length ns → length (quotients xs ns) ≡ length ns
+length-quotients [] [] e = refl
+length-quotients [] (n ∷ ns) e = absurd (omega (arith, e))
+length-quotients (x ∷ xs) [] e = absurd (omega (arith, e))
+length-quotients (x ∷ xs) (n ∷ ns) e = ap suc (length-quotients xs ns (omega (arith, e)))
+
+pub cell_back : (ns xs : List ℕ) → All IsChunkDim ns → length xs ≡ length ns → cell_at (quotients xs ns) (offset_of xs ns) ns ≡ xs
+cell_back ns xs h e =
+    let rank = length-quotients xs ns e in
+    let below = offset_below xs ns h e in
+    one_cell_there ns (cell_at (quotients xs ns) (offset_of xs ns) ns) xs h (cell_rank ns (quotients xs ns) (offset_of xs ns) rank) e
+    (cell_chunk ns (quotients xs ns) (offset_of xs ns) h rank below) (cell_offset ns (quotients xs ns) (offset_of xs ns) h rank below)
+
+-- ---- the list of a chunk's cells
+
+pub chunk_count : (ns qs : List ℕ) → length (chunk_cells qs ns) ≡ cell_count ns
+chunk_count ns qs = length-map (coordinates ns) (λ inner. added (corner qs ns) inner) ∙ length-coordinates ns
+
+pub chunk_listed : (ns qs : List ℕ) (k : ℕ) → All IsChunkDim ns → k < cell_count ns → get_or (chunk_cells qs ns) k [] ≡ cell_at qs k ns
+chunk_listed ns qs k h l =
+    let placed = digits_placed ns k h l in
+    let f = λ (inner : List ℕ). added (corner qs ns) inner in
+    let low : k < length (coordinates ns) = rw (length-coordinates ns) l in
+    get_or-map f (coordinates ns) k [] [] low ∙ ap f (ap (λ j. get_or (coordinates ns) j []) (sym placed.1) ∙ coordinates-place (digits k ns) ns placed.0)
+
+-- ---- one step towards the cell
+
+pub dim_most : (ns : List ℕ) (i : ℕ) → All IsChunkDim ns → i < length ns → get_or ns i 0 ≤ MAX_EXTENT
+dim_most ns i h l = (All-get_or IsChunkDim ns i 0 l h).1
+
+cell_next : (i : ℕ) (qs ns done : List ℕ) (r t : ℕ) → i < length qs → i < length ns → t ≡ cell_count (drop (i + 1) ns)
+    → done ++ cell_at (drop i qs) r (drop i ns) ≡ (done ++ (get_or qs i 0 * get_or ns i 0 + r / t) ∷ []) ++ cell_at (drop (i + 1) qs) (r % t) (drop (i + 1) ns)
+cell_next i qs ns done r t h k e =
+    rw (drop_more qs i 0 h, drop_more ns i 0 k, e)
+    (sym (append_assoc done ((get_or qs i 0 * get_or ns i 0 + r / cell_count (drop (i + 1) ns)) ∷ []) (cell_at (drop (i + 1) qs) (r % cell_count (drop (i + 1) ns)) (drop (i + 1) ns))))
+
+pub cell_pushed : (i : ℕ) (qs ns coords pushed whole : List ℕ) (r s n q x : ℕ) → i < length qs → i < length ns → s ≡ cell_count (drop i ns) → r < s
+    → n ≡ get_or ns i 0 → q ≡ get_or qs i 0 → x ≡ q * n + r / (s / n) → pushed ≡ coords ++ x ∷ [] → coords ++ cell_at (drop i qs) r (drop i ns) ≡ whole
+    → (pushed ++ cell_at (drop (i + 1) qs) (r % (s / n)) (drop (i + 1) ns) ≡ whole) × (s / n ≡ cell_count (drop (i + 1) ns)) × (r % (s / n) < s / n)
+cell_pushed i qs ns coords pushed whole r s n q x along within step below n_is q_is x_is pushed_is is =
+    let next : s / n ≡ cell_count (drop (i + 1) ns) = rw n_is (step_next_dim s r i ns within step below) in
+    let above : 0 < s / n = rw n_is (step_above s r i ns within step below) in
+    let number : x ≡ get_or qs i 0 * get_or ns i 0 + r / (s / n) = x_is ∙ ap (λ a. a * n + r / (s / n)) q_is ∙ ap (λ a. get_or qs i 0 * a + r / (s / n)) n_is in
+    let rest = cell_at (drop (i + 1) qs) (r % (s / n)) (drop (i + 1) ns) in
+    (ap (λ p. p ++ rest) (pushed_is ∙ ap (λ y. coords ++ y ∷ []) number) ∙ sym (cell_next i qs ns coords r (s / n) along within next) ∙ is, next, mod_below r (s / n) above)
+
+pub cell_end : (i : ℕ) (qs ns done : List ℕ) (r : ℕ) → length qs ≤ i → done ++ cell_at (drop i qs) r (drop i ns) ≡ done
+cell_end i qs ns done r h = rw (drop_all i qs h) (append-nil done)
+
+pub digit_below : (i r s : ℕ) (ns : List ℕ) → i < length ns → s ≡ cell_count (drop i ns) → r < s → r / (s / get_or ns i 0) < get_or ns i 0
+digit_below i r s ns h e l =
+    let next = step_next_dim s r i ns h e l in
+    let some = step_above s r i ns h e l in
+    let whole : cell_count (drop i ns) ≡ get_or ns i 0 * cell_count (drop (i + 1) ns) = ap cell_count (drop_more ns i 0 h) in
+    div_below r (s / get_or ns i 0) (get_or ns i 0) some (rw next (omega (arith, e, l, whole)))
 
 -- ---- one step towards the offset
 

@@ -2,3 +2,4 @@ mod SizeLemmas
 pub mod CellLemmas
 pub mod DefaultLemmas
 pub mod LayoutLemmas
+pub mod GridLemmas

@@ -1,6 +1,6 @@
 -- A grid that is cut into chunks of one size: the chunk of a cell, and its place there.
-use Rattle.std.specs.Prelude.{ℕ, ◌/◌, ◌%◌, ◌≤◌, List, [], ◌∷◌, All, length}
-use Rattle.shapes.specs.Places.{cell_count, place}
+use Rattle.std.specs.Prelude.{ℕ, ◌+◌, ◌*◌, ◌/◌, ◌%◌, ◌≤◌, List, [], ◌∷◌, All, length, map}
+use Rattle.shapes.specs.Places.{cell_count, place, coordinates}
 use Rattle.shapes.specs.declared.TheConstants.{MAX_RANK, MAX_EXTENT}
 use Rattle.chunk_layout.specs.declared.TheConstants.{MAX_CHUNK_BYTES}
 
@@ -29,3 +29,28 @@ remainders (x ∷ xs) (n ∷ ns) = x % n ∷ remainders xs ns
 -- the row-major place of the cell inside its chunk
 abbrev pub offset_of : List ℕ → List ℕ → ℕ
 offset_of at chunk = place (remainders at chunk) chunk
+
+-- the first cell of a chunk
+abbrev pub corner : List ℕ → List ℕ → List ℕ
+corner [] ns = []
+corner (q ∷ qs) [] = []
+corner (q ∷ qs) (n ∷ ns) = q * n ∷ corner qs ns
+
+-- the sums on each axis
+abbrev pub added : List ℕ → List ℕ → List ℕ
+added [] ys = []
+added (x ∷ xs) [] = []
+added (x ∷ xs) (y ∷ ys) = (x + y) ∷ added xs ys
+
+-- the coordinates at a row-major place: its digits, each axis's being below its dim
+abbrev pub digits : ℕ → List ℕ → List ℕ
+digits k [] = []
+digits k (n ∷ ns) = k / cell_count ns ∷ digits (k % cell_count ns) ns
+
+-- the cell at a place of a chunk
+abbrev pub cell_at : List ℕ → ℕ → List ℕ → List ℕ
+cell_at index offset chunk = added (corner index chunk) (digits offset chunk)
+
+-- the cells of a chunk in row-major order, those outside the array too
+abbrev pub chunk_cells : List ℕ → List ℕ → List (List ℕ)
+chunk_cells index chunk = map (λ inner. added (corner index chunk) inner) (coordinates chunk)

@@ -1,4 +1,5 @@
 pub mod Chunks
+pub mod Grids
 pub mod Defaults
 pub mod Layouts
 pub mod Asked

@@ -20,8 +20,10 @@ use shapes::{Dims, Shape};
 pub fn default_layout(shape: &Shape, size: u32) -> Layout
     requires { IsSound shape.now }
     ensures rule { IsDefault size (dims_of shape.now) result.chunk }
-    ensures only { (chunk : List ℕ) → IsDefault size (dims_of shape.now) chunk → result.chunk ≡ chunk }
-    ensures small { (size * cell_count result.chunk ≤ DEFAULT_CHUNK_BYTES) ⊎ (cell_count result.chunk ≡ 1) }
+    ensures only { (chunk : List ℕ) → IsDefault size (dims_of shape.now) chunk
+        → result.chunk ≡ chunk }
+    ensures small { (size * cell_count result.chunk ≤ DEFAULT_CHUNK_BYTES)
+        ⊎ (cell_count result.chunk ≡ 1) }
     ensures fits { Fits size (dims_of shape.now) result.chunk }
     ensures chunk { 1 ≤ size → IsChunk result.chunk }
 {
@@ -77,11 +79,7 @@ fn halve(chunk: &Dims) -> Dims
 fn first_chunk(shape: &Shape) -> Dims
     ensures { result ≡ at_least_one (dims_of shape.now) }
 {
-    match shape {
-        Shape::Simple { dims, .. } => without_zeros(dims),
-        Shape::Null => Dims::new(),
-        Shape::Scalar => Dims::new(),
-    }
+    without_zeros(&shape.dims())
 }
 
 fn without_zeros(dims: &Dims) -> Dims

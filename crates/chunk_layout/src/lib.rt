@@ -2,17 +2,21 @@
 //! (HDF5 user guide, "Chunked storage layout"; HDF REST API, "creationProperties").
 #![tactic(auto)]
 
+ghost use Rattle.std.specs.Prelude.{◌≡◌};
+
 use shapes::Dims;
 
 mod cells;
 mod defaults;
+mod grids;
 mod reading;
 mod sizes;
 #[cfg(test)]
 mod tests;
 
-pub use cells::{chunk_and_offset, chunk_of, offset_in};
+pub use cells::{chunk_and_offset, chunk_of, coords_in_chunk, offset_in};
 pub use defaults::default_layout;
+pub use grids::{grid_of_chunks, is_in_grid};
 pub use reading::{layout_or_fault, read_layout};
 
 /// The most bytes of a chunk that a caller asks for, where it has more than one element.
@@ -20,6 +24,12 @@ pub const MAX_CHUNK_BYTES: u64 = 1_048_576;
 
 /// The most bytes of a chunk that nobody asked for, where it has more than one element.
 pub const DEFAULT_CHUNK_BYTES: u64 = 65_536;
+
+/// The limits, as numbers.
+pub fn limits()
+    ensures asked { MAX_CHUNK_BYTES ≡ 1_048_576 }
+    ensures default { DEFAULT_CHUNK_BYTES ≡ 65_536 }
+{}
 
 /// The layout of an array.
 #[derive(Clone, Copy, Debug, PartialEq, Eq)]

@@ -5,6 +5,7 @@ ghost use Rattle.serde_json.specs.Data.{Data};
 ghost use Rattle.serde_json.specs.View.{view};
 ghost use Rattle.serde_json.specs.Find.{get};
 ghost use Rattle.json_trees.specs.Trees.{all_in, whole_in, text_at};
+ghost use Rattle.json_trees.specs.Shown.{shown};
 ghost use Rattle.shapes.specs.Shapes.{IsSound, dims_of};
 ghost use Rattle.shapes.specs.declared.TheConstants.{MAX_RANK};
 ghost use Rattle.chunk_layout.specs.Chunks.{IsChunk};
@@ -30,9 +31,13 @@ use shapes::{Dims, MAX_EXTENT, MAX_RANK, Shape};
 /// The first fault in the order of [`LayoutFault`].
 pub fn read_layout(properties: &Value, shape: &Shape, size: u32) -> Result<Layout, LayoutFault>
     requires { IsSound shape.now }
-    ensures spelled { IfOk result (λ layout. SpellsChunk (view properties.now) (dims_of shape.now) size layout.chunk) }
-    ensures only { (chunk : List ℕ) → SpellsChunk (view properties.now) (dims_of shape.now) size chunk → result ≡ Ok (record { chunk = chunk }) }
-    ensures first { IsAnswer (dims_of shape.now) size (asked_of (view properties.now) (dims_of shape.now) size) result }
+    ensures spelled { IfOk result
+        (λ layout. SpellsChunk (view properties.now) (dims_of shape.now) size layout.chunk) }
+    ensures only { (chunk : List ℕ)
+        → SpellsChunk (view properties.now) (dims_of shape.now) size chunk
+        → result ≡ Ok (record { chunk = chunk }) }
+    ensures first { IsAnswer (dims_of shape.now) size
+        (asked_of (view properties.now) (dims_of shape.now) size) result }
     ensures fits { IfOk result (λ layout. Fits size (dims_of shape.now) layout.chunk) }
     ensures chunk { 1 ≤ size → IfOk result (λ layout. IsChunk layout.chunk) }
 {
@@ -41,30 +46,26 @@ pub fn read_layout(properties: &Value, shape: &Shape, size: u32) -> Result<Layou
 
 /// Properties ask for one chunk, or leave it open, or have a fault, and never two of these.
 pub fn layout_or_fault()
-    ensures chunk { (d : Data) (dims chunk : List ℕ) (size : ℕ) → ((IsObject d × AsksChunk d chunk × Fits size dims chunk) ↔ (asked_of d dims size ≡ Ok (Some chunk))) }
-    ensures open { (d : Data) (dims : List ℕ) (size : ℕ) → ((IsObject d × AsksNone d) ↔ (asked_of d dims size ≡ Ok None)) }
-    ensures one { (dims xs ys : List ℕ) (size : ℕ) → IsDefault size dims xs → IsDefault size dims ys → xs ≡ ys }
-    ensures fault { (d : Data) (dims chunk : List ℕ) (size : ℕ) (fault : LayoutFault) → asked_of d dims size ≡ Err fault → SpellsChunk d dims size chunk → ⊥ }
+    ensures chunk { (d : Data) (dims chunk : List ℕ) (size : ℕ)
+        → ((IsObject d × AsksChunk d chunk × Fits size dims chunk)
+        ↔ (asked_of d dims size ≡ Ok (Some chunk))) }
+    ensures open { (d : Data) (dims : List ℕ) (size : ℕ)
+        → ((IsObject d × AsksNone d) ↔ (asked_of d dims size ≡ Ok None)) }
+    ensures one { (dims xs ys : List ℕ) (size : ℕ)
+        → IsDefault size dims xs → IsDefault size dims ys → xs ≡ ys }
+    ensures fault { (d : Data) (dims chunk : List ℕ) (size : ℕ) (fault : LayoutFault)
+        → asked_of d dims size ≡ Err fault → SpellsChunk d dims size chunk → ⊥ }
 {}
 
 fn first_of(properties: &Value, shape: &Shape, size: u32) -> Result<Layout, LayoutFault>
     requires { IsSound shape.now }
-    ensures { IsAnswer (dims_of shape.now) size (asked_of (view properties.now) (dims_of shape.now) size) result }
+    ensures { IsAnswer (dims_of shape.now) size
+        (asked_of (view properties.now) (dims_of shape.now) size) result }
 {
-    match asked(properties, &dims_in(shape), size) {
+    match asked(properties, &shape.dims(), size) {
         Ok(Some(chunk)) => Ok(Layout { chunk }),
         Ok(None) => Ok(default_layout(shape, size)),
         Err(fault) => Err(fault),
-    }
-}
-
-fn dims_in(shape: &Shape) -> Dims
-    ensures { result ≡ dims_of shape.now }
-{
-    match shape {
-        Shape::Simple { dims, .. } => *dims,
-        Shape::Null => Dims::new(),
-        Shape::Scalar => Dims::new(),
     }
 }
 
@@ -83,7 +84,8 @@ fn asked(properties: &Value, dims: &Dims, size: u32) -> Result<Option<Dims>, Lay
 
 #[tactic(auto, unfolding(crate::specs::Asked::classed))]
 fn by_class(layout: &Value, dims: &Dims, size: u32) -> Result<Option<Dims>, LayoutFault>
-    ensures { result ≡ classed dims.now size (text_at (codes "class") (view layout.now)) (view layout.now) }
+    ensures { result
+        ≡ classed dims.now size (text_at (codes "class") (view layout.now)) (view layout.now) }
 {
     match member_text(layout, "class") {
         Some("H5D_CONTIGUOUS") => Ok(None),
@@ -94,7 +96,8 @@ fn by_class(layout: &Value, dims: &Dims, size: u32) -> Result<Option<Dims>, Layo
 }
 
 fn chunked(tree: Option<&Value>, dims: &Dims, size: u32) -> Result<Option<Dims>, LayoutFault>
-    ensures { result ≡ chunked_of dims.now size (option_and_then wholes_in (option_map (λ v. view v.now) tree.entry)) }
+    ensures { result ≡ chunked_of dims.now size
+        (option_and_then wholes_in (shown tree.entry)) }
 {
     match tree {
         None => Err(LayoutFault::NotALayout),
@@ -130,17 +133,9 @@ fn numbers(items: &[Value]) -> Option<Dims>
 {
     let mut kept = Dims::new();
     for item in items {
-        keep(&mut kept, whole_number(item)?);
+        kept.keep(whole_number(item)?);
     }
     Some(kept)
-}
-
-fn keep(kept: &mut Dims, n: u64)
-    ensures { kept.new ≡ take MAX_RANK (kept.old ++ n ∷ []) }
-{
-    if kept.len() < MAX_RANK {
-        kept.push(n);
-    }
 }
 
 fn sized(chunk: &Dims, size: u32) -> Result<Option<Dims>, LayoutFault>

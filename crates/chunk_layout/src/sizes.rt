@@ -1,7 +1,10 @@
-//! How many bytes a chunk has.
+//! How many bytes and how many cells a chunk has.
 
 ghost use Rattle.std.specs.Prelude.{◌≡◌, ◌*◌, ◌-◌, ◌^◌, min};
 ghost use Rattle.shapes.specs.Places.{cell_count};
+ghost use Rattle.chunk_layout.specs.Chunks.{IsChunk};
+
+use crate::Layout;
 
 /// The bytes of a chunk, or the largest number where they are above that.
 pub fn bytes(chunk: &[u64], size: u32) -> u64
@@ -12,4 +15,12 @@ pub fn bytes(chunk: &[u64], size: u32) -> u64
         total = total.saturating_mul(*n);
     }
     total
+}
+
+/// The cells of a chunk.
+pub fn cells(layout: &Layout) -> u64
+    requires { IsChunk layout.now.chunk }
+    ensures { result ≡ cell_count layout.now.chunk }
+{
+    bytes(layout.chunk.as_slice(), 1)
 }

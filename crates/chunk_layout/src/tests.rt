@@ -1,3 +1,4 @@
+ghost use Rattle.std.specs.Prelude.{◌≡◌, [], ◌∷◌};
 ghost use Rattle.shapes.specs.Shapes.{IsSound};
 
 use super::*;
@@ -202,6 +203,15 @@ fn properties_give_layouts(rt: HostRuntime) -> Result<(), AllocError> {
     Ok(())
 }
 
+fn pair(first: u64, second: u64) -> Dims
+    ensures { result ≡ first ∷ second ∷ [] }
+{
+    let mut dims = Dims::new();
+    dims.push(first);
+    dims.push(second);
+    dims
+}
+
 #[test]
 fn cells_have_a_chunk_and_an_offset(rt: HostRuntime) {
     let rows = [
@@ -210,15 +220,33 @@ fn cells_have_a_chunk_and_an_offset(rt: HostRuntime) {
         ([4, 3], [1, 0], 3),
         ([9, 7], [2, 1], 7),
     ];
-    let mut chunk = Dims::new();
-    chunk.push(4);
-    chunk.push(4);
-    let layout = Layout { chunk };
+    let layout = Layout { chunk: pair(4, 4) };
     for (coords, number, offset) in rows {
-        let mut at = Dims::new();
-        at.push(coords[0]);
-        at.push(coords[1]);
+        let at = pair(coords[0], coords[1]);
         assert!(rt; chunk_of(&layout, &at).as_slice() == number.as_slice());
         assert_eq!(rt; offset_in(&layout, &at), offset);
+    }
+    let last = coords_in_chunk(&layout, &pair(2, 1), 15);
+    assert!(rt; last.as_slice() == [11, 7].as_slice());
+}
+
+#[test]
+fn begun_chunks_are_in_the_grid(rt: HostRuntime) {
+    let layout = Layout { chunk: pair(4, 3) };
+    for (dims, index, inside) in [
+        ([9, 6], [2, 1], true),
+        ([9, 6], [3, 1], false),
+        ([9, 6], [2, 2], false),
+        ([8, 6], [2, 1], false),
+        ([0, 6], [0, 0], false),
+        ([1, 1], [0, 0], true),
+    ] {
+        let dims = pair(dims[0], dims[1]);
+        let shape = Shape::Simple {
+            dims,
+            maxdims: dims,
+        };
+        let index = pair(index[0], index[1]);
+        assert_eq!(rt; is_in_grid(&layout, &shape, &index), inside);
     }
 }

@@ -3,3 +3,5 @@ pub mod NameLemmas
 pub mod TypeLemmas
 pub mod PrintLemmas
 pub mod SoundLemmas
+pub mod CauseLemmas
+pub mod FirstFaultLemmas

@@ -27,11 +27,11 @@ use Rattle.hdf_types.specs.Reading.{int_named, int_or, named_at, based_at, integ
 use Rattle.hdf_types.specs.Types.{HasClass, IsIntObject, SpellsWord, IsTextObject, IsDistinct, IsTypeOf, AreFields, IsType}
 use Rattle.hdf_types.proofs.NameLemmas.{distinct_told, distinct_read}
 
-both_true : (a b : Bool) → (a && b) ≡ true → (a ≡ true) × (b ≡ true)
+pub both_true : (a b : Bool) → (a && b) ≡ true → (a ≡ true) × (b ≡ true)
 both_true true b e = (refl, e)
 both_true false b e = cc
 
-text_of : (d : Data) (word : List ℕ) → as_str d ≡ Some word → d ≡ string word
+pub text_of : (d : Data) (word : List ℕ) → as_str d ≡ Some word → d ≡ string word
 text_of null word e = cc
 text_of (boolean b) word e = cc
 text_of (number n) word e = cc
@@ -40,12 +40,12 @@ text_of (array ds) word e = cc
 text_of (object ms) word e = cc
 
 -- the text at a key
-text_told : (key : List ℕ) (d : Data) (word : List ℕ) → text_at key d ≡ Some word → get key d ≡ Some (string word)
+pub text_told : (key : List ℕ) (d : Data) (word : List ℕ) → text_at key d ≡ Some word → get key d ≡ Some (string word)
 text_told key d word e =
     let found = and_then_some as_str (get key d) word e in
     found.1 ∙ ap Some (text_of found.0 word found.2)
 
-text_read : (key : List ℕ) (d : Data) (word : List ℕ) → get key d ≡ Some (string word) → text_at key d ≡ Some word
+pub text_read : (key : List ℕ) (d : Data) (word : List ℕ) → get key d ≡ Some (string word) → text_at key d ≡ Some word
 text_read key d word e = ap (option_and_then as_str) e
 
 -- ---- integers
@@ -82,13 +82,13 @@ ok_integer path d t h =
 
 -- ---- texts
 
-word_told : {A : Type 0} (a : A) (table : List (List ℕ × A)) (o : Option Data) (x : A) → word_or a table o ≡ Some x → SpellsWord a table o x
+pub word_told : {A : Type 0} (a : A) (table : List (List ℕ × A)) (o : Option Data) (x : A) → word_or a table o ≡ Some x → SpellsWord a table o x
 word_told a table None x e = cc
 word_told a table (Some d) x e =
     let found = and_then_some (λ s. look_up s table) (as_str d) x e in
     (found.0, text_of d found.0 found.1, found.2)
 
-word_read : {A : Type 0} (a : A) (table : List (List ℕ × A)) (o : Option Data) (x : A) → SpellsWord a table o x → word_or a table o ≡ Some x
+pub word_read : {A : Type 0} (a : A) (table : List (List ℕ × A)) (o : Option Data) (x : A) → SpellsWord a table o x → word_or a table o ≡ Some x
 word_read a table None x h = ap Some (sym h)
 word_read a table (Some d) x h = ap (λ t. option_and_then (λ s. look_up s table) (as_str t)) h.1 ∙ h.2
 
@@ -164,7 +164,7 @@ node_from F path d e h = word_from (as_str d) refl h
 
 -- ---- members
 
-name_told : (d : Data) (name : List ℕ) → name_in d ≡ Some name → (get (codes "name") d ≡ Some (string name)) × (1 ≤ length name) × (length name ≤ MAX_NAME)
+pub name_told : (d : Data) (name : List ℕ) → name_in d ≡ Some name → (get (codes "name") d ≡ Some (string name)) × (1 ≤ length name) × (length name ≤ MAX_NAME)
 name_told d name e =
     let found = and_then_some (λ n. cond (is_good_name n) (Some n) None) (text_at (codes "name") d) name e in
     good_from found.0 found.1 found.2
@@ -178,24 +178,24 @@ name_told d name e =
       | inr p ↦ cc
     ]
 
-name_read : (d : Data) (name : List ℕ) → get (codes "name") d ≡ Some (string name) → 1 ≤ length name → length name ≤ MAX_NAME → name_in d ≡ Some name
+pub name_read : (d : Data) (name : List ℕ) → get (codes "name") d ≡ Some (string name) → 1 ≤ length name → length name ≤ MAX_NAME → name_in d ≡ Some name
 name_read d name e h k = ap (option_and_then (λ n. cond (is_good_name n) (Some n) None)) (text_read (codes "name") d name e) ∙ rw (le-leb 1 (length name) h, le-leb (length name) MAX_NAME k)
 
 -- what `read` gives is a type of no more than `l` levels
-abbrev Sound : ℕ → (List ℕ → Data → Result Elem Fault) → Type 0
+abbrev pub Sound : ℕ → (List ℕ → Data → Result Elem Fault) → Type 0
 Sound l read = (p : List ℕ) (d : Data) (e : Elem) → read p d ≡ Ok e → IsTypeOf d e × (depth e ≤ l)
 
-record MemberParts (l : ℕ) (d : Data) (m : Member) : Type 0 where
-  named : get (codes "name") d ≡ Some (string m.name)
-  some_name : 1 ≤ length m.name
-  short : length m.name ≤ MAX_NAME
-  inner : (t : Data) × (get (codes "type") d ≡ Some t) × IsTypeOf t m.elem
-  shallow : depth m.elem ≤ l
+pub record MemberParts (l : ℕ) (d : Data) (m : Member) : Type 0 where
+  pub named : get (codes "name") d ≡ Some (string m.name)
+  pub some_name : 1 ≤ length m.name
+  pub short : length m.name ≤ MAX_NAME
+  pub inner : (t : Data) × (get (codes "type") d ≡ Some t) × IsTypeOf t m.elem
+  pub shallow : depth m.elem ≤ l
 
 member_same : (x y : Member) (r : Result Member Fault) → r ≡ Ok x → r ≡ Ok y → x ≡ y
 member_same x y r e k = cc
 
-member_sound : (l : ℕ) (read : List ℕ → Data → Result Elem Fault) → Sound l read → (path : List ℕ) (k : ℕ) (d : Data) (m : Member) → member_at read path k d ≡ Ok m → MemberParts l d m
+pub member_sound : (l : ℕ) (read : List ℕ → Data → Result Elem Fault) → Sound l read → (path : List ℕ) (k : ℕ) (d : Data) (m : Member) → member_at read path k d ≡ Ok m → MemberParts l d m
 unfolding member_at
 member_sound l read sound path k d m h =
     let one = bind_ok _ _ m h in
@@ -207,15 +207,15 @@ member_sound l read sound path k d m h =
     let same : record { name = one.0; elem = three.0 } ≡ m = member_same (record { name = one.0; elem = three.0 }) m (named_member one.0 three.0) refl three.2 in
     subst P same (record { named = name.0; some_name = name.1; short = name.2; inner = (two.0, ok_or_ok _ _ two.0 two.1, kind.0); shallow = kind.1 })
 
-record ListParts (l : ℕ) (ds : List Data) (fs : FieldList) : Type 0 where
-  fields : AreFields ds fs
-  shallow : fields_depth fs ≤ l
-  count : length (names_of fs) ≡ length ds
+pub record ListParts (l : ℕ) (ds : List Data) (fs : FieldList) : Type 0 where
+  pub fields : AreFields ds fs
+  pub shallow : fields_depth fs ≤ l
+  pub count : length (names_of fs) ≡ length ds
 
 fields_same : (x y : FieldList) (r : Result FieldList Fault) → r ≡ Ok x → r ≡ Ok y → x ≡ y
 fields_same x y r e k = cc
 
-each_sound : (l : ℕ) (read : List ℕ → Data → Result Elem Fault) → Sound l read → (path : List ℕ) (k : ℕ) (ds : List Data) (fs : FieldList) → each_at read path k ds ≡ Ok fs → ListParts l ds fs
+pub each_sound : (l : ℕ) (read : List ℕ → Data → Result Elem Fault) → Sound l read → (path : List ℕ) (k : ℕ) (ds : List Data) (fs : FieldList) → each_at read path k ds ≡ Ok fs → ListParts l ds fs
 each_sound l read sound path k [] fs h = subst (ListParts l []) (fields_same no_fields fs (Ok no_fields) refl h) (record { fields = tt; shallow = omega arith; count = refl })
 each_sound l read sound path k (d ∷ ds) fs h =
     let first = bind_ok (member_at read path k d) (λ m. each_at read path (suc k) ds >>= add_member m) fs h in
@@ -248,7 +248,7 @@ listed_sound l read sound path ds fs h =
     let once = again_or_ok (first_again 0 [] (names_of each.0)) path each.0 fs each.2 in
     subst (WholeParts l ds) once.0 (record { list = each_sound l read sound path 0 ds each.0 each.1; few = leb-true (length ds) MAX_FIELDS passed.0; distinct = distinct_told (names_of each.0) once.1 })
 
-members_told : (d : Data) (ds : List Data) → members_in d ≡ Some ds → (items : Items) × (get (codes "fields") d ≡ Some (array items)) × (list_of items ≡ ds) × (1 ≤ length ds)
+pub members_told : (d : Data) (ds : List Data) → members_in d ≡ Some ds → (items : Items) × (get (codes "fields") d ≡ Some (array items)) × (list_of items ≡ ds) × (1 ≤ length ds) × (list_pass ds ≡ true)
 unfolding members_in
 members_told d ds e =
     let found = and_then_some some_members (option_and_then list_in (get (codes "fields") d)) ds e in
@@ -256,19 +256,20 @@ members_told d ds e =
     let items = list_in_array given.0 found.0 given.2 in
     some_from found.0 items.0 (given.1 ∙ ap Some items.1) items.2 found.2
   where
-    some_from : (es : List Data) (items : Items) → get (codes "fields") d ≡ Some (array items) → list_of items ≡ es → some_members es ≡ Some ds → (items : Items) × (get (codes "fields") d ≡ Some (array items)) × (list_of items ≡ ds) × (1 ≤ length ds)
+    some_from : (es : List Data) (items : Items) → get (codes "fields") d ≡ Some (array items) → list_of items ≡ es → some_members es ≡ Some ds → (items : Items) × (get (codes "fields") d ≡ Some (array items)) × (list_of items ≡ ds) × (1 ≤ length ds) × (list_pass ds ≡ true)
     some_from es items is same k = elim (chosen (nat_le 1 (length es) && list_pass es) (Some es) None (Some ds) k) [
       | inl p ↦
           let ends = both_true (nat_le 1 (length es)) (list_pass es) p.0 in
           let eq = same_Some es ds p.1 in
           let P = λ (x : List Data). 1 ≤ length x in
-          (items, is, same ∙ eq, subst P eq (leb-true 1 (length es) ends.0))
+          let Q = λ (x : List Data). list_pass x ≡ true in
+          (items, is, same ∙ eq, subst P eq (leb-true 1 (length es) ends.0), subst Q eq ends.1)
       | inr p ↦ cc
     ]
 
 -- ---- the descent gives types
 
-node_sound : (l : ℕ) → ((path : List ℕ) (ds : List Data) (fs : FieldList) → fields_at l path ds ≡ Ok fs → AreFields ds fs × (suc (fields_depth fs) ≤ l) × (length (names_of fs) ≡ length ds) × (length ds ≤ MAX_FIELDS) × IsDistinct (names_of fs)) → Sound l (node_at l)
+pub node_sound : (l : ℕ) → ((path : List ℕ) (ds : List Data) (fs : FieldList) → fields_at l path ds ≡ Ok fs → AreFields ds fs × (suc (fields_depth fs) ≤ l) × (length (names_of fs) ≡ length ds) × (length ds ≤ MAX_FIELDS) × IsDistinct (names_of fs)) → Sound l (node_at l)
 unfolding compound_by
 node_sound l inner path d e h = elim (node_from (compound_by (fields_at l)) path d e h) [
   | inl leaf ↦ (leaf.0, omega (arith, leaf.1))
@@ -284,7 +285,7 @@ node_sound l inner path d e h = elim (node_from (compound_by (fields_at l)) path
       subst Q (sym found.1) ((found.2, (items.0, items.1, subst P (sym items.2) whole.0), omega (arith, count, some), omega (arith, count, few), whole.4), whole.1)
 ]
 
-fields_sound : (l : ℕ) (path : List ℕ) (ds : List Data) (fs : FieldList) → fields_at l path ds ≡ Ok fs → AreFields ds fs × (suc (fields_depth fs) ≤ l) × (length (names_of fs) ≡ length ds) × (length ds ≤ MAX_FIELDS) × IsDistinct (names_of fs)
+pub fields_sound : (l : ℕ) (path : List ℕ) (ds : List Data) (fs : FieldList) → fields_at l path ds ≡ Ok fs → AreFields ds fs × (suc (fields_depth fs) ≤ l) × (length (names_of fs) ≡ length ds) × (length ds ≤ MAX_FIELDS) × IsDistinct (names_of fs)
 unfolding fields_at
 fields_sound zero path ds fs h = cc
 fields_sound (suc l) path ds fs h =
@@ -315,7 +316,7 @@ no_text class (string s) h = cc
 no_text class (array ds) h = refl
 no_text class (object ms) h = refl
 
-classed : (F : List ℕ → Data → Result FieldList Fault) (path : List ℕ) (d : Data) (class : List ℕ) → HasClass class d → node_by F path d ≡ classed_by F path (Some class) d
+pub classed : (F : List ℕ → Data → Result FieldList Fault) (path : List ℕ) (d : Data) (class : List ℕ) → HasClass class d → node_by F path d ≡ classed_by F path (Some class) d
 unfolding node_by
 classed F path d class h = ap (λ o. worded_by F path o d) (no_text class d h) ∙ ap (λ o. classed_by F path o d) (text_read (codes "class") d class h)
 
@@ -335,7 +336,7 @@ same_length [] (field n e rest) h = absurd h
 same_length (d ∷ ds) no_fields h = absurd h
 same_length (d ∷ ds) (field n e rest) h = ap suc (same_length ds rest h.4)
 
-members_read : (d : Data) (items : Items) → get (codes "fields") d ≡ Some (array items) → 1 ≤ length (list_of items) → list_pass (list_of items) ≡ true → members_in d ≡ Some (list_of items)
+pub members_read : (d : Data) (items : Items) → get (codes "fields") d ≡ Some (array items) → 1 ≤ length (list_of items) → list_pass (list_of items) ≡ true → members_in d ≡ Some (list_of items)
 unfolding members_in
 members_read d items e h k = ap (λ o. option_and_then some_members (option_and_then list_in o)) e ∙ rw (le-leb 1 (length (list_of items)) h, k)
 
@@ -356,7 +357,7 @@ compound_read l path d items fs given are some few distinct each =
     rw (members_read d items given some_items (all_pass (list_of items) fs are), le-leb (length (list_of items)) MAX_FIELDS few_items, each, distinct_read (names_of fs) distinct)
 
 mutual
-  node_read : (e : Elem) (l : ℕ) (path : List ℕ) (d : Data) → IsTypeOf d e → depth e ≤ l → node_at l path d ≡ Ok e
+  pub node_read : (e : Elem) (l : ℕ) (path : List ℕ) (d : Data) → IsTypeOf d e → depth e ≤ l → node_at l path d ≡ Ok e
   node_read (int t) l path d (inl h) k = ap (node_at l path) h.1 ∙ node_named (compound_by (fields_at l)) path h.0 t h.2
   node_read (int t) l path d (inr h) k = classed (compound_by (fields_at l)) path d (codes "H5T_INTEGER") h.0 ∙ ok_integer path d t h
   node_read (text t) l path d h k = classed (compound_by (fields_at l)) path d (codes "H5T_STRING") h.class ∙ ok_string path d t h

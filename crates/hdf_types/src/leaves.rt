@@ -4,6 +4,7 @@ ghost use Rattle.std.specs.Prelude.{◌≡◌, false, option_map, option_and_the
 ghost use Rattle.serde_json.specs.Find.{get};
 ghost use Rattle.serde_json.specs.View.{view};
 ghost use Rattle.json_trees.specs.Trees.{whole_in};
+ghost use Rattle.json_trees.specs.Shown.{shown};
 ghost use Rattle.hdf_types.specs.Faults.{Gives};
 ghost use Rattle.hdf_types.specs.Views.{elem};
 ghost use Rattle.hdf_types.specs.Reading.{int_named, name_cause, named_at, integer_at, string_at, sized_at, is_variable, word_or, sets, pads, class_cause};
@@ -84,7 +85,7 @@ fn is_variable(tree: &Value) -> bool
 }
 
 fn char_set(tree: Option<&Value>) -> Option<bool>
-    ensures { result ≡ word_or false sets (option_map (λ v. view v.now) tree.entry) }
+    ensures { result ≡ word_or false sets (shown tree.entry) }
 {
     let Some(tree) = tree else {
         return Some(false);
@@ -97,7 +98,7 @@ fn char_set(tree: Option<&Value>) -> Option<bool>
 }
 
 fn pad_of(tree: Option<&Value>) -> Option<Pad>
-    ensures { result ≡ word_or NullTerm pads (option_map (λ v. view v.now) tree.entry) }
+    ensures { result ≡ word_or NullTerm pads (shown tree.entry) }
 {
     let Some(tree) = tree else {
         return Some(Pad::NullTerm);

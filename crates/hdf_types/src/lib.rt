@@ -20,7 +20,7 @@ mod walks;
 
 pub use faults::{Cause, Class, TypeFault};
 pub use printing::type_json;
-pub use reading::{read_type, type_or_fault};
+pub use reading::{first_fault, read_type, type_or_fault};
 pub use types::{ElemType, Field, FieldName, Fields};
 
 /// How deep compounds may nest.

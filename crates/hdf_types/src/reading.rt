@@ -1,10 +1,12 @@
 //! How trees spell types: one descent that gives the type or the first fault.
 
-ghost use Rattle.std.specs.Prelude.{◌≡◌, ◌↔◌, Ok, Err, ◌≤◌, ◌+◌, [], map, length, IfOk};
+ghost use Rattle.std.specs.Prelude.{◌≡◌, ◌↔◌, Ok, Err, ◌≤◌, ◌+◌, ℕ, List, [], map, length, IfOk};
 ghost use Rattle.serde_json.specs.View.{view};
 ghost use Rattle.serde_json.specs.Data.{Data};
 ghost use Rattle.hdf_types.specs.Elems.{Elem};
-ghost use Rattle.hdf_types.specs.Faults.{Fault, Gives};
+ghost use Rattle.hdf_types.specs.Faults.{Fault, fault, Gives};
+ghost use Rattle.hdf_types.specs.FirstFault.{IsFirstFault};
+ghost use Rattle.hdf_types.specs.declared.faults.Cause.{Cause};
 ghost use Rattle.hdf_types.specs.Types.{IsType, IsSoundType};
 ghost use Rattle.hdf_types.specs.Views.{elem, field_list};
 ghost use Rattle.hdf_types.specs.Members.{member_of};
@@ -46,6 +48,14 @@ pub fn type_or_fault()
     ensures one { (d : Data) (e f : Elem) → IsType d e → IsType d f → e ≡ f }
     ensures spelled { (d : Data) (e : Elem) → (IsType d e ↔ (type_of d ≡ Ok e)) }
     ensures fault { (d : Data) (f : Fault) (e : Elem) → type_of d ≡ Err f → IsType d e → ⊥ }
+{}
+
+/// What the first fault of a tree says: the node at its path has this cause and none that is tried
+/// before it, the compounds around the node have none of their own, and the fields before it are
+/// types; or the whole tree is a type but for its size.
+pub fn first_fault()
+    ensures { (d : Data) (path : List ℕ) (cause : Cause)
+        → type_of d ≡ Err (fault path cause) → IsFirstFault d path cause }
 {}
 
 #[tactic(auto, unfolding(crate::specs::Reading::type_of))]
