@@ -9,7 +9,7 @@ use Rattle.hyperslab.specs.declared.Slab.{Slab}
 use Rattle.hyperslab.specs.Selected.{Axis, AreAxes, IsSlab, axes, axes_of, is_on, is_at, extent, extents, point, digits_by, cell_at}
 use Rattle.hyperslab.proofs.AxisLemmas.{axis_at, axes_end, axes_from, axes_more, length-axes}
 use Rattle.hyperslab.proofs.SelectLemmas.{point_below}
-use Rattle.hyperslab.proofs.CellLemmas.{digits_in, extent_above, point_at, cell_selected, cell_each}
+use Rattle.hyperslab.proofs.CellLemmas.{digits_in, extent_above, cell_selected, cell_each}
 
 abbrev pub starts : List Axis → List ℕ
 starts [] = []

@@ -1,12 +1,12 @@
 //! Selections by lists of numbers.
 
-ghost use Rattle.std.specs.Prelude.{◌≡◌, List, Option, Some, None, IfOk, replicate, option_map};
-ghost use Rattle.serde_json.specs.View.{view};
+ghost use Rattle.std.specs.Prelude.{◌≡◌, List, Option, IfOk};
+ghost use Rattle.json_trees.specs.Shown.{shown};
 ghost use Rattle.shapes.specs.Shapes.{IsSound, dims_of};
 ghost use Rattle.hyperslab.specs.Selected.{IsSlab, SlabIn};
 ghost use Rattle.hyperslab.specs.Judged.{list_or as list_from, lists_in, is_absent as absent, is_scalar as scalar, lists_slab};
 
-use crate::all_cells::{repeated, whole};
+use crate::all_cells::whole;
 use crate::judging::{judged, shape_dims};
 use crate::{Slab, SlabFault};
 use serde_json::Value;
@@ -25,7 +25,7 @@ pub fn from_lists(
     shape: &Shape,
 ) -> Result<Slab, SlabFault>
     requires { IsSound shape.now }
-    ensures first { result ≡ lists_slab shape.now (option_map (λ v. view v.now) start.entry) (option_map (λ v. view v.now) stop.entry) (option_map (λ v. view v.now) step.entry) }
+    ensures first { result ≡ lists_slab shape.now (shown start.entry) (shown stop.entry) (shown step.entry) }
     ensures within { IfOk result (λ s. SlabIn s shape.now) }
     ensures sound { IfOk result IsSlab }
 {
@@ -49,7 +49,7 @@ fn is_scalar(shape: &Shape) -> bool
 }
 
 fn is_absent(tree: Option<&Value>) -> bool
-    ensures { result ≡ absent (option_map (λ v. view v.now) tree.entry) }
+    ensures { result ≡ absent (shown tree.entry) }
 {
     match tree {
         None => true,
@@ -63,16 +63,16 @@ fn lists(
     stop: Option<&Value>,
     step: Option<&Value>,
 ) -> Option<Slab>
-    ensures { result ≡ lists_in dims.now (option_map (λ v. view v.now) start.entry) (option_map (λ v. view v.now) stop.entry) (option_map (λ v. view v.now) step.entry) }
+    ensures { result ≡ lists_in dims.now (shown start.entry) (shown stop.entry) (shown step.entry) }
 {
-    let start = list_or(repeated(0, dims.len()), start)?;
+    let start = list_or(Dims::repeated(0, dims.len()), start)?;
     let stop = list_or(*dims, stop)?;
-    let step = list_or(repeated(1, dims.len()), step)?;
+    let step = list_or(Dims::repeated(1, dims.len()), step)?;
     Some(Slab { start, stop, step })
 }
 
 fn list_or(absent: Dims, tree: Option<&Value>) -> Option<Dims>
-    ensures { result ≡ list_from absent (option_map (λ v. view v.now) tree.entry) }
+    ensures { result ≡ list_from absent (shown tree.entry) }
 {
     match tree {
         None => Some(absent),
