@@ -9,3 +9,5 @@ pub mod TextLemmas
 pub mod WithinLemmas
 pub mod CellLemmas
 pub mod AdvanceLemmas
+pub mod AlikeLemmas
+pub mod WrittenLemmas

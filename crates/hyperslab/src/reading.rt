@@ -1,10 +1,13 @@
 //! How a text spells a selection: `[1:10:4, :7]`, a part for each axis.
 
-ghost use Rattle.std.specs.Prelude.{◌≡◌, ◌≤◌, ◌<◌, ◌⊎◌, ℕ, List, length, IfOk, IfSome, Err};
+ghost use Rattle.std.specs.Prelude.{◌≡◌, ◌≤◌, ◌<◌, ◌^◌, ◌⊎◌, ℕ, List, All, length, IfOk, IfSome, Ok, Err};
 ghost use Rattle.shapes.specs.Shapes.{IsSound, dims_of};
 ghost use Rattle.shapes.specs.declared.TheConstants.{MAX_RANK};
 ghost use Rattle.hyperslab.specs.Selected.{IsRanked, IsSlab, SlabIn};
 ghost use Rattle.hyperslab.specs.Grammar.{IsSelection, IsFirstBad, parts_slab};
+ghost use Rattle.shapes.specs.declared.Shape.TheVariants.{Simple};
+ghost use Rattle.hyperslab.specs.Written.{written};
+ghost use Rattle.hyperslab.specs.declared.Slab.{Slab};
 ghost use Rattle.hyperslab.specs.declared.SlabFault.TheVariants.{Syntax};
 ghost use Rattle.hyperslab.specs.declared.reading.Part.{Part};
 ghost use Rattle.hyperslab.specs.declared.reading.Number.TheVariants.{Digits};
@@ -92,6 +95,12 @@ pub fn reading_or_fault()
     ensures one_reading { (text : List ℕ) (ps qs : List Part) → IsSelection text ps → IsSelection text qs → ps ≡ qs }
     ensures one_byte { (text : List ℕ) (b c : ℕ) → IsFirstBad text b → IsFirstBad text c → b ≡ c }
     ensures never_both { (text : List ℕ) (ps : List Part) (b : ℕ) → IsSelection text ps → IsFirstBad text b → ⊥ }
+{}
+
+/// A selection of a shape with axes reads back from its text, where its steps have at most 10
+/// digits.
+pub fn written_reads_back()
+    ensures { (s : Slab) (dims limits : List ℕ) → IsSlab s → SlabIn s (Simple dims limits) → 1 ≤ length dims → All (λ c. c < 10 ^ 10) s.step → text_slab (written s) (Simple dims limits) ≡ Ok s }
 {}
 
 fn first_of(text: &str, shape: &Shape) -> Result<Slab, SlabFault>

@@ -1,11 +1,12 @@
 //! How many cells a selection has, and which one comes where in row-major order.
 
 ghost use Rattle.std.specs.Prelude.{◌≡◌, ◌≤◌, ◌<◌, ℕ, List, [], true, map, length, slice_index_or};
+ghost use Rattle.std.specs.List.{AllZip};
 ghost use Rattle.shapes.specs.Places.{cell_count, room_of, IsInside};
 ghost use Rattle.shapes.specs.Shapes.{IsSound, dims_of, count_of, LiesIn};
 ghost use Rattle.shapes.specs.declared.Shape.{Shape};
 ghost use Rattle.shapes.specs.declared.TheConstants.{MAX_RANK};
-ghost use Rattle.hyperslab.specs.Selected.{AreApart, AreAxes, IsRanked, IsSlab, SlabIn, axes_of, cell_at, extents, extent as extent_of, is_at, on_count, point, selected, slab_cells, FitsIn};
+ghost use Rattle.hyperslab.specs.Selected.{AreApart, AreAxes, IsAlike, IsRanked, IsSlab, SlabIn, axes_of, cell_at, extents, extent as extent_of, is_at, on_count, point, selected, slab_cells, FitsIn};
 ghost use Rattle.hyperslab.specs.declared.Slab.{Slab};
 ghost use Rattle.hyperslab.specs.declared.TheConstants.{MAX_SELECTED};
 
@@ -56,6 +57,12 @@ pub fn each_cell_once()
     ensures each { (s : Slab) (at : List ℕ) → IsSlab s → is_at (axes_of s) at ≡ true → (k : ℕ) × (k < cell_count (extents s)) × (cell_at s k ≡ at) }
     ensures once { (s : Slab) (k l : ℕ) → IsSlab s → k < cell_count (extents s) → l < cell_count (extents s) → cell_at s k ≡ cell_at s l → k ≡ l }
     ensures apart { (s : Slab) (shape : Shape) → IsSlab s → SlabIn s shape → AreApart (slab_cells s shape) }
+{}
+
+/// On each axis a step that is at least the distance from start to stop selects what any other such
+/// step does.
+pub fn one_step_past_the_end()
+    ensures { (s t : Slab) (shape : Shape) → AllZip IsAlike (axes_of s) (axes_of t) → slab_cells s shape ≡ slab_cells t shape }
 {}
 
 /// A shape whose cells are the choices of a number below each extent.
