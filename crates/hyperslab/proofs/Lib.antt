@@ -11,3 +11,4 @@ pub mod CellLemmas
 pub mod AdvanceLemmas
 pub mod AlikeLemmas
 pub mod WrittenLemmas
+pub mod OutcomeLemmas
