@@ -12,3 +12,4 @@ pub mod AdvanceLemmas
 pub mod AlikeLemmas
 pub mod WrittenLemmas
 pub mod OutcomeLemmas
+pub mod GivenLemmas

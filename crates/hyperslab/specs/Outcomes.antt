@@ -68,3 +68,7 @@ pub record AreLists (dims : List ℕ) (start stop step : Option Data) (s : Slab)
   pub starts : StandsFor (replicate (length dims) 0) start s.start
   pub stops : StandsFor dims stop s.stop
   pub steps : StandsFor (replicate (length dims) 1) step s.step
+
+-- the shape is no scalar, or one of the lists is given
+abbrev pub IsGiven : Shape → Option Data → Option Data → Option Data → Type 0
+IsGiven shape start stop step = shape ≡ Scalar → start ≡ None → stop ≡ None → step ≡ None → ⊥

@@ -21,7 +21,7 @@ mod tests;
 
 pub use all_cells::whole;
 pub use judging::one_outcome;
-pub use lists::from_lists;
+pub use lists::{from_lists, lists_or_fault};
 pub use reading::{Part, read_select, reading_or_fault, written_reads_back};
 pub use selected::{each_cell_once, one_step_past_the_end};
 

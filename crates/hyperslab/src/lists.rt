@@ -1,10 +1,16 @@
 //! Selections by lists of numbers.
 
-ghost use Rattle.std.specs.Prelude.{◌≡◌, List, Option, IfOk};
+ghost use Rattle.std.specs.Prelude.{◌≡◌, ◌⊎◌, ℕ, List, [], Option, None, Ok, Err, IfOk};
 ghost use Rattle.json_trees.specs.Shown.{shown};
 ghost use Rattle.shapes.specs.Shapes.{IsSound, dims_of};
+ghost use Rattle.serde_json.specs.Data.{Data};
+ghost use Rattle.shapes.specs.declared.Shape.{Shape};
+ghost use Rattle.shapes.specs.declared.Shape.TheVariants.{Scalar};
+ghost use Rattle.hyperslab.specs.declared.Slab.{Slab};
+ghost use Rattle.hyperslab.specs.declared.SlabFault.TheVariants.{Syntax};
+ghost use Rattle.hyperslab.specs.Outcomes.{AreLists, IsGiven};
 ghost use Rattle.hyperslab.specs.Selected.{IsSlab, SlabIn};
-ghost use Rattle.hyperslab.specs.Judged.{list_or as list_from, lists_in, is_absent as absent, is_scalar as scalar, lists_slab};
+ghost use Rattle.hyperslab.specs.Judged.{list_or as list_from, lists_in, is_absent as absent, is_scalar as scalar, judged as judged_by, lists_slab};
 
 use crate::all_cells::whole;
 use crate::judging::{judged, shape_dims};
@@ -37,6 +43,15 @@ pub fn from_lists(
         Some(slab) => judged(shape, &slab),
     }
 }
+
+/// What lists select, in other words: a scalar's one cell where none is given; else what is judged
+/// of the numbers that stand for the lists, or a fault of syntax where none do.
+pub fn lists_or_fault()
+    ensures scalar { lists_slab Scalar None None None ≡ Ok (record { start = []; stop = []; step = [] }) }
+    ensures spelled { (shape : Shape) (start stop step : Option Data) (s : Slab) → IsGiven shape start stop step → AreLists (dims_of shape) start stop step s → lists_slab shape start stop step ≡ judged_by shape s }
+    ensures syntax { (shape : Shape) (start stop step : Option Data) → IsGiven shape start stop step → ((s : Slab) → AreLists (dims_of shape) start stop step s → ⊥) → lists_slab shape start stop step ≡ Err (Syntax 0) }
+    ensures one_of { (dims : List ℕ) (start stop step : Option Data) → ((s : Slab) × AreLists dims start stop step s) ⊎ ((s : Slab) → AreLists dims start stop step s → ⊥) }
+{}
 
 fn is_scalar(shape: &Shape) -> bool
     ensures { result ≡ scalar shape.now }
