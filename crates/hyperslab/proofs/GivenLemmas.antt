@@ -1,5 +1,5 @@
 -- Lists that are given, and the numbers that stand for them.
-use Rattle.std.proofs.Common.{◌≡◌, ℕ, ◌&&◌, ◌⊎◌, false, cond, List, [], length, replicate, Option, Some, None, option_and_then, option_map, Result, Ok, Err, inl, inr, refl, sym, ap, ◌∙◌}
+use Rattle.std.proofs.Common.{◌≡◌, ℕ, ◌&&◌, ◌⊎◌, false, cond, List, length, replicate, Option, Some, None, option_and_then, option_map, Err, inl, inr, refl, sym, ap, ◌∙◌}
 use Rattle.json_trees.proofs.TreeLemmas.{and_then_some, map_some}
 use Rattle.serde_json.specs.Data.{Data}
 use Rattle.shapes.specs.declared.Shape.{Shape}
@@ -7,7 +7,6 @@ use Rattle.shapes.specs.declared.Shape.TheVariants.{Null, Scalar, Simple}
 use Rattle.shapes.specs.Shapes.{dims_of}
 use Rattle.shapes.proofs.ShapeLemmas.{dims_alone_told, dims_alone_read}
 use Rattle.hyperslab.specs.declared.Slab.{Slab}
-use Rattle.hyperslab.specs.declared.SlabFault.{SlabFault}
 use Rattle.hyperslab.specs.declared.SlabFault.TheVariants.{Syntax}
 use Rattle.hyperslab.specs.Judged.{whole_of, list_or, with_step, with_stop, with_start, lists_in, is_scalar, is_absent, judged, judged_lists, lists_slab}
 use Rattle.hyperslab.specs.Outcomes.{StandsFor, AreLists, IsGiven}

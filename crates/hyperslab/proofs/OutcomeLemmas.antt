@@ -1,20 +1,20 @@
 -- The tests in their order tell each outcome where it holds.
-use Rattle.std.proofs.Common.{◌≡◌, ◌↔◌, ℕ, zero, suc, ◌+◌, ◌^◌, ◌<◌, ◌≤◌, ◌&&◌, ◌⊎◌, Bool, true, false, cond, List, [], ◌∷◌, length, get_or, replicate, Option, Some, None, option_and_then, option_map, Result, Ok, Err, inl, inr, nat_eq, nat_lt, nat_le, refl, sym, ap, subst, ◌∙◌, arith}
+use Rattle.std.proofs.Common.{◌≡◌, ◌↔◌, ℕ, zero, suc, ◌+◌, ◌<◌, ◌≤◌, ◌&&◌, ◌⊎◌, true, false, cond, List, [], ◌∷◌, length, get_or, Option, Some, None, Result, Ok, Err, inl, inr, nat_eq, nat_lt, nat_le, refl, sym, ap, subst, ◌∙◌, arith}
 use Rattle.std.proofs.lemmas.Bool.{and_from, and_parts, eq-eqb, eqb-true, ne_eqb, le-leb, lt-leb, leb-true, leb-false, lt-ltb, le-ltb, ltb-true, ltb-false, eqb-false, cases_lt}
+use Rattle.std.specs.List.{AllZip}
 use Rattle.json_trees.proofs.FaultLemmas.{chosen}
-use Rattle.serde_json.specs.Data.{Data}
+use Rattle.json_trees.proofs.TreeLemmas.{length-AllZip}
 use Rattle.shapes.specs.declared.Shape.{Shape}
 use Rattle.shapes.specs.declared.Shape.TheVariants.{Null, Scalar, Simple}
 use Rattle.shapes.specs.Places.{room_of}
-use Rattle.shapes.specs.Shapes.{IsDims, dims_of}
 use Rattle.hyperslab.specs.declared.Slab.{Slab}
 use Rattle.hyperslab.specs.declared.SlabFault.{SlabFault}
 use Rattle.hyperslab.specs.declared.SlabFault.TheVariants.{Syntax, Rank, Step, Order, Past, TooMany}
 use Rattle.hyperslab.specs.declared.TheConstants.{MAX_SELECTED}
-use Rattle.hyperslab.specs.Selected.{Axis, axes, axes_of, extents}
+use Rattle.hyperslab.specs.Selected.{Axis, AreAxes, IsSlab, FitsIn, axes, axes_of, extents}
 use Rattle.hyperslab.specs.Judged.{fault_on, or_fault, first_fault, bounded, unless_fault, has_rank, judged_in, judged}
-use Rattle.hyperslab.specs.Outcomes.{HasRank, axis_of, IsGood, AreGood, IsFirst, IsWhole, IsOutcomeIn, IsOutcome}
-use Rattle.hyperslab.proofs.AxisLemmas.{axis_at, no_fault_on, or_none}
+use Rattle.hyperslab.specs.Outcomes.{HasRank, axis_of, IsGood, AreGood, IsWhole, IsOutcomeIn, IsOutcome}
+use Rattle.hyperslab.proofs.AxisLemmas.{axis_at, axis_with, length-axes, no_fault_on, or_none}
 
 -- ---- the rank
 
@@ -56,7 +56,7 @@ some_past k n x h =
     let step : nat_eq x.by 0 ≡ false = ne_eqb x.by 0 (λ e. omega (arith, h.0, e)) in
     rw (step, le-ltb x.hi x.lo h.1, lt-ltb n x.hi h.2) refl
 
-pub no_fault : (k n : ℕ) (x : Axis) → IsGood n x → fault_on k n x ≡ None
+no_fault : (k n : ℕ) (x : Axis) → IsGood n x → fault_on k n x ≡ None
 no_fault k n x h =
     let step : nat_eq x.by 0 ≡ false = ne_eqb x.by 0 (λ e. omega (arith, h.0, e)) in
     rw (step, le-ltb x.hi x.lo h.1, le-ltb n x.hi h.2) refl
@@ -91,9 +91,6 @@ record IsFound (k : ℕ) (dims los his bys : List ℕ) (f : SlabFault) : Type 0 
   pub before : (i : ℕ) → i < j → IsGood (get_or dims i 0) (axis_at i los his bys)
   pub told : fault_on (k + j) (get_or dims j 0) (axis_at j los his bys) ≡ Some f
 
-abbrev axis_with : ℕ → ℕ → ℕ → Axis
-axis_with a b c = record { lo = a; hi = b; by = c }
-
 good_before : (n a b c : ℕ) (ns los his bys : List ℕ) (j : ℕ) → IsGood n (axis_with a b c) → ((i : ℕ) → i < j → IsGood (get_or ns i 0) (axis_at i los his bys))
     → (i : ℕ) → i < suc j → IsGood (get_or (n ∷ ns) i 0) (axis_at i (a ∷ los) (b ∷ his) (c ∷ bys))
 good_before n a b c ns los his bys j h k zero l = h
@@ -102,6 +99,11 @@ good_before n a b c ns los his bys j h k (suc i) l = k i (omega arith)
 or_some : (f g : Option SlabFault) (h : SlabFault) → or_fault f g ≡ Some h → (f ≡ Some h) ⊎ ((f ≡ None) × (g ≡ Some h))
 or_some (Some x) g h e = inl e
 or_some None g h e = inr (refl, e)
+
+told_here : (k n : ℕ) (x : Axis) (f : SlabFault) → fault_on k n x ≡ Some f → fault_on (k + 0) n x ≡ Some f
+told_here k n x f e =
+    let same : k + 0 ≡ k = omega arith in
+    ap (λ m. fault_on m n x) same ∙ e
 
 first_found : (k : ℕ) (dims los his bys : List ℕ) (f : SlabFault) → length los ≡ length dims → length his ≡ length dims → length bys ≡ length dims
     → first_fault k dims (axes los his bys) ≡ Some f → IsFound k dims los his bys f
@@ -113,8 +115,7 @@ first_found k (n ∷ ns) (a ∷ los) (b ∷ his) (c ∷ bys) f p q r e =
     let x = axis_with a b c in
     elim (or_some (fault_on k n x) (first_fault (suc k) ns (axes los his bys)) f e) [
       | inl here ↦
-          let same : k ≡ k + 0 = omega arith in
-          record { j = 0; axis = omega arith; before = λ i l. absurd (omega (arith, l)); told = ap (λ m. fault_on m n x) (sym same) ∙ here }
+          record { j = 0; axis = omega arith; before = λ i l. absurd (omega (arith, l)); told = told_here k n x f here }
       | inr later ↦
           let rest = first_found (suc k) ns los his bys f (omega arith) (omega arith) (omega arith) later.1 in
           let good = no_fault_on k n x later.0 in
@@ -249,3 +250,37 @@ pub judged_outcome : (shape : Shape) (s : Slab) (r : Result Slab SlabFault) → 
 judged_outcome Null s r = (λ e. sym e, λ e. sym e)
 judged_outcome Scalar s r = (λ e. sym e, λ e. sym e)
 judged_outcome (Simple dims limits) s r = (told_in dims s r, outcome_in dims s r)
+
+-- ---- a good selection lies within its dims
+
+good_fits : (dims los his bys : List ℕ) → length los ≡ length dims → length his ≡ length dims → length bys ≡ length dims
+    → ((i : ℕ) → i < length dims → IsGood (get_or dims i 0) (axis_at i los his bys)) → AllZip (λ x n. x.hi ≤ n) (axes los his bys) dims
+good_fits [] [] his bys p q r good = tt
+good_fits [] (a ∷ los) his bys p q r good = absurd (omega arith)
+good_fits (n ∷ ns) [] his bys p q r good = absurd (omega arith)
+good_fits (n ∷ ns) (a ∷ los) [] bys p q r good = absurd (omega arith)
+good_fits (n ∷ ns) (a ∷ los) (b ∷ his) [] p q r good = absurd (omega arith)
+good_fits (n ∷ ns) (a ∷ los) (b ∷ his) (c ∷ bys) p q r good =
+    ((good 0 (omega arith)).2, good_fits ns los his bys (omega arith) (omega arith) (omega arith) (λ i m. good (suc i) (omega (arith, m))))
+
+fits_good : (dims los his bys : List ℕ) → length los ≡ length dims → length his ≡ length dims → length bys ≡ length dims
+    → AreAxes (axes los his bys) → AllZip (λ x n. x.hi ≤ n) (axes los his bys) dims → (i : ℕ) → i < length dims → IsGood (get_or dims i 0) (axis_at i los his bys)
+fits_good [] los his bys p q r sound fits i l = absurd (omega arith)
+fits_good (n ∷ ns) [] his bys p q r sound fits i l = absurd (omega arith)
+fits_good (n ∷ ns) (a ∷ los) [] bys p q r sound fits i l = absurd (omega arith)
+fits_good (n ∷ ns) (a ∷ los) (b ∷ his) [] p q r sound fits i l = absurd (omega arith)
+fits_good (n ∷ ns) (a ∷ los) (b ∷ his) (c ∷ bys) p q r sound fits i l =
+    good_before n a b c ns los his bys (length ns) (sound.0.2, sound.0.0, fits.0) (fits_good ns los his bys (omega arith) (omega arith) (omega arith) sound.1 fits.1) i l
+
+pub whole_fits : (dims : List ℕ) (s : Slab) → IsWhole dims s → FitsIn s dims
+whole_fits dims s h = good_fits dims s.start s.stop s.step h.ranked.starts h.ranked.stops h.ranked.steps h.axes
+
+pub fits_whole : (dims : List ℕ) (s : Slab) → IsSlab s → FitsIn s dims → IsWhole dims s
+fits_whole dims s h fits =
+    let long : length s.start ≡ length dims = sym (length-axes s.start s.stop s.step h.ranked.stops h.ranked.steps) ∙ sym (length-AllZip _ (axes_of s) dims fits) in
+    let stops = h.ranked.stops ∙ long in
+    let steps = h.ranked.steps ∙ long in
+    record {
+      ranked = record { starts = long; stops = stops; steps = steps };
+      axes = fits_good dims s.start s.stop s.step long stops steps h.sound fits;
+    }

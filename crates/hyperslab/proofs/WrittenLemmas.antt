@@ -1,27 +1,25 @@
 -- A selection written out is read back.
-use Rattle.std.proofs.Common.{◌≡◌, ℕ, suc, ◌+◌, ◌*◌, ◌-◌, ◌/◌, ◌%◌, ◌^◌, ◌<◌, ◌≤◌, ◌&&◌, true, false, cond, List, [], ◌∷◌, ◌++◌, All, map, length, Some, None, Ok, Err, inr, nat_eq, refl, sym, ap, ◌∙◌, arith}
+use Rattle.std.proofs.Common.{◌≡◌, ℕ, ◌+◌, ◌*◌, ◌-◌, ◌/◌, ◌%◌, ◌^◌, ◌<◌, ◌≤◌, cond, List, [], ◌∷◌, ◌++◌, All, map, length, Some, Ok, Err, inr, refl, sym, ap, ◌∙◌, arith}
 use Rattle.std.specs.List.{AllZip}
 use Rattle.std.specs.Fmt.{decimal}
 use Rattle.std.proofs.lemmas.Fmt.{decimal_by_steps, decimal_nonempty, length-decimal-le}
-use Rattle.std.proofs.lemmas.Bool.{le-leb, le-ltb, eq-eqb, ne_eqb, and_from}
+use Rattle.std.proofs.lemmas.Bool.{eq-eqb}
 use Rattle.std.proofs.lemmas.List.{append-nil, append_assoc, length-map}
 use Rattle.std.proofs.lemmas.List.Elements.{All-head, All-tail}
 use Rattle.shapes.specs.declared.Shape.TheVariants.{Simple}
 use Rattle.shapes.specs.declared.TheConstants.{MAX_EXTENT}
-use Rattle.shapes.specs.Places.{room_of}
 use Rattle.hyperslab.specs.declared.Slab.{Slab}
-use Rattle.hyperslab.specs.declared.SlabFault.TheVariants.{Rank, TooMany}
-use Rattle.hyperslab.specs.declared.TheConstants.{MAX_SELECTED}
+use Rattle.hyperslab.specs.declared.SlabFault.TheVariants.{Rank}
 use Rattle.hyperslab.specs.declared.reading.Part.{Part}
-use Rattle.hyperslab.specs.Selected.{Axis, AreAxes, IsSlab, FitsIn, axes, axes_of, extents}
-use Rattle.hyperslab.specs.Judged.{fault_on, first_fault, or_fault, unless_fault, has_rank, judged_in, judged}
+use Rattle.hyperslab.specs.Selected.{Axis, AreAxes, IsSlab, FitsIn, axes, axes_of}
+use Rattle.hyperslab.specs.Judged.{judged}
 use Rattle.hyperslab.specs.Grammar.{AreDigits, spelled, IsNumeral, IsPart, commas, IsSelection, slab_in, starts_of, stops_in, steps_of}
 use Rattle.hyperslab.specs.Steps.{text_slab}
 use Rattle.hyperslab.specs.Written.{written_axis, written_axes, written}
 use Rattle.hyperslab.proofs.AxisLemmas.{length-axes}
 use Rattle.hyperslab.proofs.ReadLemmas.{digits_push, spelled_push}
 use Rattle.hyperslab.proofs.TextLemmas.{text_spelled}
-use Rattle.hyperslab.proofs.WithinLemmas.{IsFaultless}
+use Rattle.hyperslab.proofs.OutcomeLemmas.{judged_outcome, fits_whole}
 
 -- ---- numbers
 
@@ -165,48 +163,6 @@ slab_with a b c = record { start = a; stop = b; step = c }
 same_slab : (a b c d e f : List ℕ) → a ≡ d → b ≡ e → c ≡ f → slab_with a b c ≡ slab_with d e f
 same_slab a b c d e f h k l = cc
 
--- ---- no fault is found
-
-fits_long : (xs : List Axis) (dims : List ℕ) → AllZip (λ x n. x.hi ≤ n) xs dims → length xs ≡ length dims
-fits_long [] [] h = refl
-fits_long [] (n ∷ ns) h = absurd h
-fits_long (x ∷ xs) [] h = absurd h
-fits_long (x ∷ xs) (n ∷ ns) h = ap suc (fits_long xs ns h.1)
-
-good_axis : (k n : ℕ) (x : Axis) → 1 ≤ x.by → x.lo ≤ x.hi → x.hi ≤ n → fault_on k n x ≡ None
-good_axis k n x pos up low =
-    let step : nat_eq x.by 0 ≡ false = ne_eqb x.by 0 (λ e. omega (arith, pos, e)) in
-    rw (step, le-ltb x.hi x.lo up, le-ltb n x.hi low) refl
-
-good_axes : (k : ℕ) (xs : List Axis) (dims : List ℕ) → AreAxes xs → AllZip (λ x n. x.hi ≤ n) xs dims → first_fault k dims xs ≡ None
-good_axes k [] [] h f = refl
-good_axes k [] (n ∷ ns) h f = absurd f
-good_axes k (x ∷ xs) [] h f = absurd f
-good_axes k (x ∷ xs) (n ∷ ns) h f = ap (λ o. or_fault o (first_fault (suc k) ns xs)) (good_axis k n x h.0.2 h.0.0 f.0) ∙ good_axes (suc k) xs ns h.1 f.1
-
-pub faultless_ok : (dims : List ℕ) (s : Slab) → IsFaultless dims s → judged_in dims s ≡ Ok s
-unfolding judged_in
-faultless_ok dims s h =
-    let n = length dims in
-    let rank : has_rank n s ≡ true =
-    and_from (nat_eq (length s.start) n && nat_eq (length s.stop) n) (nat_eq (length s.step) n)
-    (and_from (nat_eq (length s.start) n) (nat_eq (length s.stop) n) (eq-eqb (length s.start) n h.starts) (eq-eqb (length s.stop) n h.stops))
-    (eq-eqb (length s.step) n h.steps) in
-    ap (λ b. cond b (unless_fault (first_fault 0 dims (axes_of s)) s) (Err Rank)) rank
-    ∙ ap (λ o. unless_fault o s) h.axes
-    ∙ ap (λ b. cond b (Ok s) (Err (TooMany (room_of (extents s))))) (le-leb (room_of (extents s)) MAX_SELECTED h.room)
-
-pub slab_faultless : (s : Slab) (dims : List ℕ) → IsSlab s → FitsIn s dims → IsFaultless dims s
-slab_faultless s dims h fits =
-    let long = sym (length-axes s.start s.stop s.step h.ranked.stops h.ranked.steps) ∙ fits_long (axes_of s) dims fits in
-    record {
-      starts = long;
-      stops = h.ranked.stops ∙ long;
-      steps = h.ranked.steps ∙ long;
-      axes = good_axes 0 (axes_of s) dims h.sound fits;
-      room = h.room;
-    }
-
 -- ---- the whole text
 
 short_axes : (los his bys : List ℕ) → AreAxes (axes los his bys) → All (λ c. c < 10 ^ 10) bys → AreShort (axes los his bys)
@@ -222,8 +178,9 @@ reads_back s dims limits h fits some small =
     let xs = axes_of s in
     let shape = Simple dims limits in
     let ps = map part xs in
-    let long = fits_long xs dims fits in
-    let rank = sym (length-axes s.start s.stop s.step h.ranked.stops h.ranked.steps) ∙ long in
+    let good = fits_whole dims s h fits in
+    let rank = good.ranked.starts in
+    let long = length-axes s.start s.stop s.step h.ranked.stops h.ranked.steps ∙ rank in
     let spells = selection xs (short_axes s.start s.stop s.step h.sound small) (omega (arith, some, long)) in
     let many : length ps ≡ length dims = length-map xs part ∙ long in
     let made : slab_in dims ps ≡ s = same_slab _ _ _ s.start s.stop s.step (part_starts s.start s.stop s.step h.ranked.stops h.ranked.steps)
@@ -231,4 +188,4 @@ reads_back s dims limits h fits some small =
     text_spelled (written s) shape ps spells
     ∙ ap (λ b. cond b (judged shape (slab_in dims ps)) (Err Rank)) (eq-eqb (length ps) (length dims) many)
     ∙ ap (judged shape) made
-    ∙ faultless_ok dims s (slab_faultless s dims h fits)
+    ∙ (judged_outcome shape s (Ok s)).1 (refl, good, h.room)
