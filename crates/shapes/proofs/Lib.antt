@@ -3,3 +3,5 @@ pub mod GridLemmas
 pub mod SpelledLemmas
 pub mod ExtentLemmas
 pub mod ShapeLemmas
+pub mod InsideLemmas
+pub mod CellLemmas

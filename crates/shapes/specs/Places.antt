@@ -1,5 +1,5 @@
 -- The cells of a grid in row-major order: the last axis is the fastest.
-use Rattle.std.specs.Prelude.{ℕ, zero, suc, ◌+◌, ◌*◌, ◌<◌, max, List, [], ◌∷◌, map, length, slice_index}
+use Rattle.std.specs.Prelude.{ℕ, zero, suc, ◌+◌, ◌*◌, ◌<◌, ◌&&◌, Bool, true, false, nat_lt, max, List, [], ◌∷◌, map, length, slice_index, slice_index_or}
 use Rattle.std.specs.List.{flat_map}
 use Rattle.std.specs.List.{AllZip}
 
@@ -16,6 +16,13 @@ room_of (n ∷ ns) = max n 1 * room_of ns
 -- coordinates inside the dims
 abbrev pub IsInside : List ℕ → List ℕ → Type 0
 IsInside at dims = AllZip (λ x n. x < n) at dims
+
+-- whether they are
+abbrev pub is_inside : List ℕ → List ℕ → Bool
+is_inside [] [] = true
+is_inside [] (n ∷ ns) = false
+is_inside (x ∷ xs) [] = false
+is_inside (x ∷ xs) (n ∷ ns) = nat_lt x n && is_inside xs ns
 
 -- the place of coordinates
 abbrev pub place : List ℕ → List ℕ → ℕ
@@ -46,3 +53,7 @@ run_from start (suc n) = start ∷ run_from (suc start) n
 -- all coordinates inside the dims, in row-major order
 abbrev pub coordinates : List ℕ → List (List ℕ)
 coordinates dims = grid (map (λ n. run_from 0 n) dims)
+
+-- the coordinates at a place
+abbrev pub coords_of : List ℕ → ℕ → List ℕ
+coords_of dims k = slice_index_or (coordinates dims) k []

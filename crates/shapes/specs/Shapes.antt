@@ -1,5 +1,5 @@
 -- Shapes, the trees that spell them, and the first fault of trees that spell none.
-use Rattle.std.specs.Prelude.{◌≡◌, ℕ, suc, ◌≤◌, ◌⊎◌, ◌&&◌, List, [], ◌∷◌, length, All, Option, Some, None, option_and_then, MatchOption, Result, Ok, Err, Bool, nat_lt, nat_le, nat_eq, if◌then◌else◌, codes}
+use Rattle.std.specs.Prelude.{◌≡◌, ℕ, suc, ◌≤◌, ◌⊎◌, ◌&&◌, List, [], ◌∷◌, length, All, Option, Some, None, option_and_then, MatchOption, Result, Ok, Err, Bool, false, nat_lt, slice_index_or, nat_le, nat_eq, if◌then◌else◌, codes}
 use Rattle.std.specs.Str.{bytes_eq}
 use Rattle.serde_json.specs.Data.{Data, string}
 use Rattle.serde_json.specs.Find.{get, as_str}
@@ -11,7 +11,7 @@ use Rattle.shapes.specs.declared.ShapeFault.{ShapeFault}
 use Rattle.shapes.specs.declared.ShapeFault.TheVariants.{NotAShape, Rank, DimOverMax, TooLarge}
 use Rattle.shapes.specs.declared.TheConstants.{MAX_RANK, MAX_EXTENT, MAX_CELLS}
 use Rattle.shapes.specs.Extents.{IsExtent, IsLimit, SpellsList, SpellsDims, extents_in, limits_in, dims_in}
-use Rattle.shapes.specs.Places.{cell_count, room_of, IsInside, coordinates}
+use Rattle.shapes.specs.Places.{cell_count, room_of, IsInside, is_inside, coordinates}
 
 -- ---- what a shape is
 
@@ -56,11 +56,21 @@ LiesIn at Null = ⊥
 LiesIn at Scalar = IsInside at []
 LiesIn at (Simple dims limits) = IsInside at dims
 
+-- whether they are
+abbrev pub lies_in : List ℕ → Shape → Bool
+lies_in at Null = false
+lies_in at Scalar = is_inside at []
+lies_in at (Simple dims limits) = is_inside at dims
+
 -- the coordinates of all cells, in row-major order
 abbrev pub cells_of : Shape → List (List ℕ)
 cells_of Null = []
 cells_of Scalar = coordinates []
 cells_of (Simple dims limits) = coordinates dims
+
+-- the cell at a place
+abbrev pub cell_of : Shape → ℕ → List ℕ
+cell_of shape k = slice_index_or (cells_of shape) k []
 
 -- ---- which trees spell a shape: the grammar, in no order
 

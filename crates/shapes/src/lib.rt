@@ -6,12 +6,15 @@
 
 use short_lists::ShortList;
 
+mod cells;
+mod laws;
 mod places;
 mod printing;
 mod reading;
 #[cfg(test)]
 mod tests;
 
+pub use laws::{cells_are_inside, limits_of_shapes, places_number_the_cells};
 pub use places::{coords_at, count, place_of};
 pub use printing::{Form, shape_json};
 pub use reading::{read_dims, read_shape, resized, shape_or_fault};

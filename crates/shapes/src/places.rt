@@ -1,8 +1,8 @@
 //! How many cells a shape has, and which cell stands at which place.
 
-ghost use Rattle.std.specs.Prelude.{◌≡◌, ◌≤◌, ◌<◌, ◌↔◌, ℕ, List, [], length, slice_index_or};
+ghost use Rattle.std.specs.Prelude.{◌≡◌, ◌≤◌, ◌<◌, ℕ, List, [], length};
 ghost use Rattle.shapes.specs.Places.{cell_count, room_of, IsInside, place};
-ghost use Rattle.shapes.specs.Shapes.{IsSound, count_of, dims_of, LiesIn, cells_of};
+ghost use Rattle.shapes.specs.Shapes.{IsSound, count_of, dims_of, LiesIn, cells_of, cell_of};
 ghost use Rattle.shapes.specs.declared.TheConstants.{MAX_CELLS, MAX_RANK};
 
 use crate::{Dims, Shape};
@@ -38,7 +38,7 @@ pub fn place_of(shape: &Shape, at: &Dims) -> u64
     requires inside { LiesIn at.now shape.now }
     ensures place { result ≡ place at.now (dims_of shape.now) }
     ensures below { result < count_of shape.now }
-    ensures listed { slice_index_or (cells_of shape.now) result [] ≡ at.now }
+    ensures listed { cell_of shape.now result ≡ at.now }
 {
     match shape {
         Shape::Null => unreachable!(),
@@ -66,7 +66,7 @@ pub fn coords_at(shape: &Shape, number: u64) -> Dims
     ensures inside { LiesIn result shape.now }
     ensures place { place result (dims_of shape.now) ≡ number }
     ensures once { (at : List ℕ) → LiesIn at shape.now → place at (dims_of shape.now) ≡ number → result ≡ at }
-    ensures listed { slice_index_or (cells_of shape.now) number [] ≡ result }
+    ensures listed { cell_of shape.now number ≡ result }
 {
     match shape {
         Shape::Simple { dims, .. } => coords_in(dims, number),

@@ -4,6 +4,7 @@ ghost use Rattle.std.specs.Prelude.{◌≡◌, ◌≤◌, ◌↔◌, ℕ, ◌∷
 ghost use Rattle.serde_json.specs.Data.{Data};
 ghost use Rattle.serde_json.specs.View.{view};
 ghost use Rattle.serde_json.specs.Find.{get};
+ghost use Rattle.json_trees.specs.Shown.{shown};
 ghost use Rattle.json_trees.specs.Trees.{all_in, list_in, text_at};
 ghost use Rattle.shapes.specs.Extents.{extent_in, limit_in, extents_in, limits_in, dims_in};
 ghost use Rattle.shapes.specs.Spelled.{kept_of, number_in, kept_grid, kept_limited, kept_simple, few_of};
@@ -43,9 +44,9 @@ struct Spelled {
 ///
 /// The first fault in the order of [`ShapeFault`].
 pub fn read_shape(shape: Option<&Value>, maxdims: Option<&Value>) -> Result<Shape, ShapeFault>
-    ensures spelled { IfOk result (IsShape (option_map (λ v. view v.now) shape.entry) (option_map (λ v. view v.now) maxdims.entry)) }
-    ensures only { (s : Shape) → IsShape (option_map (λ v. view v.now) shape.entry) (option_map (λ v. view v.now) maxdims.entry) s → result ≡ Ok s }
-    ensures first { result ≡ shape_of (option_map (λ v. view v.now) shape.entry) (option_map (λ v. view v.now) maxdims.entry) }
+    ensures spelled { IfOk result (IsShape (shown shape.entry) (shown maxdims.entry)) }
+    ensures only { (s : Shape) → IsShape (shown shape.entry) (shown maxdims.entry) s → result ≡ Ok s }
+    ensures first { result ≡ shape_of (shown shape.entry) (shown maxdims.entry) }
     ensures sound { IfOk result IsSound }
 {
     first_of(shape, maxdims)
@@ -60,7 +61,7 @@ pub fn shape_or_fault()
 
 #[tactic(auto, unfolding(crate::specs::Shapes::shape_of))]
 fn first_of(shape: Option<&Value>, maxdims: Option<&Value>) -> Result<Shape, ShapeFault>
-    ensures { result ≡ shape_of (option_map (λ v. view v.now) shape.entry) (option_map (λ v. view v.now) maxdims.entry) }
+    ensures { result ≡ shape_of (shown shape.entry) (shown maxdims.entry) }
 {
     match shape {
         None => plain(Shape::Scalar, maxdims),
@@ -69,7 +70,7 @@ fn first_of(shape: Option<&Value>, maxdims: Option<&Value>) -> Result<Shape, Sha
 }
 
 fn limits_beside<'a>(tree: &'a Value, maxdims: Option<&'a Value>) -> Option<&'a Value>
-    ensures { option_map (λ v. view v.now) result ≡ limits_tree (Some (view tree.now)) (option_map (λ v. view v.now) maxdims.entry) }
+    ensures { shown result ≡ limits_tree (Some (view tree.now)) (shown maxdims.entry) }
 {
     match maxdims {
         Some(limits) => Some(limits),
@@ -78,7 +79,7 @@ fn limits_beside<'a>(tree: &'a Value, maxdims: Option<&'a Value>) -> Option<&'a 
 }
 
 fn plain(shape: Shape, limits: Option<&Value>) -> Result<Shape, ShapeFault>
-    ensures { result ≡ plain_of shape (option_map (λ v. view v.now) limits.entry) }
+    ensures { result ≡ plain_of shape (shown limits.entry) }
 {
     match limits {
         None => Ok(shape),
@@ -97,7 +98,7 @@ fn word(tree: &Value) -> Option<&str>
 
 #[tactic(auto, using(crate::proofs::SpelledLemmas::simple_kept), unfolding(crate::specs::Shapes::worded_of))]
 fn worded(tree: &Value, limits: Option<&Value>) -> Result<Shape, ShapeFault>
-    ensures { result ≡ worded_of (word_of (view tree.now)) (view tree.now) (option_map (λ v. view v.now) limits.entry) }
+    ensures { result ≡ worded_of (word_of (view tree.now)) (view tree.now) (shown limits.entry) }
 {
     match word(tree) {
         None => simple(spelled_dims(tree), limits),
@@ -133,9 +134,10 @@ fn one_dim(tree: &Value) -> Option<Spelled>
     ensures { result ≡ option_map kept_of (option_map (λ n. n ∷ []) (extent_in (view tree.now))) }
 {
     let n = extent(tree)?;
-    let mut kept = Dims::new();
-    kept.push(n);
-    Some(Spelled { kept, count: 1 })
+    Some(Spelled {
+        kept: Dims::repeated(n, 1),
+        count: 1,
+    })
 }
 
 fn extent(tree: &Value) -> Option<u64>
@@ -165,7 +167,7 @@ fn numbers(items: &[Value], role: Role) -> Option<Spelled>
 {
     let mut kept = Dims::new();
     for item in items {
-        keep(&mut kept, number(item, role)?);
+        kept.keep(number(item, role)?);
     }
     Some(Spelled {
         kept,
@@ -173,16 +175,8 @@ fn numbers(items: &[Value], role: Role) -> Option<Spelled>
     })
 }
 
-fn keep(kept: &mut Dims, n: u64)
-    ensures { kept.new ≡ take MAX_RANK (kept.old ++ n ∷ []) }
-{
-    if kept.len() < MAX_RANK {
-        kept.push(n);
-    }
-}
-
 fn simple(dims: Option<Spelled>, limits: Option<&Value>) -> Result<Shape, ShapeFault>
-    ensures { result ≡ kept_simple dims (option_map (λ v. view v.now) limits.entry) }
+    ensures { result ≡ kept_simple dims (shown limits.entry) }
 {
     let Some(dims) = dims else {
         return Err(ShapeFault::NotAShape);

@@ -157,6 +157,31 @@ fn places_and_coordinates_are_inverse(rt: HostRuntime) -> Result<(), AllocError>
     Ok(())
 }
 
+#[test]
+fn cells_are_below_the_dims_on_each_axis(rt: HostRuntime) -> Result<(), AllocError> {
+    let tree = Value::from_str(rt.alloc(), "[2,3]").expect(&rt, "JSON");
+    let shape = read_shape(Some(&tree), None).expect(&rt, "a shape");
+    assert!(rt; shape.dims().as_slice() == [2, 3].as_slice());
+    assert!(rt; Shape::Null.dims().is_empty());
+    let rows = [
+        (&shape, "[1,2]", true),
+        (&shape, "[2,0]", false),
+        (&shape, "[0,3]", false),
+        (&shape, "[0]", false),
+        (&shape, "[0,0,0]", false),
+        (&Shape::Scalar, "[0]", false),
+        (&Shape::Null, "[0]", false),
+    ];
+    for (shape, at, want) in rows {
+        let tree = Value::from_str(rt.alloc(), at).expect(&rt, "JSON");
+        let coords = read_dims(&tree).expect(&rt, "coordinates");
+        assert!(rt; shape.contains(&coords) == want, "{at}");
+    }
+    assert!(rt; Shape::Scalar.contains(&Dims::new()));
+    assert!(rt; !Shape::Null.contains(&Dims::new()));
+    Ok(())
+}
+
 /// The shape with the dims that a text spells, printed, or the name of the fault.
 fn told_resized(
     rt: &(impl Abort + AllocGlobal),
