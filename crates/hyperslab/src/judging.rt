@@ -2,7 +2,7 @@
 
 ghost use Rattle.std.specs.Prelude.{◌≡◌, ◌↔◌, ◌≤◌, ℕ, List, All, Option, Some, None, Result, Ok, Err, IfOk, length, map};
 ghost use Rattle.shapes.specs.Places.{room_of};
-ghost use Rattle.shapes.specs.Shapes.{IsSound, dims_of};
+ghost use Rattle.shapes.specs.Shapes.{IsSound};
 ghost use Rattle.shapes.specs.declared.TheConstants.{MAX_CELLS, MAX_EXTENT};
 ghost use Rattle.shapes.specs.declared.Shape.{Shape};
 ghost use Rattle.hyperslab.specs.declared.Slab.{Slab};
@@ -30,7 +30,8 @@ pub(crate) fn judged(shape: &Shape, slab: &Slab) -> Result<Slab, SlabFault>
 
 /// What the tests in their order tell of a selection and a shape is the one outcome that holds.
 pub fn one_outcome()
-    ensures { (shape : Shape) (s : Slab) (r : Result Slab SlabFault) → ((judged_by shape s ≡ r) ↔ IsOutcome shape s r) }
+    ensures { (shape : Shape) (s : Slab) (r : Result Slab SlabFault)
+        → ((judged_by shape s ≡ r) ↔ IsOutcome shape s r) }
 {}
 
 #[tactic(auto, unfolding(crate::specs::Judged::judged_in))]
@@ -111,15 +112,4 @@ fn room(extents: &[u64]) -> u64
         total *= (*n).max(1);
     }
     total
-}
-
-/// The dims of a shape; none where it has no axis.
-pub(crate) fn shape_dims(shape: &Shape) -> Dims
-    ensures { result ≡ dims_of shape.now }
-{
-    match shape {
-        Shape::Null => Dims::new(),
-        Shape::Scalar => Dims::new(),
-        Shape::Simple { dims, .. } => *dims,
-    }
 }

@@ -13,7 +13,7 @@ ghost use Rattle.hyperslab.specs.Selected.{IsSlab, SlabIn};
 ghost use Rattle.hyperslab.specs.Judged.{list_or as list_from, lists_in, is_absent as absent, is_scalar as scalar, judged as judged_by, lists_slab};
 
 use crate::all_cells::whole;
-use crate::judging::{judged, shape_dims};
+use crate::judging::judged;
 use crate::{Slab, SlabFault};
 use serde_json::Value;
 use shapes::{Dims, Shape, read_dims};
@@ -31,14 +31,15 @@ pub fn from_lists(
     shape: &Shape,
 ) -> Result<Slab, SlabFault>
     requires { IsSound shape.now }
-    ensures first { result ≡ lists_slab shape.now (shown start.entry) (shown stop.entry) (shown step.entry) }
+    ensures first { result
+        ≡ lists_slab shape.now (shown start.entry) (shown stop.entry) (shown step.entry) }
     ensures within { IfOk result (λ s. SlabIn s shape.now) }
     ensures sound { IfOk result IsSlab }
 {
     if is_scalar(shape) && is_absent(start) && is_absent(stop) && is_absent(step) {
         return whole(shape);
     }
-    match lists(&shape_dims(shape), start, stop, step) {
+    match lists(&shape.dims(), start, stop, step) {
         None => Err(SlabFault::Syntax { byte: 0 }),
         Some(slab) => judged(shape, &slab),
     }
@@ -47,10 +48,18 @@ pub fn from_lists(
 /// What lists select, in other words: a scalar's one cell where none is given; else what is judged
 /// of the numbers that stand for the lists, or a fault of syntax where none do.
 pub fn lists_or_fault()
-    ensures scalar { lists_slab Scalar None None None ≡ Ok (record { start = []; stop = []; step = [] }) }
-    ensures spelled { (shape : Shape) (start stop step : Option Data) (s : Slab) → IsGiven shape start stop step → AreLists (dims_of shape) start stop step s → lists_slab shape start stop step ≡ judged_by shape s }
-    ensures syntax { (shape : Shape) (start stop step : Option Data) → IsGiven shape start stop step → ((s : Slab) → AreLists (dims_of shape) start stop step s → ⊥) → lists_slab shape start stop step ≡ Err (Syntax 0) }
-    ensures one_of { (dims : List ℕ) (start stop step : Option Data) → ((s : Slab) × AreLists dims start stop step s) ⊎ ((s : Slab) → AreLists dims start stop step s → ⊥) }
+    ensures scalar { lists_slab Scalar None None None
+        ≡ Ok (record { start = []; stop = []; step = [] }) }
+    ensures spelled { (shape : Shape) (start stop step : Option Data) (s : Slab)
+        → IsGiven shape start stop step → AreLists (dims_of shape) start stop step s
+        → lists_slab shape start stop step ≡ judged_by shape s }
+    ensures syntax { (shape : Shape) (start stop step : Option Data)
+        → IsGiven shape start stop step
+        → ((s : Slab) → AreLists (dims_of shape) start stop step s → ⊥)
+        → lists_slab shape start stop step ≡ Err (Syntax 0) }
+    ensures one_of { (dims : List ℕ) (start stop step : Option Data)
+        → ((s : Slab) × AreLists dims start stop step s)
+        ⊎ ((s : Slab) → AreLists dims start stop step s → ⊥) }
 {}
 
 fn is_scalar(shape: &Shape) -> bool
