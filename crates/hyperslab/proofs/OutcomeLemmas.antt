@@ -100,10 +100,8 @@ or_some : (f g : Option SlabFault) (h : SlabFault) → or_fault f g ≡ Some h �
 or_some (Some x) g h e = inl e
 or_some None g h e = inr (refl, e)
 
-told_here : (k n : ℕ) (x : Axis) (f : SlabFault) → fault_on k n x ≡ Some f → fault_on (k + 0) n x ≡ Some f
-told_here k n x f e =
-    let same : k + 0 ≡ k = omega arith in
-    ap (λ m. fault_on m n x) same ∙ e
+told_at : (j k n : ℕ) (x : Axis) (f : SlabFault) → k ≡ j → fault_on j n x ≡ Some f → fault_on k n x ≡ Some f
+told_at j k n x f same e = ap (λ m. fault_on m n x) same ∙ e
 
 first_found : (k : ℕ) (dims los his bys : List ℕ) (f : SlabFault) → length los ≡ length dims → length his ≡ length dims → length bys ≡ length dims
     → first_fault k dims (axes los his bys) ≡ Some f → IsFound k dims los his bys f
@@ -115,16 +113,15 @@ first_found k (n ∷ ns) (a ∷ los) (b ∷ his) (c ∷ bys) f p q r e =
     let x = axis_with a b c in
     elim (or_some (fault_on k n x) (first_fault (suc k) ns (axes los his bys)) f e) [
       | inl here ↦
-          record { j = 0; axis = omega arith; before = λ i l. absurd (omega (arith, l)); told = told_here k n x f here }
+          record { j = 0; axis = omega arith; before = λ i l. absurd (omega (arith, l)); told = told_at k (k + 0) n x f (omega arith) here }
       | inr later ↦
           let rest = first_found (suc k) ns los his bys f (omega arith) (omega arith) (omega arith) later.1 in
           let good = no_fault_on k n x later.0 in
-          let same : k + suc rest.j ≡ suc k + rest.j = omega arith in
           record {
             j = suc rest.j;
             axis = omega (arith, rest.axis);
             before = good_before n a b c ns los his bys rest.j (good.0, good.1, good.2) rest.before;
-            told = ap (λ m. fault_on m (get_or ns rest.j 0) (axis_at rest.j los his bys)) same ∙ rest.told;
+            told = told_at (suc k + rest.j) (k + suc rest.j) (get_or ns rest.j 0) (axis_at rest.j los his bys) f (omega arith) rest.told;
           }
     ]
 

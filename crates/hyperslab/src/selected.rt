@@ -61,6 +61,7 @@ pub fn each_cell_once()
     ensures within { (s : Slab) (shape : Shape) → All (λ at. LiesIn at shape) (slab_cells s shape) }
     ensures inside { (s : Slab) (shape : Shape) (k : ℕ) → IsSlab s → SlabIn s shape
         → k < cell_count (extents s) → LiesIn (cell_at s k) shape }
+    ensures first { (s : Slab) → IsSlab s → s.start ≡ cell_at s 0 }
     ensures selected { (s : Slab) (k : ℕ) → IsSlab s → k < cell_count (extents s)
         → is_at (axes_of s) (cell_at s k) ≡ true }
     ensures each { (s : Slab) (at : List ℕ) → IsSlab s → is_at (axes_of s) at ≡ true
