@@ -9,7 +9,7 @@ use Rattle.hyperslab.specs.declared.Slab.{Slab}
 use Rattle.hyperslab.specs.Selected.{Axis, AreAxes, IsSlab, axes, axes_of, is_on, is_at, extent, extents, point, digits_by, cell_at}
 use Rattle.hyperslab.proofs.AxisLemmas.{axis_at, axes_end, axes_from, axes_more, length-axes}
 use Rattle.hyperslab.proofs.SelectLemmas.{point_below}
-use Rattle.hyperslab.proofs.CellLemmas.{digits_in, extent_above, point_at, cell_selected, cell_each}
+use Rattle.hyperslab.proofs.CellLemmas.{digits_in, extent_above, cell_selected, cell_each}
 
 abbrev pub starts : List Axis → List ℕ
 starts [] = []
@@ -165,7 +165,7 @@ starts_axes (a ∷ los) [] bys h k = absurd (omega arith)
 starts_axes (a ∷ los) (b ∷ his) [] h k = absurd (omega arith)
 starts_axes (a ∷ los) (b ∷ his) (c ∷ bys) h k = ap (λ ns. a ∷ ns) (starts_axes los his bys (omega arith) (omega arith))
 
-first_cell : (s : Slab) → IsSlab s → s.start ≡ cell_at s 0
+pub first_cell : (s : Slab) → IsSlab s → s.start ≡ cell_at s 0
 first_cell s h =
     let xs = axes_of s in
     sym (starts_axes s.start s.stop s.step h.ranked.stops h.ranked.steps) ∙ sym (point_zeros xs) ∙ ap (λ ks. point ks xs) (sym (digits_none xs 0 refl))

@@ -1,10 +1,12 @@
 -- The selected cells by number, and each of them once.
-use Rattle.std.proofs.Common.{◌≡◌, ℕ, suc, ◌+◌, ◌*◌, ◌-◌, ◌/◌, ◌%◌, ◌<◌, ◌≤◌, ◌&&◌, true, List, [], ◌∷◌, length, get_or, map, inl, inr, nat_eq, nat_lt, nat_le, refl, sym, ap, ◌∙◌, arith}
+use Rattle.std.proofs.Common.{◌≡◌, ℕ, suc, ◌+◌, ◌*◌, ◌-◌, ◌/◌, ◌%◌, ◌<◌, ◌≤◌, ◌&&◌, true, List, [], ◌∷◌, All, length, get_or, map, inl, inr, nat_eq, nat_lt, nat_le, refl, sym, ap, ◌∙◌, arith}
 use Rattle.std.specs.List.{AllZip}
 use Rattle.std.proofs.lemmas.Nat.{mul-le, le-div, div_below, mod_below, div-add-mod', mod-mul-add}
 use Rattle.std.proofs.lemmas.Bool.{cases_lt, lt-ltb, le-leb, eq-eqb, leb-true, ltb-true, eqb-true, and_parts, and_from}
 use Rattle.shapes.specs.Places.{cell_count, IsInside, place}
-use Rattle.shapes.specs.Shapes.{LiesIn}
+use Rattle.std.proofs.lemmas.List.Elements.{All-filter}
+use Rattle.shapes.specs.Shapes.{LiesIn, cells_of}
+use Rattle.shapes.proofs.CellLemmas.{cells_inside as cells_lie}
 use Rattle.shapes.specs.declared.Shape.{Shape}
 use Rattle.shapes.specs.declared.Shape.TheVariants.{Null, Scalar, Simple}
 use Rattle.shapes.proofs.PlaceLemmas.{place_below, place_once}
@@ -154,3 +156,8 @@ cells_apart s shape h fits p q low_p low_q e =
     let few_p : p < cell_count (extents s) = omega (arith, low_p, many) in
     let few_q : q < cell_count (extents s) = omega (arith, low_q, many) in
     cell_once s p q h few_p few_q (sym (cells_listed s shape p h fits few_p) ∙ e ∙ cells_listed s shape q h fits few_q)
+
+pub cells_within : (s : Slab) (shape : Shape) → All (λ at. LiesIn at shape) (slab_cells s shape)
+cells_within s Null = cells_lie Null
+cells_within s Scalar = All-filter (is_at (axes_of s)) (λ at. LiesIn at Scalar) (cells_of Scalar) (cells_lie Scalar)
+cells_within s (Simple dims limits) = All-filter (is_at (axes_of s)) (λ at. LiesIn at (Simple dims limits)) (cells_of (Simple dims limits)) (cells_lie (Simple dims limits))

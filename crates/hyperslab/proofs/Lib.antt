@@ -9,3 +9,7 @@ pub mod TextLemmas
 pub mod WithinLemmas
 pub mod CellLemmas
 pub mod AdvanceLemmas
+pub mod AlikeLemmas
+pub mod WrittenLemmas
+pub mod OutcomeLemmas
+pub mod GivenLemmas

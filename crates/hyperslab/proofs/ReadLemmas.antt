@@ -22,11 +22,11 @@ spaces_push : (xs : List ℕ) (b : ℕ) → AreSpaces xs → b ≡ 32 → AreSpa
 spaces_push [] b h e = (e, tt)
 spaces_push (x ∷ xs) b h e = (h.0, spaces_push xs b h.1 e)
 
-digits_push : (xs : List ℕ) (b : ℕ) → AreDigits xs → 48 ≤ b → b ≤ 57 → AreDigits (xs ++ b ∷ [])
+pub digits_push : (xs : List ℕ) (b : ℕ) → AreDigits xs → 48 ≤ b → b ≤ 57 → AreDigits (xs ++ b ∷ [])
 digits_push [] b h k l = (k, l, tt)
 digits_push (x ∷ xs) b h k l = (h.0, h.1, digits_push xs b h.2 k l)
 
-spelled_push : (xs : List ℕ) (b n : ℕ) → spelled n (xs ++ b ∷ []) ≡ spelled n xs * 10 + (b - 48)
+pub spelled_push : (xs : List ℕ) (b n : ℕ) → spelled n (xs ++ b ∷ []) ≡ spelled n xs * 10 + (b - 48)
 spelled_push [] b n = refl
 spelled_push (x ∷ xs) b n = spelled_push xs b (n * 10 + (x - 48))
 

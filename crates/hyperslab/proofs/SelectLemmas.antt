@@ -52,12 +52,12 @@ last_false true true c e = e
 last_false true false c e = refl
 last_false false b c e = refl
 
-on_before : (a b c n : ℕ) → n < a → is_on (axis_with a b c) n ≡ false
+pub on_before : (a b c n : ℕ) → n < a → is_on (axis_with a b c) n ≡ false
 on_before a b c n h =
     let low : nat_le a n ≡ false = grind (arith, nat_tests) in
     first_false (nat_le a n) (nat_lt n b) (nat_eq ((n - a) % c) 0) low
 
-on_past : (a b c n : ℕ) → b ≤ n → is_on (axis_with a b c) n ≡ false
+pub on_past : (a b c n : ℕ) → b ≤ n → is_on (axis_with a b c) n ≡ false
 on_past a b c n h = mid_false (nat_le a n) (nat_lt n b) (nat_eq ((n - a) % c) 0) (le-ltb n b h)
 
 on_here : (a b c n : ℕ) → n ≡ a → a < b → is_on (axis_with a b c) n ≡ true

@@ -1,8 +1,6 @@
 -- A selection that was read lies in its shape.
-use Rattle.std.proofs.Common.{◌≡◌, ℕ, suc, ◌≤◌, ◌&&◌, List, [], ◌∷◌, length, Option, Some, None, Result, Ok, Err, inl, inr, nat_eq, nat_le, refl, subst, sym, ◌∙◌, arith}
+use Rattle.std.proofs.Common.{◌≡◌, ℕ, ◌&&◌, List, [], ◌∷◌, length, Option, Some, None, Result, Ok, Err, inl, inr, nat_le, refl, subst, arith}
 use Rattle.std.specs.Prelude.{IfOk}
-use Rattle.std.specs.List.{AllZip}
-use Rattle.std.proofs.lemmas.Bool.{eqb-true, leb-true, and_parts}
 use Rattle.json_trees.proofs.FaultLemmas.{chosen, test_ok}
 use Rattle.serde_json.specs.Data.{Data}
 use Rattle.shapes.specs.declared.Shape.{Shape}
@@ -16,67 +14,18 @@ use Rattle.hyperslab.specs.declared.TheConstants.{MAX_SELECTED}
 use Rattle.hyperslab.specs.declared.reading.Phase.{Phase}
 use Rattle.hyperslab.specs.declared.reading.Phase.TheVariants.{Before, Inside, Closed}
 use Rattle.hyperslab.specs.declared.reading.Kept.{Kept}
-use Rattle.hyperslab.specs.Selected.{Axis, axes_of, extents, FitsIn, SlabIn}
-use Rattle.hyperslab.specs.Judged.{fault_on, first_fault, bounded, unless_fault, has_rank, judged_in, judged, all_of, whole_of, judged_lists, lists_slab, lists_in, is_scalar, is_absent}
+use Rattle.hyperslab.specs.Selected.{extents, FitsIn, SlabIn}
+use Rattle.hyperslab.specs.Judged.{bounded, judged, all_of, whole_of, judged_lists, lists_slab, lists_in, is_scalar, is_absent}
 use Rattle.hyperslab.specs.Steps.{judged_kept, ended, told, text_slab, read_on, nothing_kept}
-use Rattle.hyperslab.proofs.AxisLemmas.{length-axes, no_fault_on, or_none}
-
-within_axes : (k : ℕ) (dims : List ℕ) (xs : List Axis) → length xs ≡ length dims → first_fault k dims xs ≡ None → AllZip (λ x n. x.hi ≤ n) xs dims
-within_axes k [] [] same e = tt
-within_axes k [] (x ∷ xs) same e = absurd (omega arith)
-within_axes k (n ∷ ns) [] same e = absurd (omega arith)
-within_axes k (n ∷ ns) (x ∷ xs) same e =
-    let parts = or_none (fault_on k n x) (first_fault (suc k) ns xs) e in
-    ((no_fault_on k n x parts.0).2, within_axes (suc k) ns xs (omega arith) parts.1)
-
-pub bounded_ok : (s t : Slab) → bounded s ≡ Ok t → (room_of (extents s) ≤ MAX_SELECTED) × (s ≡ t)
-bounded_ok s t e =
-    let parts = test_ok (nat_le (room_of (extents s)) MAX_SELECTED) (Ok s) (TooMany (room_of (extents s))) t e in
-    (leb-true (room_of (extents s)) MAX_SELECTED parts.0, cc)
-
-unless_ok : (f : Option SlabFault) (s t : Slab) → unless_fault f s ≡ Ok t → (f ≡ None) × (bounded s ≡ Ok t)
-unless_ok None s t e = (refl, e)
-unless_ok (Some f) s t e = cc
-
--- a number on each axis, no fault, and few cells
-pub record IsFaultless (dims : List ℕ) (s : Slab) : Type 0 where
-  pub starts : length s.start ≡ length dims
-  pub stops : length s.stop ≡ length dims
-  pub steps : length s.step ≡ length dims
-  pub axes : first_fault 0 dims (axes_of s) ≡ None
-  pub room : room_of (extents s) ≤ MAX_SELECTED
-
-pub judged_in_ok : (dims : List ℕ) (s t : Slab) → judged_in dims s ≡ Ok t → IsFaultless dims s × (s ≡ t)
-unfolding judged_in
-judged_in_ok dims s t e =
-    let n = length dims in
-    let ranked = test_ok (has_rank n s) (unless_fault (first_fault 0 dims (axes_of s)) s) Rank t e in
-    let one = and_parts (nat_eq (length s.start) n && nat_eq (length s.stop) n) (nat_eq (length s.step) n) ranked.0 in
-    let two = and_parts (nat_eq (length s.start) n) (nat_eq (length s.stop) n) one.0 in
-    let none = unless_ok (first_fault 0 dims (axes_of s)) s t ranked.1 in
-    let few = bounded_ok s t none.1 in (
-      record {
-        starts = eqb-true (length s.start) n two.0;
-        stops = eqb-true (length s.stop) n two.1;
-        steps = eqb-true (length s.step) n one.1;
-        axes = none.0;
-        room = few.0;
-      },
-      few.1,
-    )
-
-faultless_fits : (dims : List ℕ) (s : Slab) → IsFaultless dims s → FitsIn s dims
-faultless_fits dims s h =
-    let many = length-axes s.start s.stop s.step (h.stops ∙ sym h.starts) (h.steps ∙ sym h.starts) in
-    within_axes 0 dims (axes_of s) (many ∙ h.starts) h.axes
+use Rattle.hyperslab.proofs.OutcomeLemmas.{judged_outcome, whole_fits}
 
 judged_ok : (shape : Shape) (s t : Slab) → judged shape s ≡ Ok t → SlabIn t shape
 judged_ok Null s t e = cc
 judged_ok Scalar s t e = cc
 judged_ok (Simple dims limits) s t e =
-    let found = judged_in_ok dims s t e in
     let P = λ (u : Slab). FitsIn u dims in
-    subst P found.1 (faultless_fits dims s found.0)
+    let found = (judged_outcome (Simple dims limits) s (Ok t)).0 e in
+    subst P found.0 (whole_fits dims s found.1)
 
 if_ok : {A E : Type 0} (r : Result A E) (P : A → Type 0) → ((x : A) → r ≡ Ok x → P x) → IfOk r P
 if_ok (Ok x) P h = h x refl
@@ -91,10 +40,15 @@ all_fits : (dims : List ℕ) → FitsIn (all_of dims) dims
 all_fits [] = tt
 all_fits (n ∷ ns) = (omega arith, all_fits ns)
 
+bounded_ok : (s t : Slab) → bounded s ≡ Ok t → s ≡ t
+bounded_ok s t e =
+    let few = test_ok (nat_le (room_of (extents s)) MAX_SELECTED) (Ok s) (TooMany (room_of (extents s))) t e in
+    cc
+
 all_bounded : (dims limits : List ℕ) (t : Slab) → bounded (all_of dims) ≡ Ok t → SlabIn t (Simple dims limits)
 all_bounded dims limits t e =
     let P = λ (u : Slab). FitsIn u dims in
-    subst P (bounded_ok (all_of dims) t e).1 (all_fits dims)
+    subst P (bounded_ok (all_of dims) t e) (all_fits dims)
 
 pub whole_within : (shape : Shape) → IfOk (whole_of shape) (λ t. SlabIn t shape)
 whole_within Null = refl

@@ -2,6 +2,8 @@ pub mod Selected
 pub mod Judged
 pub mod Steps
 pub mod Grammar
+pub mod Written
+pub mod Outcomes
 pub use Rattle.shapes.specs.Shapes
 pub use Rattle.shapes.specs.Places
 pub use Rattle.shapes.specs.Extents

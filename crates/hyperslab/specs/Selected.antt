@@ -1,5 +1,5 @@
 -- Which cells a selection selects.
-use Rattle.std.specs.Prelude.{◌≡◌, ℕ, ◌+◌, ◌-◌, ◌*◌, ◌/◌, ◌%◌, ◌<◌, ◌≤◌, ◌&&◌, Bool, true, false, List, [], ◌∷◌, map, length, slice_index_or, nat_le, nat_lt, nat_eq, if◌then◌else◌}
+use Rattle.std.specs.Prelude.{◌≡◌, ℕ, ◌+◌, ◌-◌, ◌*◌, ◌/◌, ◌%◌, ◌<◌, ◌≤◌, ◌⊎◌, ◌&&◌, Bool, true, false, List, [], ◌∷◌, map, length, slice_index_or, nat_le, nat_lt, nat_eq, if◌then◌else◌}
 use Rattle.std.specs.List.{filter, AllZip}
 use Rattle.shapes.specs.Places.{cell_count, coordinates, room_of, run_from}
 use Rattle.shapes.specs.declared.Shape.{Shape}
@@ -94,6 +94,10 @@ slab_cells s (Simple dims limits) = selected s dims
 -- no cell stands at two places
 abbrev pub AreApart : List (List ℕ) → Type 0
 AreApart cells = (p q : ℕ) → p < length cells → q < length cells → slice_index_or cells p [] ≡ slice_index_or cells q [] → p ≡ q
+
+-- two axes between the same numbers, with the same step, or with steps that lead past the end
+abbrev pub IsAlike : Axis → Axis → Type 0
+IsAlike x y = (x.lo ≡ y.lo) × (x.hi ≡ y.hi) × ((x.by ≡ y.by) ⊎ ((x.hi - x.lo ≤ x.by) × (x.hi - x.lo ≤ y.by)))
 
 -- ---- one cell by its number
 

@@ -13,8 +13,10 @@ impl Slab {
     pub fn advance(&self, at: &mut Dims) -> bool
         requires slab { IsSlab self.now }
         requires selected { is_at (axes_of self.now) at.old ≡ true }
-        ensures next { (k : ℕ) → k + 1 < cell_count (extents self.now) → at.old ≡ cell_at self.now k → (result ≡ true) × (at.new ≡ cell_at self.now (k + 1)) }
-        ensures last { (k : ℕ) → k + 1 ≡ cell_count (extents self.now) → at.old ≡ cell_at self.now k → (result ≡ false) × (at.new ≡ cell_at self.now 0) }
+        ensures next { (k : ℕ) → k + 1 < cell_count (extents self.now)
+            → at.old ≡ cell_at self.now k → (result ≡ true) × (at.new ≡ cell_at self.now (k + 1)) }
+        ensures last { (k : ℕ) → k + 1 ≡ cell_count (extents self.now)
+            → at.old ≡ cell_at self.now k → (result ≡ false) × (at.new ≡ cell_at self.now 0) }
         ensures selected { is_at (axes_of self.now) at.new ≡ true }
     {
         let mut axis = self.start.len();

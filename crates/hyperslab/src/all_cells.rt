@@ -1,8 +1,7 @@
 //! The selection of every cell of a shape.
 
-ghost use Rattle.std.specs.Prelude.{◌≡◌, ◌≤◌, [], ◌∷◌, IfOk, length, replicate};
+ghost use Rattle.std.specs.Prelude.{◌≡◌, [], ◌∷◌, IfOk};
 ghost use Rattle.shapes.specs.Shapes.{IsSound};
-ghost use Rattle.shapes.specs.declared.TheConstants.{MAX_RANK};
 ghost use Rattle.hyperslab.specs.Selected.{IsSlab, SlabIn};
 ghost use Rattle.hyperslab.specs.Judged.{whole_of, all_of};
 
@@ -33,21 +32,10 @@ fn all_of_dims(dims: &Dims) -> Slab
     ensures { result ≡ all_of dims.now }
 {
     Slab {
-        start: repeated(0, dims.len()),
+        start: Dims::repeated(0, dims.len()),
         stop: *dims,
-        step: repeated(1, dims.len()),
+        step: Dims::repeated(1, dims.len()),
     }
-}
-
-pub(crate) fn repeated(n: u64, times: usize) -> Dims
-    requires { times ≤ MAX_RANK }
-    ensures { result ≡ replicate times n }
-{
-    let mut dims = Dims::new();
-    while dims.len() < times {
-        dims.push(n);
-    }
-    dims
 }
 
 fn no_axis() -> Slab

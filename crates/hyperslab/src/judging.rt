@@ -1,9 +1,13 @@
 //! The tests of a selection in their order.
 
-ghost use Rattle.std.specs.Prelude.{◌≡◌, ◌≤◌, ℕ, List, All, Option, Some, None, Ok, Err, IfOk, length, map};
+ghost use Rattle.std.specs.Prelude.{◌≡◌, ◌↔◌, ◌≤◌, ℕ, List, All, Option, Some, None, Result, Ok, Err, IfOk, length, map};
 ghost use Rattle.shapes.specs.Places.{room_of};
-ghost use Rattle.shapes.specs.Shapes.{IsSound, dims_of};
+ghost use Rattle.shapes.specs.Shapes.{IsSound};
 ghost use Rattle.shapes.specs.declared.TheConstants.{MAX_CELLS, MAX_EXTENT};
+ghost use Rattle.shapes.specs.declared.Shape.{Shape};
+ghost use Rattle.hyperslab.specs.declared.Slab.{Slab};
+ghost use Rattle.hyperslab.specs.declared.SlabFault.{SlabFault};
+ghost use Rattle.hyperslab.specs.Outcomes.{IsOutcome};
 ghost use Rattle.hyperslab.specs.Selected.{AreAxes, IsRanked, IsSlab, axes_of, extents};
 ghost use Rattle.hyperslab.specs.Judged.{fault_on, first_fault as fault_from, bounded as bounded_of, judged_in as judged_of, judged as judged_by};
 
@@ -23,6 +27,12 @@ pub(crate) fn judged(shape: &Shape, slab: &Slab) -> Result<Slab, SlabFault>
         Shape::Scalar => Err(SlabFault::Rank),
     }
 }
+
+/// What the tests in their order tell of a selection and a shape is the one outcome that holds.
+pub fn one_outcome()
+    ensures { (shape : Shape) (s : Slab) (r : Result Slab SlabFault)
+        → ((judged_by shape s ≡ r) ↔ IsOutcome shape s r) }
+{}
 
 #[tactic(auto, unfolding(crate::specs::Judged::judged_in))]
 fn judged_in(dims: &Dims, slab: &Slab) -> Result<Slab, SlabFault>
@@ -102,15 +112,4 @@ fn room(extents: &[u64]) -> u64
         total *= (*n).max(1);
     }
     total
-}
-
-/// The dims of a shape; none where it has no axis.
-pub(crate) fn shape_dims(shape: &Shape) -> Dims
-    ensures { result ≡ dims_of shape.now }
-{
-    match shape {
-        Shape::Null => Dims::new(),
-        Shape::Scalar => Dims::new(),
-        Shape::Simple { dims, .. } => *dims,
-    }
 }

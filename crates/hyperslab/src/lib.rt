@@ -20,9 +20,10 @@ mod selected;
 mod tests;
 
 pub use all_cells::whole;
-pub use lists::from_lists;
-pub use reading::{Part, read_select, reading_or_fault};
-pub use selected::each_cell_once;
+pub use judging::one_outcome;
+pub use lists::{from_lists, lists_or_fault};
+pub use reading::{Part, read_select, reading_or_fault, written_reads_back};
+pub use selected::{each_cell_once, one_step_past_the_end};
 
 /// The most digits that a number in a text has.
 pub const MAX_DIGITS: u8 = 10;

@@ -1,13 +1,19 @@
 //! Selections by lists of numbers.
 
-ghost use Rattle.std.specs.Prelude.{◌≡◌, List, Option, Some, None, IfOk, replicate, option_map};
-ghost use Rattle.serde_json.specs.View.{view};
+ghost use Rattle.std.specs.Prelude.{◌≡◌, ◌⊎◌, ℕ, List, [], Option, None, Ok, Err, IfOk};
+ghost use Rattle.json_trees.specs.Shown.{shown};
 ghost use Rattle.shapes.specs.Shapes.{IsSound, dims_of};
+ghost use Rattle.serde_json.specs.Data.{Data};
+ghost use Rattle.shapes.specs.declared.Shape.{Shape};
+ghost use Rattle.shapes.specs.declared.Shape.TheVariants.{Scalar};
+ghost use Rattle.hyperslab.specs.declared.Slab.{Slab};
+ghost use Rattle.hyperslab.specs.declared.SlabFault.TheVariants.{Syntax};
+ghost use Rattle.hyperslab.specs.Outcomes.{AreLists, IsGiven};
 ghost use Rattle.hyperslab.specs.Selected.{IsSlab, SlabIn};
-ghost use Rattle.hyperslab.specs.Judged.{list_or as list_from, lists_in, is_absent as absent, is_scalar as scalar, lists_slab};
+ghost use Rattle.hyperslab.specs.Judged.{list_or as list_from, lists_in, is_absent as absent, is_scalar as scalar, judged as judged_by, lists_slab};
 
-use crate::all_cells::{repeated, whole};
-use crate::judging::{judged, shape_dims};
+use crate::all_cells::whole;
+use crate::judging::judged;
 use crate::{Slab, SlabFault};
 use serde_json::Value;
 use shapes::{Dims, Shape, read_dims};
@@ -25,18 +31,36 @@ pub fn from_lists(
     shape: &Shape,
 ) -> Result<Slab, SlabFault>
     requires { IsSound shape.now }
-    ensures first { result ≡ lists_slab shape.now (option_map (λ v. view v.now) start.entry) (option_map (λ v. view v.now) stop.entry) (option_map (λ v. view v.now) step.entry) }
+    ensures first { result
+        ≡ lists_slab shape.now (shown start.entry) (shown stop.entry) (shown step.entry) }
     ensures within { IfOk result (λ s. SlabIn s shape.now) }
     ensures sound { IfOk result IsSlab }
 {
     if is_scalar(shape) && is_absent(start) && is_absent(stop) && is_absent(step) {
         return whole(shape);
     }
-    match lists(&shape_dims(shape), start, stop, step) {
+    match lists(&shape.dims(), start, stop, step) {
         None => Err(SlabFault::Syntax { byte: 0 }),
         Some(slab) => judged(shape, &slab),
     }
 }
+
+/// What lists select, in other words: a scalar's one cell where none is given; else what is judged
+/// of the numbers that stand for the lists, or a fault of syntax where none do.
+pub fn lists_or_fault()
+    ensures scalar { lists_slab Scalar None None None
+        ≡ Ok (record { start = []; stop = []; step = [] }) }
+    ensures spelled { (shape : Shape) (start stop step : Option Data) (s : Slab)
+        → IsGiven shape start stop step → AreLists (dims_of shape) start stop step s
+        → lists_slab shape start stop step ≡ judged_by shape s }
+    ensures syntax { (shape : Shape) (start stop step : Option Data)
+        → IsGiven shape start stop step
+        → ((s : Slab) → AreLists (dims_of shape) start stop step s → ⊥)
+        → lists_slab shape start stop step ≡ Err (Syntax 0) }
+    ensures one_of { (dims : List ℕ) (start stop step : Option Data)
+        → ((s : Slab) × AreLists dims start stop step s)
+        ⊎ ((s : Slab) → AreLists dims start stop step s → ⊥) }
+{}
 
 fn is_scalar(shape: &Shape) -> bool
     ensures { result ≡ scalar shape.now }
@@ -49,7 +73,7 @@ fn is_scalar(shape: &Shape) -> bool
 }
 
 fn is_absent(tree: Option<&Value>) -> bool
-    ensures { result ≡ absent (option_map (λ v. view v.now) tree.entry) }
+    ensures { result ≡ absent (shown tree.entry) }
 {
     match tree {
         None => true,
@@ -63,16 +87,16 @@ fn lists(
     stop: Option<&Value>,
     step: Option<&Value>,
 ) -> Option<Slab>
-    ensures { result ≡ lists_in dims.now (option_map (λ v. view v.now) start.entry) (option_map (λ v. view v.now) stop.entry) (option_map (λ v. view v.now) step.entry) }
+    ensures { result ≡ lists_in dims.now (shown start.entry) (shown stop.entry) (shown step.entry) }
 {
-    let start = list_or(repeated(0, dims.len()), start)?;
+    let start = list_or(Dims::repeated(0, dims.len()), start)?;
     let stop = list_or(*dims, stop)?;
-    let step = list_or(repeated(1, dims.len()), step)?;
+    let step = list_or(Dims::repeated(1, dims.len()), step)?;
     Some(Slab { start, stop, step })
 }
 
 fn list_or(absent: Dims, tree: Option<&Value>) -> Option<Dims>
-    ensures { result ≡ list_from absent (option_map (λ v. view v.now) tree.entry) }
+    ensures { result ≡ list_from absent (shown tree.entry) }
 {
     match tree {
         None => Some(absent),

@@ -1,10 +1,13 @@
 //! How a text spells a selection: `[1:10:4, :7]`, a part for each axis.
 
-ghost use Rattle.std.specs.Prelude.{◌≡◌, ◌≤◌, ◌<◌, ◌⊎◌, ℕ, List, length, IfOk, IfSome, Err};
+ghost use Rattle.std.specs.Prelude.{◌≡◌, ◌≤◌, ◌<◌, ◌^◌, ◌⊎◌, ℕ, List, All, length, IfOk, IfSome, Ok, Err};
 ghost use Rattle.shapes.specs.Shapes.{IsSound, dims_of};
 ghost use Rattle.shapes.specs.declared.TheConstants.{MAX_RANK};
 ghost use Rattle.hyperslab.specs.Selected.{IsRanked, IsSlab, SlabIn};
 ghost use Rattle.hyperslab.specs.Grammar.{IsSelection, IsFirstBad, parts_slab};
+ghost use Rattle.shapes.specs.declared.Shape.TheVariants.{Simple};
+ghost use Rattle.hyperslab.specs.Written.{written};
+ghost use Rattle.hyperslab.specs.declared.Slab.{Slab};
 ghost use Rattle.hyperslab.specs.declared.SlabFault.TheVariants.{Syntax};
 ghost use Rattle.hyperslab.specs.declared.reading.Part.{Part};
 ghost use Rattle.hyperslab.specs.declared.reading.Number.TheVariants.{Digits};
@@ -12,7 +15,7 @@ ghost use Rattle.hyperslab.specs.declared.reading.Phase.TheVariants.{Before};
 ghost use Rattle.hyperslab.specs.declared.TheConstants.{MAX_DIGITS};
 ghost use Rattle.hyperslab.specs.Steps.{ten_to, IsNumber, IsPiece, IsPhase, or_number as number_or, digit_step as digit_stepped, space_step as space_stepped, number_step as number_stepped, number_of, colon_step as colon_stepped, piece_step as piece_stepped, single as single_part, stepped_part, part_of, ended_at as ended, still_inside as still, inside_step as inside_stepped, before_step as before_stepped, closed_step as closed_stepped, step_of, with_axis, keep_one as kept_one, keep_part as kept_with, judged_kept as kept_judged, read_on, nothing_kept, text_slab};
 
-use crate::judging::{judged, shape_dims};
+use crate::judging::judged;
 use crate::{MAX_DIGITS, Slab, SlabFault};
 use shapes::{Dims, Shape};
 
@@ -77,10 +80,12 @@ struct Kept {
 /// The first fault in the order of [`SlabFault`].
 pub fn read_select(text: &str, shape: &Shape) -> Result<Slab, SlabFault>
     requires { IsSound shape.now }
-    ensures spelled { (parts : List Part) → IsSelection text.now parts → result ≡ parts_slab parts shape.now }
+    ensures spelled { (parts : List Part) → IsSelection text.now parts
+        → result ≡ parts_slab parts shape.now }
     ensures bad { (byte : ℕ) → IsFirstBad text.now byte → result ≡ Err (Syntax byte) }
     ensures first { result ≡ text_slab text.now shape.now }
-    ensures one_of { ((parts : List Part) × IsSelection text.now parts) ⊎ ((byte : ℕ) × IsFirstBad text.now byte) }
+    ensures one_of { ((parts : List Part) × IsSelection text.now parts)
+        ⊎ ((byte : ℕ) × IsFirstBad text.now byte) }
     ensures within { IfOk result (λ s. SlabIn s shape.now) }
     ensures sound { IfOk result IsSlab }
 {
@@ -89,9 +94,19 @@ pub fn read_select(text: &str, shape: &Shape) -> Result<Slab, SlabFault>
 
 /// A text has one reading or one first bad byte, and never both.
 pub fn reading_or_fault()
-    ensures one_reading { (text : List ℕ) (ps qs : List Part) → IsSelection text ps → IsSelection text qs → ps ≡ qs }
+    ensures one_reading { (text : List ℕ) (ps qs : List Part) → IsSelection text ps
+        → IsSelection text qs → ps ≡ qs }
     ensures one_byte { (text : List ℕ) (b c : ℕ) → IsFirstBad text b → IsFirstBad text c → b ≡ c }
-    ensures never_both { (text : List ℕ) (ps : List Part) (b : ℕ) → IsSelection text ps → IsFirstBad text b → ⊥ }
+    ensures never_both { (text : List ℕ) (ps : List Part) (b : ℕ) → IsSelection text ps
+        → IsFirstBad text b → ⊥ }
+{}
+
+/// A selection of a shape with axes reads back from its text, where its steps have at most 10
+/// digits.
+pub fn written_reads_back()
+    ensures { (s : Slab) (dims limits : List ℕ) → IsSlab s → SlabIn s (Simple dims limits)
+        → 1 ≤ length dims → All (λ c. c < 10 ^ 10) s.step
+        → text_slab (written s) (Simple dims limits) ≡ Ok s }
 {}
 
 fn first_of(text: &str, shape: &Shape) -> Result<Slab, SlabFault>
@@ -99,7 +114,7 @@ fn first_of(text: &str, shape: &Shape) -> Result<Slab, SlabFault>
     ensures first { result ≡ text_slab text.now shape.now }
     ensures sound { IfOk result IsSlab }
 {
-    let dims = shape_dims(shape);
+    let dims = shape.dims();
     let bytes = text.as_bytes();
     let (phase, kept) = match read_parts(bytes, &dims) {
         Ok(read) => read,

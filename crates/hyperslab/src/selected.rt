@@ -1,11 +1,12 @@
 //! How many cells a selection has, and which one comes where in row-major order.
 
-ghost use Rattle.std.specs.Prelude.{◌≡◌, ◌≤◌, ◌<◌, ℕ, List, [], true, map, length, slice_index_or};
+ghost use Rattle.std.specs.Prelude.{◌≡◌, ◌≤◌, ◌<◌, ℕ, List, [], All, true, map, length, slice_index_or};
+ghost use Rattle.std.specs.List.{AllZip};
 ghost use Rattle.shapes.specs.Places.{cell_count, room_of, IsInside};
 ghost use Rattle.shapes.specs.Shapes.{IsSound, dims_of, count_of, LiesIn};
 ghost use Rattle.shapes.specs.declared.Shape.{Shape};
 ghost use Rattle.shapes.specs.declared.TheConstants.{MAX_RANK};
-ghost use Rattle.hyperslab.specs.Selected.{AreApart, AreAxes, IsRanked, IsSlab, SlabIn, axes_of, cell_at, extents, extent as extent_of, is_at, on_count, point, selected, slab_cells, FitsIn};
+ghost use Rattle.hyperslab.specs.Selected.{AreApart, AreAxes, IsAlike, IsRanked, IsSlab, SlabIn, axes_of, cell_at, extents, extent as extent_of, is_at, on_count, point, selected, slab_cells, FitsIn};
 ghost use Rattle.hyperslab.specs.declared.Slab.{Slab};
 ghost use Rattle.hyperslab.specs.declared.TheConstants.{MAX_SELECTED};
 
@@ -25,8 +26,10 @@ impl Slab {
     /// How many cells are selected: one for each choice of a selected number on each axis.
     pub fn count(&self) -> u64
         requires { IsSlab self.now }
-        ensures listed { (dims : List ℕ) → FitsIn self.now dims → result ≡ length (selected self.now dims) }
-        ensures cells { (shape : Shape) → SlabIn self.now shape → result ≡ length (slab_cells self.now shape) }
+        ensures listed { (dims : List ℕ) → FitsIn self.now dims
+            → result ≡ length (selected self.now dims) }
+        ensures cells { (shape : Shape) → SlabIn self.now shape
+            → result ≡ length (slab_cells self.now shape) }
         ensures product { result ≡ cell_count (extents self.now) }
         ensures bounded { result ≤ MAX_SELECTED }
     {
@@ -39,8 +42,10 @@ impl Slab {
         requires below { k < cell_count (extents self.now) }
         ensures stepped { result ≡ cell_at self.now k }
         ensures selected { is_at (axes_of self.now) result ≡ true }
-        ensures listed { (dims : List ℕ) → FitsIn self.now dims → slice_index_or (selected self.now dims) k [] ≡ result }
-        ensures cell { (shape : Shape) → SlabIn self.now shape → slice_index_or (slab_cells self.now shape) k [] ≡ result }
+        ensures listed { (dims : List ℕ) → FitsIn self.now dims
+            → slice_index_or (selected self.now dims) k [] ≡ result }
+        ensures cell { (shape : Shape) → SlabIn self.now shape
+            → slice_index_or (slab_cells self.now shape) k [] ≡ result }
         ensures inside { (shape : Shape) → SlabIn self.now shape → LiesIn result shape }
     {
         stepped(self, &coords_at(&grid(self.extents()), k))
@@ -49,13 +54,29 @@ impl Slab {
 
 /// A selection's cells are those of the numbers below its count, each once.
 pub fn each_cell_once()
-    ensures counted { (s : Slab) (shape : Shape) → IsSlab s → SlabIn s shape → length (slab_cells s shape) ≡ cell_count (extents s) }
-    ensures listed { (s : Slab) (shape : Shape) (k : ℕ) → IsSlab s → SlabIn s shape → k < cell_count (extents s) → slice_index_or (slab_cells s shape) k [] ≡ cell_at s k }
-    ensures inside { (s : Slab) (shape : Shape) (k : ℕ) → IsSlab s → SlabIn s shape → k < cell_count (extents s) → LiesIn (cell_at s k) shape }
-    ensures selected { (s : Slab) (k : ℕ) → IsSlab s → k < cell_count (extents s) → is_at (axes_of s) (cell_at s k) ≡ true }
-    ensures each { (s : Slab) (at : List ℕ) → IsSlab s → is_at (axes_of s) at ≡ true → (k : ℕ) × (k < cell_count (extents s)) × (cell_at s k ≡ at) }
-    ensures once { (s : Slab) (k l : ℕ) → IsSlab s → k < cell_count (extents s) → l < cell_count (extents s) → cell_at s k ≡ cell_at s l → k ≡ l }
-    ensures apart { (s : Slab) (shape : Shape) → IsSlab s → SlabIn s shape → AreApart (slab_cells s shape) }
+    ensures counted { (s : Slab) (shape : Shape) → IsSlab s → SlabIn s shape
+        → length (slab_cells s shape) ≡ cell_count (extents s) }
+    ensures listed { (s : Slab) (shape : Shape) (k : ℕ) → IsSlab s → SlabIn s shape
+        → k < cell_count (extents s) → slice_index_or (slab_cells s shape) k [] ≡ cell_at s k }
+    ensures within { (s : Slab) (shape : Shape) → All (λ at. LiesIn at shape) (slab_cells s shape) }
+    ensures inside { (s : Slab) (shape : Shape) (k : ℕ) → IsSlab s → SlabIn s shape
+        → k < cell_count (extents s) → LiesIn (cell_at s k) shape }
+    ensures first { (s : Slab) → IsSlab s → s.start ≡ cell_at s 0 }
+    ensures selected { (s : Slab) (k : ℕ) → IsSlab s → k < cell_count (extents s)
+        → is_at (axes_of s) (cell_at s k) ≡ true }
+    ensures each { (s : Slab) (at : List ℕ) → IsSlab s → is_at (axes_of s) at ≡ true
+        → (k : ℕ) × (k < cell_count (extents s)) × (cell_at s k ≡ at) }
+    ensures once { (s : Slab) (k l : ℕ) → IsSlab s → k < cell_count (extents s)
+        → l < cell_count (extents s) → cell_at s k ≡ cell_at s l → k ≡ l }
+    ensures apart { (s : Slab) (shape : Shape) → IsSlab s → SlabIn s shape
+        → AreApart (slab_cells s shape) }
+{}
+
+/// On each axis a step that is at least the distance from start to stop selects what any other such
+/// step does.
+pub fn one_step_past_the_end()
+    ensures { (s t : Slab) (shape : Shape) → AllZip IsAlike (axes_of s) (axes_of t)
+        → slab_cells s shape ≡ slab_cells t shape }
 {}
 
 /// A shape whose cells are the choices of a number below each extent.

@@ -1,4 +1,7 @@
+ghost use Rattle.std.specs.Prelude.{◌<◌};
+ghost use Rattle.shapes.specs.Places.{cell_count};
 ghost use Rattle.shapes.specs.Shapes.{IsSound};
+ghost use Rattle.hyperslab.specs.Selected.{IsSlab, extents};
 
 use super::*;
 use serde_json::Value;
@@ -245,5 +248,38 @@ fn cells_come_in_row_major_order(rt: HostRuntime) {
         let (at, count) = cell(&rt, "[10,8]", text, k);
         assert!(rt; at.as_slice() == want.as_slice(), "cell {k} of {text}");
         assert_eq!(rt; count, many);
+    }
+}
+
+/// The cell after so many steps from the first, and what the last step answered.
+fn walked(slab: &Slab, steps: u64) -> (Dims, bool)
+    requires slab { IsSlab slab.now }
+    requires some { 0 < cell_count (extents slab.now) }
+{
+    let mut at = slab.coords(0);
+    let mut more = true;
+    for _ in 0..steps {
+        more = slab.advance(&mut at);
+    }
+    (at, more)
+}
+
+#[test]
+fn steps_lead_from_cell_to_cell(rt: HostRuntime) {
+    let rows = [
+        ("[1:10:4,0:7:3]", 1u64, [1u64, 3u64], true),
+        ("[1:10:4,0:7:3]", 3, [5, 0], true),
+        ("[1:10:4,0:7:3]", 8, [9, 6], true),
+        ("[1:10:4,0:7:3]", 9, [1, 0], false),
+        ("[8:10,4:8]", 4, [9, 4], true),
+        ("[3,5]", 1, [3, 5], false),
+    ];
+    for (text, steps, want, more) in rows {
+        let slab = read_select(text, &shape(&rt, "[10,8]")).expect(&rt, "a selection");
+        if slab.count() > 0 {
+            let (at, found) = walked(&slab, steps);
+            assert!(rt; at.as_slice() == want.as_slice(), "step {steps} of {text}");
+            assert_eq!(rt; found, more);
+        }
     }
 }

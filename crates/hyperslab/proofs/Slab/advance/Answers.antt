@@ -1,6 +1,6 @@
 -- Each axis from the last goes to its next number, or back to its first.
-use Rattle.std.proofs.Common.{◌≡◌, ◌<◌, ◌≤◌, ◌-◌, length, arith}
-use Rattle.hyperslab.proofs.AdvanceLemmas.{IsAdvanced, IsBack, back_long, back_all, back_here, back_some, back_next, back_end}
+use Rattle.std.proofs.Common.{arith}
+use Rattle.hyperslab.proofs.AdvanceLemmas.{back_long, back_all, back_here, back_some, back_next, back_end}
 use Rattle.hyperslab.proofs.Slab.advance.Goals as goal
 
 pub loop-axis-init : goal.loop-axis-init
