@@ -5,6 +5,7 @@ use Rattle.std.specs.Result.{IsErrAnd}
 use Rattle.std.proofs.lemmas.Bool.{le-leb}
 use Rattle.serde_json.specs.Data.{Data}
 use Rattle.serde_json.specs.Find.{get}
+use Rattle.json_trees.specs.Faults.{Fails, Gives}
 use Rattle.hdf_types.specs.declared.faults.TypeFault.{TypeFault}
 use Rattle.hdf_types.specs.declared.faults.TypeFault.TheVariants as types
 use Rattle.hdf_types.specs.Elems.{Elem}
@@ -17,17 +18,18 @@ use Rattle.shapes.specs.declared.Shape.{Shape}
 use Rattle.shapes.specs.Shapes.{count_of}
 use Rattle.shapes.proofs.ShapeLemmas.{shape_read}
 use Rattle.hdf_values.specs.declared.attributes.AttributeFault.{AttributeFault}
-use Rattle.hdf_values.specs.Attributes.{Content, IsAttribute, IsTypeAt, IsValueAt, most_bytes, Fails, Gives, type_fault, attribute_of, type_or, typed_at, shape_or, value_or, valued_at, sized_at}
+use Rattle.hdf_values.specs.declared.attributes.AttributeFault.TheVariants.{NoMemory}
+use Rattle.hdf_values.specs.Attributes.{Content, IsAttribute, IsTypeAt, IsValueAt, most_bytes, type_fault, attribute_of, type_or, typed_at, shape_or, value_or, valued_at, sized_at}
 use Rattle.hdf_values.proofs.ShapedLemmas.{value_read}
 
 -- a fault of the type is the attribute's
 
-type_refused : (f : TypeFault) (e : AttributeFault) (r : Result Elem Fault) → e ≡ type_fault f → TypeFails f r → Fails e (type_or r)
+type_refused : (f : TypeFault) (e : AttributeFault) (r : Result Elem Fault) → e ≡ type_fault f → TypeFails f r → Fails NoMemory e (type_or r)
 unfolding fault
 type_refused types.NoMemory e r same h = inl same
 type_refused (types.Refused p c) e r same h = inr (ap type_or h ∙ ap Err (sym same))
 
-pub type_given : (r : Result ElemType AttributeFault) (f : TypeFault) (t : Result Elem Fault) → IsErrAnd r (λ e. e ≡ type_fault f) → TypeFails f t → Gives elem r (type_or t)
+pub type_given : (r : Result ElemType AttributeFault) (f : TypeFault) (t : Result Elem Fault) → IsErrAnd r (λ e. e ≡ type_fault f) → TypeFails f t → Gives (Fails NoMemory) elem r (type_or t)
 type_given (Ok kind) f t h k = absurd h
 type_given (Err e) f t h k = type_refused f e t h k
 

@@ -10,7 +10,7 @@ use Rattle.hdf_types.specs.Elems.{Elem, int, text, compound, no_fields, field}
 use Rattle.hdf_types.specs.Reading.{size_of, int_size}
 use Rattle.hdf_types.specs.Types.{IsSoundType, IsFormed, IsWidth}
 use Rattle.hdf_values.specs.Elements.{Fits, bytes_of, normal, decoded, IsEncoded}
-use Rattle.hdf_values.specs.Pieces.{pieces, piece_at, pieces_at, with_pieces, AreEncoded, IsFirstUnencoded}
+use Rattle.hdf_values.specs.Nested.{pieces, piece_at, pieces_at, with_pieces, AreEncoded, IsFirstUnencoded}
 use Rattle.hdf_values.proofs.ElementLemmas.{decoded-bytes_of, normal_fits, bytes_of-normal}
 use Rattle.hdf_values.proofs.EncodedLemmas.{length-encoded}
 

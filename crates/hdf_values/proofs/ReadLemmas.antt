@@ -7,13 +7,12 @@ use Rattle.std.proofs.lemmas.List.{append_assoc, append-nil, drop_more, take_all
 use Rattle.std.proofs.lemmas.Nat.{mul-le}
 use Rattle.serde_json.specs.Data.{Data}
 use Rattle.json_trees.specs.Trees.{list_in}
-use Rattle.json_trees.specs.Faults.{◌>>=◌}
+use Rattle.json_trees.specs.Faults.{◌>>=◌, Fails}
 use Rattle.json_trees.proofs.TreeLemmas.{list_in_array}
 use Rattle.hdf_types.specs.Elems.{Elem}
 use Rattle.shapes.specs.Places.{cell_count}
 use Rattle.hdf_values.specs.declared.faults.ValueFault.{ValueFault}
-use Rattle.hdf_values.specs.declared.faults.ValueFault.TheVariants.{NotOfType}
-use Rattle.hdf_values.specs.Faults.{Fails}
+use Rattle.hdf_values.specs.declared.faults.ValueFault.TheVariants.{NoMemory, NotOfType}
 use Rattle.hdf_values.specs.Nested.{FitsNested, nested_bytes, each_nested, nested_from, Appends, AppendsEach}
 use Rattle.hdf_values.proofs.NestedLemmas.{nested_read, first_piece}
 
@@ -69,7 +68,7 @@ members_fit e (n ∷ ns) rest d ds h r k q all =
 more_read : (read : ℕ → Data → Result (List ℕ) ValueFault) (c p : ℕ) (d : Data) (ds : List Data) (bs : List ℕ) (r : Result (List ℕ) ValueFault) → read p d ≡ Ok bs → each_nested read c (p + c) ds ≡ r → each_nested read c p (d ∷ ds) ≡ (r >>= λ rest. Ok (bs ++ rest))
 more_read read c p d ds bs r h k = rw (h, k)
 
-fails_more : (f : ValueFault) (read : ℕ → Data → Result (List ℕ) ValueFault) (c p : ℕ) (d : Data) (ds : List Data) (bs : List ℕ) → read p d ≡ Ok bs → Fails f (each_nested read c (p + c) ds) → Fails f (each_nested read c p (d ∷ ds))
+fails_more : (f : ValueFault) (read : ℕ → Data → Result (List ℕ) ValueFault) (c p : ℕ) (d : Data) (ds : List Data) (bs : List ℕ) → read p d ≡ Ok bs → Fails NoMemory f (each_nested read c (p + c) ds) → Fails NoMemory f (each_nested read c p (d ∷ ds))
 fails_more f read c p d ds bs h (inl e) = inl e
 fails_more f read c p d ds bs h (inr e) = inr (more_read read c p d ds bs (Err f) h e)
 

@@ -1,5 +1,5 @@
 -- Attributes: a type, a shape and the bytes of a value, as one tree spells them.
-use Rattle.std.specs.Prelude.{◌≡◌, ℕ, ◌*◌, ◌≤◌, ◌⊎◌, List, [], Option, Some, None, Result, Ok, Err, nat_le, if◌then◌else◌, codes}
+use Rattle.std.specs.Prelude.{◌≡◌, ℕ, ◌*◌, ◌≤◌, List, [], Option, Some, None, Result, Ok, Err, nat_le, if◌then◌else◌, codes}
 use Rattle.serde_json.specs.Data.{Data}
 use Rattle.serde_json.specs.Find.{get}
 use Rattle.json_trees.specs.Faults.{◌>>=◌}
@@ -21,7 +21,7 @@ use Rattle.hdf_values.specs.declared.faults.ValueFault.TheVariants.{NotOfType}
 use Rattle.hdf_values.specs.declared.attributes.Attribute.{Attribute}
 use Rattle.hdf_values.specs.declared.attributes.AttributeFault.{AttributeFault}
 use Rattle.hdf_values.specs.declared.attributes.AttributeFault.TheVariants.{NoMemory, BadType, BadShape, TooLarge, BadValue}
-use Rattle.hdf_values.specs.Pieces.{AreEncoded}
+use Rattle.hdf_values.specs.Nested.{AreEncoded}
 use Rattle.hdf_values.specs.Shaped.{IsValue, value_from}
 
 -- the most bytes of an attribute's value
@@ -104,12 +104,3 @@ attribute_of d =
     shape_or (shape_of (get (codes "shape") d) None) >>= λ s.
     sized_at e s (value_or (valued_at e s (get (codes "value") d))) >>= λ bs.
     Ok (record { kind = e; shape = s; bytes = bs })
-
--- a fault is that of the tests, or memory ran out
-abbrev pub Fails : {A : Type 0} → AttributeFault → Result A AttributeFault → Type 0
-Fails f r = (f ≡ NoMemory) ⊎ (r ≡ Err f)
-
--- a result is that of the tests, seen through `see`, or memory ran out
-abbrev pub Gives : {A T : Type 0} → (T → A) → Result T AttributeFault → Result A AttributeFault → Type 0
-Gives see (Ok x) r = r ≡ Ok (see x)
-Gives see (Err f) r = Fails f r

@@ -2,7 +2,6 @@ pub mod Faults
 pub mod Integers
 pub mod Texts
 pub mod Elements
-pub mod Pieces
 pub mod Nested
 pub mod Shaped
 pub mod Attributes

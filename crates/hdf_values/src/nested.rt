@@ -10,9 +10,8 @@ ghost use Rattle.hdf_types.specs.Views.{elem};
 ghost use Rattle.shapes.specs.Places.{cell_count};
 ghost use Rattle.hdf_values.specs.declared.TheConstants.{MAX_AHEAD};
 ghost use Rattle.hdf_values.specs.Elements.{Fits};
-ghost use Rattle.hdf_values.specs.Faults.{Gives};
-ghost use Rattle.hdf_values.specs.Nested.{FitsNested, nested_bytes, nested_normal, nested_from, nested_decoded, Appends, AppendsEach};
-ghost use Rattle.hdf_values.specs.Pieces.{AreEncoded, pieces};
+ghost use Rattle.json_trees.specs.Faults.{Fails, Gives};
+ghost use Rattle.hdf_values.specs.Nested.{FitsNested, nested_bytes, nested_normal, nested_from, nested_decoded, Appends, AppendsEach, AreEncoded, pieces};
 
 use crate::elements::{decode, encode_part};
 use crate::{MAX_AHEAD, ValueFault};
@@ -37,8 +36,8 @@ pub fn read_nested(
 ) -> Result<Vec<u8>, ValueFault>
     requires sound { IsSoundType (elem kind.now) }
     ensures fits { IfOk result (λ v. FitsNested (elem kind.now) extents.now (view tree.now) × (v.items ≡ nested_bytes (elem kind.now) extents.now (view tree.now))) }
-    ensures only { FitsNested (elem kind.now) extents.now (view tree.now) → Gives (λ v. v.items) result (Ok (nested_bytes (elem kind.now) extents.now (view tree.now))) }
-    ensures first { Gives (λ v. v.items) result (nested_from (elem kind.now) extents.now 0 (view tree.now)) }
+    ensures only { FitsNested (elem kind.now) extents.now (view tree.now) → Gives (Fails ValueFault.NoMemory) (λ v. v.items) result (Ok (nested_bytes (elem kind.now) extents.now (view tree.now))) }
+    ensures first { Gives (Fails ValueFault.NoMemory) (λ v. v.items) result (nested_from (elem kind.now) extents.now 0 (view tree.now)) }
     ensures encoded { IfOk result (λ v. AreEncoded (elem kind.now) (cell_count extents.now) v.items) }
 {
     let size = kind.size() as usize;
