@@ -14,6 +14,7 @@ ghost use Rattle.json_trees.specs.Faults.{Fails, Gives};
 ghost use Rattle.hdf_values.specs.Nested.{FitsNested, nested_bytes, nested_normal, nested_from, nested_decoded, Appends, AppendsEach, AreEncoded, pieces};
 
 use crate::elements::{decode, encode_part};
+use crate::integers::{ints_list, read_ints};
 use crate::{MAX_AHEAD, ValueFault};
 use hdf_types::ElemType;
 use json_trees::list_items;
@@ -106,6 +107,9 @@ fn read_members(
     ensures fits { IfOk result (λ _. AllByRecursion (FitsNested (elem kind.now) extents.now) (map view items.now)) }
     ensures place { IfOk result (λ next. next * size ≡ length out.new.items) }
 {
+    if let (ElemType::Int(int), true) = (kind, extents.is_empty()) {
+        return read_ints(int, items, place, out);
+    }
     let mut next = place;
     for item in items {
         next = read_axes(kind, size, extents, item, next, out)?;
@@ -188,6 +192,9 @@ fn members_list(
     requires encoded { AreEncoded (elem kind.now) (count * cell_count extents.now) bytes.now }
     ensures { IfOk result (λ list. map view list.items ≡ map (nested_decoded (elem kind.now) extents.now) (pieces count (cell_count extents.now * size_of (elem kind.now)) bytes.now)) }
 {
+    if let (ElemType::Int(int), true) = (kind, extents.is_empty()) {
+        return ints_list(alloc, int, count, bytes);
+    }
     let mut list = Vec::with_capacity(alloc, count as usize)?;
     let step = bytes.len() / (count as usize).max(1);
     let mut left = bytes;
