@@ -57,13 +57,13 @@ pieces-append (suc a) b (suc n) k xs ys q e =
     let rest : length (drop k xs) ≡ a * k = omega (arith, length-drop k xs) in
     rw (take-append-le k xs ys enough, drop-append-le k xs ys enough, pieces-append a b n k (drop k xs) ys (omega arith) rest)
 
-piece-first : (k : ℕ) (bs : List ℕ) → piece_at k 0 bs ≡ take k bs
+pub piece-first : (k : ℕ) (bs : List ℕ) → piece_at k 0 bs ≡ take k bs
 piece-first k bs =
     let none : 0 * k ≡ 0 = omega arith in
     rw none
 
 -- the piece behind, in what is behind the first
-piece-later : (k i : ℕ) (bs : List ℕ) → piece_at k (suc i) bs ≡ piece_at k i (drop k bs)
+pub piece-later : (k i : ℕ) (bs : List ℕ) → piece_at k (suc i) bs ≡ piece_at k i (drop k bs)
 piece-later k i bs =
     let more : suc i * k ≡ k + i * k = omega arith in
     rw (more, drop-drop (i * k) k bs)

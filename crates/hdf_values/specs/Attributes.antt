@@ -1,6 +1,6 @@
 -- Attributes: a type, a shape and the bytes of a value, as one tree spells them.
-use Rattle.std.specs.Prelude.{◌≡◌, ℕ, ◌*◌, ◌≤◌, List, [], Option, Some, None, Result, Ok, Err, nat_le, if◌then◌else◌, codes}
-use Rattle.serde_json.specs.Data.{Data}
+use Rattle.std.specs.Prelude.{◌≡◌, ℕ, ◌*◌, ◌≤◌, Bool, true, false, List, [], Option, Some, None, Result, Ok, Err, nat_le, if◌then◌else◌, codes}
+use Rattle.serde_json.specs.Data.{Data, object, no_members, member}
 use Rattle.serde_json.specs.Find.{get}
 use Rattle.json_trees.specs.Faults.{◌>>=◌}
 use Rattle.hdf_types.specs.declared.faults.Cause.TheVariants.{NotAType}
@@ -13,6 +13,9 @@ use Rattle.hdf_types.specs.Faults.{Fault}
 use Rattle.hdf_types.specs.Reading.{size_of, type_of}
 use Rattle.hdf_types.specs.Types.{IsType, IsSoundType}
 use Rattle.shapes.specs.declared.Shape.{Shape}
+use Rattle.shapes.specs.declared.printing.Form.{Form}
+use Rattle.shapes.specs.Printed.{shape_tree}
+use Rattle.hdf_types.specs.Printed.{type_tree}
 use Rattle.shapes.specs.declared.ShapeFault.{ShapeFault}
 use Rattle.shapes.specs.Shapes.{IsShape, IsSound, shape_of, count_of}
 use Rattle.hdf_values.specs.declared.faults.ValueFault.{ValueFault}
@@ -22,7 +25,7 @@ use Rattle.hdf_values.specs.declared.attributes.Attribute.{Attribute}
 use Rattle.hdf_values.specs.declared.attributes.AttributeFault.{AttributeFault}
 use Rattle.hdf_values.specs.declared.attributes.AttributeFault.TheVariants.{NoMemory, BadType, BadShape, TooLarge, BadValue}
 use Rattle.hdf_values.specs.Nested.{AreEncoded}
-use Rattle.hdf_values.specs.Shaped.{IsValue, value_from}
+use Rattle.hdf_values.specs.Shaped.{IsValue, value_from, value_tree}
 
 -- the most bytes of an attribute's value
 abbrev pub most_bytes : ℕ
@@ -61,6 +64,16 @@ pub record IsSoundAttribute (c : Content) : Type 0 where
   pub shape : IsSound c.shape
   pub small : count_of c.shape * size_of c.kind ≤ most_bytes
   pub encoded : AreEncoded c.kind (count_of c.shape) c.bytes
+
+-- ---- the tree of an attribute
+
+-- its shape and its type, and its value where it is asked for
+abbrev pub content_tree : Content → Form → Bool → Data
+content_tree c form true =
+    object (member (codes "shape") (shape_tree c.shape form) (member (codes "type") (type_tree c.kind)
+    (member (codes "value") (value_tree c.kind c.shape c.bytes) no_members)))
+content_tree c form false =
+    object (member (codes "shape") (shape_tree c.shape form) (member (codes "type") (type_tree c.kind) no_members))
 
 -- ---- the tests in order: the first that fails decides
 
