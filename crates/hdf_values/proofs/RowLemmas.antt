@@ -29,7 +29,7 @@ all_at F [] i d h k = absurd (omega arith)
 all_at F (x ∷ xs) zero d h k = k.0
 all_at F (x ∷ xs) (suc i) d h k = all_at F xs i d (omega arith) k.1
 
-item_at : (items : Items) (i : ℕ) → i < length (list_of items) → get_item i items ≡ Some (get_or (list_of items) i null)
+pub item_at : (items : Items) (i : ℕ) → i < length (list_of items) → get_item i items ≡ Some (get_or (list_of items) i null)
 item_at no_items i h = absurd (omega arith)
 item_at (item d ds) zero h = refl
 item_at (item d ds) (suc i) h = item_at ds i (omega arith)

@@ -1,5 +1,5 @@
 -- Attributes: a type, a shape and the bytes of a value, as one tree spells them.
-use Rattle.std.specs.Prelude.{◌≡◌, ℕ, ◌*◌, ◌≤◌, Bool, true, false, List, [], Option, Some, None, Result, Ok, Err, nat_le, if◌then◌else◌, codes}
+use Rattle.std.specs.Prelude.{ℕ, ◌*◌, ◌≤◌, Bool, true, false, List, [], Option, Some, None, Result, Ok, Err, nat_le, if◌then◌else◌, codes}
 use Rattle.serde_json.specs.Data.{Data, object, no_members, member}
 use Rattle.serde_json.specs.Find.{get}
 use Rattle.json_trees.specs.Faults.{◌>>=◌}

@@ -3,6 +3,7 @@ pub mod Integers
 pub mod Texts
 pub mod Elements
 pub mod Nested
+pub mod Lowest
 pub mod Shaped
 pub mod Attributes
 pub use Rattle.json_trees.specs.Trees

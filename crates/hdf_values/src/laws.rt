@@ -15,6 +15,7 @@ ghost use Rattle.shapes.specs.Printed.{shape_tree};
 ghost use Rattle.shapes.specs.Places.{IsInside, cell_count, place};
 ghost use Rattle.hdf_values.specs.Elements.{Fits, bytes_of, normal, decoded, encoded, zero_of, IsEncoded};
 ghost use Rattle.hdf_values.specs.Nested.{FitsNested, elements, tree_at, nested_bytes, nested_normal, nested_decoded, nested_from, AreEncoded, piece_at, pieces_at, with_pieces};
+ghost use Rattle.hdf_values.specs.Lowest.{HasFault, IsLowest, IsFirstFault};
 ghost use Rattle.hdf_values.specs.Shaped.{IsValue, value_from, value_tree};
 ghost use Rattle.hdf_values.specs.Attributes.{Content, IsAttribute, IsSoundAttribute, attribute_of};
 ghost use Rattle.hdf_values.specs.declared.faults.Misfit.{Misfit};
@@ -81,6 +82,20 @@ pub fn nested_or_fault()
         × (nested_bytes e dims (nested_decoded e dims bs) ≡ bs) }
     ensures rows { (e : Elem) (dims coords : List ℕ) (d : Data) → FitsNested e dims d → IsInside coords dims → tree_at coords d ≡ Some (slice_index_or (elements dims d) (place coords dims) null) }
     ensures bytes { (e : Elem) (dims coords : List ℕ) (d : Data) → IsSoundType e → FitsNested e dims d → IsInside coords dims → (x : Data) × (tree_at coords d ≡ Some x) × Fits e x × (piece_at (size_of e) (place coords dims) (nested_bytes e dims d) ≡ bytes_of e x) }
+{}
+
+/// The fault that is told of an element is the lowest of all that its parts have, and a value has
+/// none.
+pub fn lowest_fault_is_told()
+    ensures lowest { (e : Elem) (d : Data) (m : Misfit) → ((encoded e d ≡ Err m) ↔ IsLowest e d m) }
+    ensures none { (e : Elem) (d : Data) (m : Misfit) → Fits e d → ¬ HasFault e d m }
+{}
+
+/// The fault that is told of nested values is that of a list or an element, and stands at its
+/// place, and all elements before it are there without a fault.
+pub fn first_fault_is_told()
+    ensures { (e : Elem) (dims : List ℕ) (p : ℕ) (d : Data) (f : ValueFault)
+        → nested_from e dims p d ≡ Err f → IsFirstFault e dims p d f }
 {}
 
 /// In the tree that bytes stand for the element at coordinates, which is found by going down the

@@ -1,5 +1,5 @@
 -- Piece by piece.
-use Rattle.std.proofs.Common.{◌≡◌, suc, ◌≤◌, ◌-◌, ◌*◌, length, map, take, drop, sym, ap, ◌∙◌, arith}
+use Rattle.std.proofs.Common.{◌≡◌, suc, ◌-◌, ◌*◌, length, map, drop, sym, ap, ◌∙◌, arith}
 use Rattle.std.proofs.lemmas.List.{append-nil, length-drop}
 use Rattle.serde_json.specs.View.{view}
 use Rattle.hdf_types.specs.Elems.{int}
