@@ -1,10 +1,11 @@
 -- An attribute that a tree spells is what the tests in order give.
 use Rattle.std.proofs.Common.{◌≡◌, ℕ, ◌*◌, ◌≤◌, List, Option, Some, None, Result, Ok, Err, inl, inr, sym, refl, ap, ◌∙◌}
-use Rattle.std.specs.Prelude.{codes}
+use Rattle.std.specs.Prelude.{codes, Bool, true, if◌then◌else◌}
 use Rattle.std.specs.Result.{IsErrAnd}
 use Rattle.std.proofs.lemmas.Bool.{le-leb}
 use Rattle.serde_json.specs.Data.{Data}
 use Rattle.serde_json.specs.Find.{get}
+use Rattle.json_trees.specs.Faults.{Fails, Gives}
 use Rattle.hdf_types.specs.declared.faults.TypeFault.{TypeFault}
 use Rattle.hdf_types.specs.declared.faults.TypeFault.TheVariants as types
 use Rattle.hdf_types.specs.Elems.{Elem}
@@ -12,22 +13,28 @@ use Rattle.hdf_types.specs.declared.types.ElemType.{ElemType}
 use Rattle.hdf_types.specs.Views.{elem}
 use Rattle.hdf_types.specs.Faults.{Fault, Fails as TypeFails, fault}
 use Rattle.hdf_types.specs.Reading.{size_of}
+use Rattle.hdf_types.specs.Printed.{type_tree}
 use Rattle.hdf_types.proofs.TypeLemmas.{type_read}
+use Rattle.hdf_types.proofs.PrintLemmas.{reads_back as type_back}
 use Rattle.shapes.specs.declared.Shape.{Shape}
-use Rattle.shapes.specs.Shapes.{count_of}
-use Rattle.shapes.proofs.ShapeLemmas.{shape_read}
+use Rattle.shapes.specs.declared.printing.Form.{Form}
+use Rattle.shapes.specs.Printed.{shape_tree}
+use Rattle.shapes.specs.Shapes.{count_of, shape_of}
+use Rattle.shapes.proofs.ShapeLemmas.{shape_read, reads_back as shape_back}
 use Rattle.hdf_values.specs.declared.attributes.AttributeFault.{AttributeFault}
-use Rattle.hdf_values.specs.Attributes.{Content, IsAttribute, IsTypeAt, IsValueAt, most_bytes, Fails, Gives, type_fault, attribute_of, type_or, typed_at, shape_or, value_or, valued_at, sized_at}
-use Rattle.hdf_values.proofs.ShapedLemmas.{value_read}
+use Rattle.hdf_values.specs.declared.attributes.AttributeFault.TheVariants.{NoMemory, TooLarge}
+use Rattle.hdf_values.specs.Attributes.{Content, IsAttribute, IsSoundAttribute, content_tree, IsTypeAt, IsValueAt, most_bytes, type_fault, attribute_of, type_or, typed_at, shape_or, value_or, valued_at, sized_at}
+use Rattle.hdf_values.specs.Shaped.{value_tree}
+use Rattle.hdf_values.proofs.ShapedLemmas.{value_read, value_back}
 
 -- a fault of the type is the attribute's
 
-type_refused : (f : TypeFault) (e : AttributeFault) (r : Result Elem Fault) → e ≡ type_fault f → TypeFails f r → Fails e (type_or r)
+type_refused : (f : TypeFault) (e : AttributeFault) (r : Result Elem Fault) → e ≡ type_fault f → TypeFails f r → Fails NoMemory e (type_or r)
 unfolding fault
 type_refused types.NoMemory e r same h = inl same
 type_refused (types.Refused p c) e r same h = inr (ap type_or h ∙ ap Err (sym same))
 
-pub type_given : (r : Result ElemType AttributeFault) (f : TypeFault) (t : Result Elem Fault) → IsErrAnd r (λ e. e ≡ type_fault f) → TypeFails f t → Gives elem r (type_or t)
+pub type_given : (r : Result ElemType AttributeFault) (f : TypeFault) (t : Result Elem Fault) → IsErrAnd r (λ e. e ≡ type_fault f) → TypeFails f t → Gives (Fails NoMemory) elem r (type_or t)
 type_given (Ok kind) f t h k = absurd h
 type_given (Err e) f t h k = type_refused f e t h k
 
@@ -52,3 +59,21 @@ attribute_read d c h =
 
 pub one_of : (a b : Content) (r : Result Content AttributeFault) → r ≡ Ok a → r ≡ Ok b → a ≡ b
 one_of a b r h k = cc
+
+-- ---- what is printed spells the attribute again
+
+-- a tree that has the printed type, shape and value at their keys
+pub printed_back : (d : Data) (c : Content) (form : Form) → IsSoundAttribute c → get (codes "type") d ≡ Some (type_tree c.kind)
+    → get (codes "shape") d ≡ Some (shape_tree c.shape form) → get (codes "value") d ≡ Some (value_tree c.kind c.shape c.bytes) → attribute_of d ≡ Ok c
+unfolding attribute_of
+printed_back d c form sound t s v =
+    let kind = ap typed_at t ∙ ap type_or (type_back c.kind (type_tree c.kind) sound.kind refl) in
+    let shape = ap (λ (o : Option Data). shape_or (shape_of o None)) s ∙ ap shape_or (shape_back c.shape form (shape_tree c.shape form) sound.shape refl) in
+    let value = ap (λ (o : Option Data). value_or (valued_at c.kind c.shape o)) v ∙ ap value_or (value_back c.kind c.shape c.bytes sound.kind sound.encoded) in
+    let bytes = ap (sized_at c.kind c.shape) value ∙ ap (λ b. if b then Ok c.bytes else Err TooLarge) (le-leb (count_of c.shape * size_of c.kind) most_bytes sound.small) in
+    rw (kind, shape, bytes) refl
+
+pub content_back : (c : Content) (form : Form) (with_value : Bool) (d : Data) → IsSoundAttribute c → with_value ≡ true → d ≡ content_tree c form with_value → attribute_of d ≡ Ok c
+content_back c form with_value d sound w is =
+    let same = is ∙ ap (content_tree c form) w in
+    ap attribute_of same ∙ printed_back (content_tree c form true) c form sound refl refl refl

@@ -5,7 +5,7 @@ use Rattle.std.proofs.Math.Nat.{pow-suc, pow-le-pow_right}
 use Rattle.std.proofs.lemmas.Bool.{and_parts, and_from, lt-ltb, le-ltb, cases_lt}
 use Rattle.std.specs.Int.{w128}
 use Rattle.std.proofs.lemmas.Int.{ints, to_z-of_z}
-use Rattle.std.proofs.lemmas.List.{append-nil, append_assoc, reverse-append, reverse-reverse, length-reverse, length-set, take_more, take_more_set, take_all, drop_more, replicate_more}
+use Rattle.std.proofs.lemmas.List.{append-nil, append_assoc, length-append, reverse-append, reverse-reverse, length-reverse, length-set, take_more, take_more_set, take_all, drop_more, replicate_more}
 use Rattle.std.proofs.lemmas.Nat.{div_below}
 use lib.Signed.{le_z, le_z_yes}
 use mathlib.Core.List.{reverse_aux, reverse-cons}
@@ -268,3 +268,12 @@ pub written_all : (out : List ℕ) (i rest n : ℕ) → length out ≤ i → tak
 written_all out i rest n h e =
     let none : length out - i ≡ 0 = omega arith in
     sym (ap (λ m. take i out ++ low_first m rest) none ∙ append-nil (take i out) ∙ take_all i out h) ∙ e
+
+one_behind : (p k n m : ℕ) → p * k ≡ n → m ≡ n + k → (p + 1) * k ≡ m
+one_behind p k n m h e = omega arith
+
+-- the place behind one number more
+pub place_behind : (t : IntType) (z : ℤ) (p : ℕ) (old new : List ℕ) → new ≡ old ++ int_bytes t z → p * int_size t.bits ≡ length old → (p + 1) * int_size t.bits ≡ length new
+place_behind t z p old new e h =
+    let more = ap length e ∙ length-append old (int_bytes t z) ∙ ap (λ k. length old + k) (length-int_bytes t z) in
+    one_behind p (int_size t.bits) (length old) (length new) h more

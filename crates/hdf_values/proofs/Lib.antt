@@ -9,5 +9,7 @@ pub mod NestedLemmas
 pub mod ReadLemmas
 pub mod WriteLemmas
 pub mod RowLemmas
+pub mod LowestLemmas
+pub mod FirstLemmas
 pub mod ShapedLemmas
 pub mod AttributeLemmas

@@ -14,8 +14,7 @@ use Rattle.hdf_types.specs.Types.{IsSoundType}
 use Rattle.shapes.specs.Places.{cell_count}
 use Rattle.hdf_values.specs.declared.faults.ValueFault.{ValueFault}
 use Rattle.hdf_values.specs.Elements.{Fits, bytes_of, decoded, IsEncoded}
-use Rattle.hdf_values.specs.Nested.{FitsNested, elements, nested_bytes, nested_normal, nested_decoded, each_nested, counted, nested_from}
-use Rattle.hdf_values.specs.Pieces.{pieces, AreEncoded}
+use Rattle.hdf_values.specs.Nested.{FitsNested, elements, nested_bytes, nested_normal, nested_decoded, each_nested, counted, nested_from, pieces, AreEncoded}
 use Rattle.hdf_values.proofs.ElementLemmas.{list_of-items_of, encoded-fits, length-bytes_of, decoded-bytes_of}
 use Rattle.hdf_values.proofs.PieceLemmas.{all_append, length-pieces, each_encoded, one_encoded, decoded_fits}
 

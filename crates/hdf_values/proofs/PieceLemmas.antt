@@ -10,7 +10,7 @@ use Rattle.hdf_types.specs.Elems.{Elem, int, text, compound, no_fields, field}
 use Rattle.hdf_types.specs.Reading.{size_of, int_size}
 use Rattle.hdf_types.specs.Types.{IsSoundType, IsFormed, IsWidth}
 use Rattle.hdf_values.specs.Elements.{Fits, bytes_of, normal, decoded, IsEncoded}
-use Rattle.hdf_values.specs.Pieces.{pieces, piece_at, pieces_at, with_pieces, AreEncoded, IsFirstUnencoded}
+use Rattle.hdf_values.specs.Nested.{pieces, piece_at, pieces_at, with_pieces, AreEncoded, IsFirstUnencoded}
 use Rattle.hdf_values.proofs.ElementLemmas.{decoded-bytes_of, normal_fits, bytes_of-normal}
 use Rattle.hdf_values.proofs.EncodedLemmas.{length-encoded}
 
@@ -57,13 +57,13 @@ pieces-append (suc a) b (suc n) k xs ys q e =
     let rest : length (drop k xs) ≡ a * k = omega (arith, length-drop k xs) in
     rw (take-append-le k xs ys enough, drop-append-le k xs ys enough, pieces-append a b n k (drop k xs) ys (omega arith) rest)
 
-piece-first : (k : ℕ) (bs : List ℕ) → piece_at k 0 bs ≡ take k bs
+pub piece-first : (k : ℕ) (bs : List ℕ) → piece_at k 0 bs ≡ take k bs
 piece-first k bs =
     let none : 0 * k ≡ 0 = omega arith in
     rw none
 
 -- the piece behind, in what is behind the first
-piece-later : (k i : ℕ) (bs : List ℕ) → piece_at k (suc i) bs ≡ piece_at k i (drop k bs)
+pub piece-later : (k i : ℕ) (bs : List ℕ) → piece_at k (suc i) bs ≡ piece_at k i (drop k bs)
 piece-later k i bs =
     let more : suc i * k ≡ k + i * k = omega arith in
     rw (more, drop-drop (i * k) k bs)

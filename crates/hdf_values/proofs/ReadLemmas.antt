@@ -1,5 +1,5 @@
 -- Elements read one after another, and the room taken for them.
-use Rattle.std.proofs.Common.{◌≡◌, ℕ, zero, suc, ◌+◌, ◌*◌, min, ◌<◌, ◌≤◌, false, List, [], ◌∷◌, ◌++◌, length, take, drop, get_or, Some, None, Result, Ok, Err, inl, inr, refl, sym, ap, ◌∙◌, arith, mul_assoc}
+use Rattle.std.proofs.Common.{◌≡◌, ℕ, zero, suc, ◌+◌, ◌*◌, min, ◌<◌, ◌≤◌, true, false, List, [], ◌∷◌, ◌++◌, length, take, drop, get_or, Some, None, Result, Ok, Err, inl, inr, refl, sym, ap, subst, ◌∙◌, arith, mul_assoc}
 use Rattle.std.specs.Prelude.{◌==◌}
 use Rattle.std.specs.List.{AllByRecursion}
 use Rattle.std.proofs.lemmas.Bool.{cases_lt, false≢true}
@@ -7,14 +7,16 @@ use Rattle.std.proofs.lemmas.List.{append_assoc, append-nil, drop_more, take_all
 use Rattle.std.proofs.lemmas.Nat.{mul-le}
 use Rattle.serde_json.specs.Data.{Data}
 use Rattle.json_trees.specs.Trees.{list_in}
-use Rattle.json_trees.specs.Faults.{◌>>=◌}
+use Rattle.json_trees.specs.Faults.{◌>>=◌, Fails}
 use Rattle.json_trees.proofs.TreeLemmas.{list_in_array}
-use Rattle.hdf_types.specs.Elems.{Elem}
+use Rattle.hdf_types.specs.declared.IntType.{IntType}
+use Rattle.hdf_types.specs.Elems.{Elem, int}
+use Rattle.hdf_values.specs.Elements.{Fits}
 use Rattle.shapes.specs.Places.{cell_count}
 use Rattle.hdf_values.specs.declared.faults.ValueFault.{ValueFault}
-use Rattle.hdf_values.specs.declared.faults.ValueFault.TheVariants.{NotOfType}
-use Rattle.hdf_values.specs.Faults.{Fails}
+use Rattle.hdf_values.specs.declared.faults.ValueFault.TheVariants.{NoMemory, NotOfType}
 use Rattle.hdf_values.specs.Nested.{FitsNested, nested_bytes, each_nested, nested_from, Appends, AppendsEach}
+use Rattle.hdf_values.proofs.PieceLemmas.{none_left}
 use Rattle.hdf_values.proofs.NestedLemmas.{nested_read, first_piece}
 
 -- ---- room for so many bytes
@@ -69,7 +71,7 @@ members_fit e (n ∷ ns) rest d ds h r k q all =
 more_read : (read : ℕ → Data → Result (List ℕ) ValueFault) (c p : ℕ) (d : Data) (ds : List Data) (bs : List ℕ) (r : Result (List ℕ) ValueFault) → read p d ≡ Ok bs → each_nested read c (p + c) ds ≡ r → each_nested read c p (d ∷ ds) ≡ (r >>= λ rest. Ok (bs ++ rest))
 more_read read c p d ds bs r h k = rw (h, k)
 
-fails_more : (f : ValueFault) (read : ℕ → Data → Result (List ℕ) ValueFault) (c p : ℕ) (d : Data) (ds : List Data) (bs : List ℕ) → read p d ≡ Ok bs → Fails f (each_nested read c (p + c) ds) → Fails f (each_nested read c p (d ∷ ds))
+fails_more : (f : ValueFault) (read : ℕ → Data → Result (List ℕ) ValueFault) (c p : ℕ) (d : Data) (ds : List Data) (bs : List ℕ) → read p d ≡ Ok bs → Fails NoMemory f (each_nested read c (p + c) ds) → Fails NoMemory f (each_nested read c p (d ∷ ds))
 fails_more f read c p d ds bs h (inl e) = inl e
 fails_more f read c p d ds bs h (inr e) = inr (more_read read c p d ds bs (Err f) h e)
 
@@ -91,3 +93,8 @@ pub whole_bytes : (e : Elem) (dims : List ℕ) (d : Data) (old new : List ℕ) (
 whole_bytes e dims d old new next q h k =
     let same : k.0 ≡ nested_bytes e dims d = cc (k.1, nested_read e dims 0 d h) in
     k.2 ∙ ap (λ l. l ++ k.0) q ∙ same
+
+-- numbers without an extent
+pub ints_fit : (e : Elem) (t : IntType) (dims : List ℕ) (ds : List Data) → e ≡ int t → true ≡ (length dims == 0) → AllByRecursion (Fits (int t)) ds → AllByRecursion (FitsNested e dims) ds
+ints_fit e t [] ds is none h = subst (λ (x : Elem). AllByRecursion (Fits x) ds) (sym is) h
+ints_fit e t (n ∷ ns) ds is none h = absurd (omega (arith, none_left (n ∷ ns) none))

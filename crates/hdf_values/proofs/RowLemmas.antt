@@ -1,7 +1,8 @@
 -- The elements stand in row-major order.
-use Rattle.std.proofs.Common.{◌≡◌, ℕ, zero, suc, ◌+◌, ◌*◌, ◌<◌, List, [], ◌∷◌, length, take, drop, get_or, Some, refl, sym, ap, ◌∙◌, arith}
+use Rattle.std.proofs.Common.{◌≡◌, ℕ, zero, suc, ◌+◌, ◌-◌, ◌*◌, ◌<◌, ◌≤◌, List, [], ◌∷◌, length, map, take, drop, get_or, Some, refl, sym, ap, ◌∙◌, arith, mul_assoc}
 use Rattle.std.specs.List.{AllByRecursion, flat_map}
-use Rattle.std.proofs.lemmas.List.{length-take-le, take-append-drop}
+use Rattle.std.proofs.lemmas.List.{length-take-le, length-drop, length-map, take-append-drop, take-take, take_all, drop-drop, drop-take}
+use Rattle.std.proofs.lemmas.Nat.{mul-le}
 use Rattle.std.proofs.lemmas.List.Concat.{get_or-flat_map}
 use Rattle.std.proofs.Math.Seq.{drop-append-add}
 use Rattle.serde_json.specs.Data.{Data, Items, no_items, item, null}
@@ -10,12 +11,17 @@ use Rattle.json_trees.specs.Trees.{list_of, list_in}
 use Rattle.hdf_types.specs.Elems.{Elem}
 use Rattle.hdf_types.specs.Reading.{size_of}
 use Rattle.hdf_types.specs.Types.{IsSoundType}
+use Rattle.serde_json.specs.View.{items_of}
+use Rattle.shapes.specs.declared.Shape.{Shape}
+use Rattle.shapes.specs.declared.Shape.TheVariants.{Null, Scalar, Simple}
+use Rattle.shapes.specs.Shapes.{LiesIn, count_of, dims_of}
 use Rattle.shapes.specs.Places.{cell_count, IsInside, place}
 use Rattle.shapes.proofs.PlaceLemmas.{place_below}
-use Rattle.hdf_values.specs.Elements.{Fits, bytes_of}
-use Rattle.hdf_values.specs.Nested.{FitsNested, elements, nested_bytes, tree_at}
-use Rattle.hdf_values.proofs.ElementLemmas.{length-bytes_of}
-use Rattle.hdf_values.proofs.PieceLemmas.{all_parts}
+use Rattle.hdf_values.specs.Elements.{Fits, bytes_of, decoded}
+use Rattle.hdf_values.specs.Nested.{FitsNested, elements, nested_bytes, nested_decoded, tree_at, pieces, piece_at, AreEncoded}
+use Rattle.hdf_values.specs.Shaped.{value_tree}
+use Rattle.hdf_values.proofs.ElementLemmas.{length-bytes_of, list_of-items_of}
+use Rattle.hdf_values.proofs.PieceLemmas.{all_parts, length-pieces, piece-first, piece-later}
 use Rattle.hdf_values.proofs.NestedLemmas.{length-flat, first_piece, elements_fit, length-elements}
 
 all_at : {A : Type 0} (F : A → Type 0) (xs : List A) (i : ℕ) (d : A) → i < length xs → AllByRecursion F xs → F (get_or xs i d)
@@ -23,7 +29,7 @@ all_at F [] i d h k = absurd (omega arith)
 all_at F (x ∷ xs) zero d h k = k.0
 all_at F (x ∷ xs) (suc i) d h k = all_at F xs i d (omega arith) k.1
 
-item_at : (items : Items) (i : ℕ) → i < length (list_of items) → get_item i items ≡ Some (get_or (list_of items) i null)
+pub item_at : (items : Items) (i : ℕ) → i < length (list_of items) → get_item i items ≡ Some (get_or (list_of items) i null)
 item_at no_items i h = absurd (omega arith)
 item_at (item d ds) zero h = refl
 item_at (item d ds) (suc i) h = item_at ds i (omega arith)
@@ -66,3 +72,48 @@ row_bytes e dims coords d s h k =
     let fits = elements_fit e dims d h in
     let within : place coords dims < length (elements dims d) = rw (length-elements e dims d h) (place_below coords dims k) in
     (get_or ds p null, in_rows e dims coords d h k, all_at (Fits e) ds p null within fits, piece-flat_map (Fits e) (bytes_of e) (size_of e) (λ x q. length-bytes_of e x s.formed q) ds p null within fits)
+
+-- ---- in the tree of bytes
+
+-- a piece of a piece
+piece_within : (s c x p : ℕ) (bs : List ℕ) → p < c → piece_at s p (piece_at (c * s) x bs) ≡ piece_at s (x * c + p) bs
+piece_within s c x p bs h =
+    let rest = drop (x * (c * s)) bs in
+    let some : (p + 1) * s ≤ c * s = mul-le (p + 1) s c s (omega arith) (omega arith) in
+    let far : p * s + (c * s - p * s) ≡ c * s = omega (arith, some) in
+    let at : x * (c * s) + p * s ≡ (x * c + p) * s = omega (arith, mul_assoc x c s) in
+    ap (λ k. take s (drop (p * s) (take k rest))) (sym far)
+    ∙ ap (take s) (drop-take (p * s) (c * s - p * s) rest)
+    ∙ take-take s (c * s - p * s) (drop (p * s) rest) (omega (arith, some))
+    ∙ ap (take s) (drop-drop (p * s) (x * (c * s)) bs)
+    ∙ ap (λ k. take s (drop k bs)) at
+
+tree_of_piece : (dec : List ℕ → Data) (n k x : ℕ) (bs : List ℕ) → x < n → get_or (map dec (pieces n k bs)) x null ≡ dec (piece_at k x bs)
+tree_of_piece dec zero k x bs h = absurd (omega arith)
+tree_of_piece dec (suc n) k zero bs h = ap dec (sym (piece-first k bs))
+tree_of_piece dec (suc n) k (suc x) bs h = tree_of_piece dec n k x (drop k bs) (omega arith) ∙ ap dec (sym (piece-later k x bs))
+
+pub element_found : (e : Elem) (dims coords bs : List ℕ) → length bs ≡ cell_count dims * size_of e → IsInside coords dims
+    → tree_at coords (nested_decoded e dims bs) ≡ Some (decoded e (piece_at (size_of e) (place coords dims) bs))
+element_found e [] [] bs h k = ap (λ xs. Some (decoded e xs)) (sym (piece-first (size_of e) bs ∙ take_all (size_of e) bs (omega arith)))
+element_found e [] (x ∷ xs) bs h k = absurd k
+element_found e (n ∷ ns) [] bs h k = absurd k
+element_found e (n ∷ ns) (x ∷ xs) bs h k =
+    let c = cell_count ns in
+    let s = size_of e in
+    let dec = nested_decoded e ns in
+    let trees = map dec (pieces n (c * s) bs) in
+    let items = items_of trees in
+    let many : length (list_of (items_of (map (nested_decoded e ns) (pieces n (cell_count ns * size_of e) bs)))) ≡ n =
+    ap length (list_of-items_of trees) ∙ length-map (pieces n (c * s) bs) dec ∙ length-pieces n (c * s) bs in
+    let member = item_at items x (omega (arith, many, k.0)) ∙ ap (λ ds. Some (get_or ds x null)) (list_of-items_of trees) ∙ ap (λ d. Some d) (tree_of_piece dec n (c * s) x bs k.0) in
+    let most : (x + 1) * (c * s) ≤ n * (c * s) = mul-le (x + 1) (c * s) n (c * s) (omega (arith, k.0)) (omega arith) in
+    let whole : length bs ≡ n * (cell_count ns * size_of e) = h ∙ mul_assoc n c s in
+    let size = length-take-le (c * s) (drop (x * (c * s)) bs) (omega (arith, most, whole, length-drop (x * (c * s)) bs)) in
+    rw member (element_found e ns xs (piece_at (c * s) x bs) size k.1 ∙ ap (λ b. Some (decoded e b)) (piece_within s c x (place xs ns) bs (place_below xs ns k.1)))
+
+pub value_found : (e : Elem) (s : Shape) (at bs : List ℕ) → AreEncoded e (count_of s) bs → LiesIn at s
+    → tree_at at (value_tree e s bs) ≡ Some (decoded e (piece_at (size_of e) (place at (dims_of s)) bs))
+value_found e Null at bs h k = absurd k
+value_found e Scalar at bs h k = element_found e [] at bs h.whole k
+value_found e (Simple dims limits) at bs h k = element_found e dims at bs h.whole k

@@ -8,8 +8,7 @@ use Rattle.shapes.specs.declared.Shape.{Shape}
 use Rattle.shapes.specs.declared.Shape.TheVariants.{Null, Scalar, Simple}
 use Rattle.shapes.specs.Shapes.{count_of}
 use Rattle.hdf_values.specs.Elements.{bytes_of}
-use Rattle.hdf_values.specs.Nested.{nested_bytes, nested_decoded}
-use Rattle.hdf_values.specs.Pieces.{AreEncoded}
+use Rattle.hdf_values.specs.Nested.{nested_bytes, nested_decoded, AreEncoded}
 use Rattle.hdf_values.specs.Shaped.{IsValue, value_from, null_from, value_tree, value_normal}
 use Rattle.hdf_values.proofs.ElementLemmas.{decoded-bytes_of}
 use Rattle.hdf_values.proofs.NestedLemmas.{nested_read, nested_back, decoded_read}

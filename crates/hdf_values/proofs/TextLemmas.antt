@@ -23,23 +23,23 @@ passed false true c x y z e = cc
 passed false false true x y z e = cc
 passed false false false x y z e = (refl, refl, refl)
 
-ascii_told : (s : List ℕ) → list_any (λ b. nat_le 128 b) s ≡ false → AllByRecursion (λ b. b < 128) s
+pub ascii_told : (s : List ℕ) → list_any (λ b. nat_le 128 b) s ≡ false → AllByRecursion (λ b. b < 128) s
 ascii_told [] e = tt
 ascii_told (b ∷ s) e =
     let parts = or_parts (nat_le 128 b) (list_any (λ b. nat_le 128 b) s) e in
     (leb-false 128 b parts.0, ascii_told s parts.1)
 
-ascii_read : (s : List ℕ) → AllByRecursion (λ b. b < 128) s → list_any (λ b. nat_le 128 b) s ≡ false
+pub ascii_read : (s : List ℕ) → AllByRecursion (λ b. b < 128) s → list_any (λ b. nat_le 128 b) s ≡ false
 ascii_read [] h = refl
 ascii_read (b ∷ s) h = or_from (nat_le 128 b) (list_any (λ b. nat_le 128 b) s) (lt-leb 128 b h.0) (ascii_read s h.1)
 
-no_nul_told : (s : List ℕ) → list_any (λ b. nat_eq b 0) s ≡ false → IsNoNul s
+pub no_nul_told : (s : List ℕ) → list_any (λ b. nat_eq b 0) s ≡ false → IsNoNul s
 no_nul_told [] e = tt
 no_nul_told (b ∷ s) e =
     let parts = or_parts (nat_eq b 0) (list_any (λ b. nat_eq b 0) s) e in
     (eqb-false b 0 parts.0, no_nul_told s parts.1)
 
-no_nul_read : (s : List ℕ) → IsNoNul s → list_any (λ b. nat_eq b 0) s ≡ false
+pub no_nul_read : (s : List ℕ) → IsNoNul s → list_any (λ b. nat_eq b 0) s ≡ false
 no_nul_read [] h = refl
 no_nul_read (b ∷ s) h = or_from (nat_eq b 0) (list_any (λ b. nat_eq b 0) s) (ne_eqb b 0 h.0) (no_nul_read s h.1)
 

@@ -8,8 +8,7 @@ use Rattle.serde_json.specs.declared.value.Value.{Value}
 use Rattle.hdf_types.specs.Elems.{Elem}
 use Rattle.hdf_types.specs.Reading.{size_of}
 use Rattle.shapes.specs.Places.{cell_count}
-use Rattle.hdf_values.specs.Nested.{nested_decoded}
-use Rattle.hdf_values.specs.Pieces.{pieces, AreEncoded}
+use Rattle.hdf_values.specs.Nested.{nested_decoded, pieces, AreEncoded}
 use Rattle.hdf_values.proofs.PieceLemmas.{encoded_parts}
 
 pub piece_size : (n c s len : ℕ) → 1 ≤ n → len ≡ (n * c) * s → len / max n 1 ≡ c * s

@@ -1,6 +1,6 @@
 -- Attributes: a type, a shape and the bytes of a value, as one tree spells them.
-use Rattle.std.specs.Prelude.{◌≡◌, ℕ, ◌*◌, ◌≤◌, ◌⊎◌, List, [], Option, Some, None, Result, Ok, Err, nat_le, if◌then◌else◌, codes}
-use Rattle.serde_json.specs.Data.{Data}
+use Rattle.std.specs.Prelude.{ℕ, ◌*◌, ◌≤◌, Bool, true, false, List, [], Option, Some, None, Result, Ok, Err, nat_le, if◌then◌else◌, codes}
+use Rattle.serde_json.specs.Data.{Data, object, no_members, member}
 use Rattle.serde_json.specs.Find.{get}
 use Rattle.json_trees.specs.Faults.{◌>>=◌}
 use Rattle.hdf_types.specs.declared.faults.Cause.TheVariants.{NotAType}
@@ -13,6 +13,9 @@ use Rattle.hdf_types.specs.Faults.{Fault}
 use Rattle.hdf_types.specs.Reading.{size_of, type_of}
 use Rattle.hdf_types.specs.Types.{IsType, IsSoundType}
 use Rattle.shapes.specs.declared.Shape.{Shape}
+use Rattle.shapes.specs.declared.printing.Form.{Form}
+use Rattle.shapes.specs.Printed.{shape_tree}
+use Rattle.hdf_types.specs.Printed.{type_tree}
 use Rattle.shapes.specs.declared.ShapeFault.{ShapeFault}
 use Rattle.shapes.specs.Shapes.{IsShape, IsSound, shape_of, count_of}
 use Rattle.hdf_values.specs.declared.faults.ValueFault.{ValueFault}
@@ -21,8 +24,8 @@ use Rattle.hdf_values.specs.declared.faults.ValueFault.TheVariants.{NotOfType}
 use Rattle.hdf_values.specs.declared.attributes.Attribute.{Attribute}
 use Rattle.hdf_values.specs.declared.attributes.AttributeFault.{AttributeFault}
 use Rattle.hdf_values.specs.declared.attributes.AttributeFault.TheVariants.{NoMemory, BadType, BadShape, TooLarge, BadValue}
-use Rattle.hdf_values.specs.Pieces.{AreEncoded}
-use Rattle.hdf_values.specs.Shaped.{IsValue, value_from}
+use Rattle.hdf_values.specs.Nested.{AreEncoded}
+use Rattle.hdf_values.specs.Shaped.{IsValue, value_from, value_tree}
 
 -- the most bytes of an attribute's value
 abbrev pub most_bytes : ℕ
@@ -61,6 +64,16 @@ pub record IsSoundAttribute (c : Content) : Type 0 where
   pub shape : IsSound c.shape
   pub small : count_of c.shape * size_of c.kind ≤ most_bytes
   pub encoded : AreEncoded c.kind (count_of c.shape) c.bytes
+
+-- ---- the tree of an attribute
+
+-- its shape and its type, and its value where it is asked for
+abbrev pub content_tree : Content → Form → Bool → Data
+content_tree c form true =
+    object (member (codes "shape") (shape_tree c.shape form) (member (codes "type") (type_tree c.kind)
+    (member (codes "value") (value_tree c.kind c.shape c.bytes) no_members)))
+content_tree c form false =
+    object (member (codes "shape") (shape_tree c.shape form) (member (codes "type") (type_tree c.kind) no_members))
 
 -- ---- the tests in order: the first that fails decides
 
@@ -104,12 +117,3 @@ attribute_of d =
     shape_or (shape_of (get (codes "shape") d) None) >>= λ s.
     sized_at e s (value_or (valued_at e s (get (codes "value") d))) >>= λ bs.
     Ok (record { kind = e; shape = s; bytes = bs })
-
--- a fault is that of the tests, or memory ran out
-abbrev pub Fails : {A : Type 0} → AttributeFault → Result A AttributeFault → Type 0
-Fails f r = (f ≡ NoMemory) ⊎ (r ≡ Err f)
-
--- a result is that of the tests, seen through `see`, or memory ran out
-abbrev pub Gives : {A T : Type 0} → (T → A) → Result T AttributeFault → Result A AttributeFault → Type 0
-Gives see (Ok x) r = r ≡ Ok (see x)
-Gives see (Err f) r = Fails f r

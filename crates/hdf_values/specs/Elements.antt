@@ -1,5 +1,5 @@
 -- Elements: which trees are values of a type, their bytes, and the values that bytes stand for.
-use Rattle.std.specs.Prelude.{◌≡◌, ℕ, ℤ, List, [], ◌∷◌, ◌++◌, take, drop, Option, Some, None, Result, Ok, Err, IsUtf8, ⊤, if◌then◌else◌}
+use Rattle.std.specs.Prelude.{◌≡◌, ℕ, ℤ, true, List, [], ◌∷◌, ◌++◌, take, drop, Option, Some, None, Result, Ok, Err, IsUtf8, ⊤, if◌then◌else◌}
 use Rattle.std.specs.Option.{option_map_or}
 use Rattle.serde_json.specs.Data.{Data, Items, number, unsigned, string, array}
 use Rattle.serde_json.specs.Find.{of_integer, as_str}
@@ -91,6 +91,11 @@ abbrev mutual
 abbrev pub int_encoded : IntType → Option ℤ → Result (List ℕ) Misfit
 int_encoded t None = Err NotOfType
 int_encoded t (Some z) = if in_range t z then Ok (int_bytes t z) else Err OutOfRange
+
+-- the number of the type that a tree is, where it is this whole number or none
+abbrev pub IsNumberIn : IntType → Option ℤ → Result ℤ Misfit → Type 0
+IsNumberIn t o (Ok z) = (o ≡ Some z) × (in_range t z ≡ true)
+IsNumberIn t o (Err m) = int_encoded t o ≡ Err m
 
 abbrev pub misfit_or : Option Misfit → List ℕ → Result (List ℕ) Misfit
 misfit_or (Some m) bs = Err m

@@ -1,9 +1,9 @@
 -- Why a tree is no value of a type, and at which element.
-use Rattle.std.specs.Prelude.{◌≡◌, ◌⊎◌, ℕ, Result, Ok, Err, nat_le, if◌then◌else◌}
+use Rattle.std.specs.Prelude.{ℕ, nat_le, if◌then◌else◌}
 use Rattle.hdf_values.specs.declared.faults.Misfit.{Misfit}
 use Rattle.hdf_values.specs.declared.faults.Misfit.TheVariants as misfits
 use Rattle.hdf_values.specs.declared.faults.ValueFault.{ValueFault}
-use Rattle.hdf_values.specs.declared.faults.ValueFault.TheVariants.{NoMemory, NotOfType, OutOfRange, TooLong, NotAscii, Nul}
+use Rattle.hdf_values.specs.declared.faults.ValueFault.TheVariants.{NotOfType, OutOfRange, TooLong, NotAscii, Nul}
 
 abbrev pub rank : Misfit → ℕ
 rank misfits.NotOfType = 1
@@ -23,12 +23,3 @@ at_place p misfits.OutOfRange = OutOfRange p
 at_place p misfits.TooLong = TooLong p
 at_place p misfits.NotAscii = NotAscii p
 at_place p misfits.Nul = Nul p
-
--- a fault is that of the tests, or memory ran out
-abbrev pub Fails : {A : Type 0} → ValueFault → Result A ValueFault → Type 0
-Fails f r = (f ≡ NoMemory) ⊎ (r ≡ Err f)
-
--- a result is that of the tests, seen through `see`, or memory ran out
-abbrev pub Gives : {A T : Type 0} → (T → A) → Result T ValueFault → Result A ValueFault → Type 0
-Gives see (Ok x) r = r ≡ Ok (see x)
-Gives see (Err f) r = Fails f r

@@ -2,8 +2,8 @@ pub mod Faults
 pub mod Integers
 pub mod Texts
 pub mod Elements
-pub mod Pieces
 pub mod Nested
+pub mod Lowest
 pub mod Shaped
 pub mod Attributes
 pub use Rattle.json_trees.specs.Trees

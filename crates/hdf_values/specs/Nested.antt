@@ -1,21 +1,20 @@
 -- Lists of elements, nested by the extents of an array in row-major order.
-use Rattle.std.specs.Prelude.{◌≡◌, ℕ, ◌+◌, ◌*◌, List, [], ◌∷◌, ◌++◌, length, map, Option, Some, None, option_and_then, Result, Ok, Err, nat_eq, if◌then◌else◌}
+use Rattle.std.specs.Prelude.{◌≡◌, ℕ, zero, suc, ◌+◌, ◌*◌, ◌<◌, List, [], ◌∷◌, ◌++◌, length, map, take, drop, Option, Some, None, option_and_then, Result, Ok, Err, nat_eq, if◌then◌else◌}
 use Rattle.std.specs.List.{AllByRecursion, flat_map}
 use Rattle.std.specs.Option.{option_map_or}
 use Rattle.serde_json.specs.Data.{Data, Items, array}
 use Rattle.serde_json.specs.Find.{at}
 use Rattle.serde_json.specs.View.{items_of}
 use Rattle.json_trees.specs.Trees.{list_of, list_in}
-use Rattle.json_trees.specs.Faults.{◌>>=◌}
+use Rattle.json_trees.specs.Faults.{◌>>=◌, Fails}
 use Rattle.hdf_types.specs.Elems.{Elem}
 use Rattle.hdf_types.specs.Reading.{size_of}
 use Rattle.shapes.specs.Places.{cell_count}
 use Rattle.hdf_values.specs.declared.faults.Misfit.{Misfit}
 use Rattle.hdf_values.specs.declared.faults.ValueFault.{ValueFault}
-use Rattle.hdf_values.specs.declared.faults.ValueFault.TheVariants.{NotOfType, WrongCount}
-use Rattle.hdf_values.specs.Faults.{at_place, Fails}
-use Rattle.hdf_values.specs.Elements.{Fits, bytes_of, normal, decoded, encoded}
-use Rattle.hdf_values.specs.Pieces.{pieces}
+use Rattle.hdf_values.specs.declared.faults.ValueFault.TheVariants.{NoMemory, NotOfType, WrongCount}
+use Rattle.hdf_values.specs.Faults.{at_place}
+use Rattle.hdf_values.specs.Elements.{Fits, bytes_of, normal, decoded, encoded, IsEncoded}
 
 -- ---- which trees nest by the extents, and the bytes of their elements
 
@@ -42,6 +41,37 @@ nested_normal e (n ∷ ns) d = option_map_or (λ ds. array (items_of (map (neste
 abbrev pub tree_at : List ℕ → Data → Option Data
 tree_at [] d = Some d
 tree_at (x ∷ xs) d = option_and_then (tree_at xs) (at x d)
+
+-- ---- bytes of several elements: pieces of one size, one after another
+
+-- `n` pieces of `k` bytes
+abbrev pub pieces : ℕ → ℕ → List ℕ → List (List ℕ)
+pieces zero k bs = []
+pieces (suc n) k bs = take k bs ∷ pieces n k (drop k bs)
+
+-- the bytes of the `i`-th piece of `k` bytes, from 0
+abbrev pub piece_at : ℕ → ℕ → List ℕ → List ℕ
+piece_at k i bs = take k (drop (i * k) bs)
+
+-- the bytes of `n` pieces of `k` bytes, from the `i`-th on
+abbrev pub pieces_at : ℕ → ℕ → ℕ → List ℕ → List ℕ
+pieces_at k i n bs = take (n * k) (drop (i * k) bs)
+
+-- the bytes with `xs` in place of as many, from the `i`-th piece of `k` bytes on
+abbrev pub with_pieces : ℕ → ℕ → List ℕ → List ℕ → List ℕ
+with_pieces k i xs bs = take (i * k) bs ++ xs ++ drop (i * k + length xs) bs
+
+-- the bytes of `n` elements
+pub record AreEncoded (e : Elem) (n : ℕ) (bs : List ℕ) : Type 0 where
+  pub whole : length bs ≡ n * size_of e
+  pub each : AllByRecursion (IsEncoded e) (pieces n (size_of e) bs)
+
+-- the bytes from the `i`-th piece on are there and begin with no element, and all pieces before it are elements;
+-- fewer bytes than an element has are none
+pub record IsFirstUnencoded (e : Elem) (bs : List ℕ) (i : ℕ) : Type 0 where
+  pub there : i * size_of e < length bs
+  pub wrong : IsEncoded e (piece_at (size_of e) i bs) → ⊥
+  pub before : (j : ℕ) → j < i → IsEncoded e (piece_at (size_of e) j bs)
 
 -- the tree whose elements these bytes are
 abbrev pub nested_decoded : Elem → List ℕ → List ℕ → Data
@@ -75,7 +105,7 @@ nested_from e (n ∷ ns) p d = counted n p (each_nested (nested_from e ns) (cell
 -- the bytes of the tree behind the old ones, and the place behind its last element
 abbrev pub AppendsTo : Result ℕ ValueFault → List ℕ → List ℕ → ℕ → Result (List ℕ) ValueFault → Type 0
 AppendsTo (Ok next) old new behind r = (bs : List ℕ) × (r ≡ Ok bs) × (new ≡ old ++ bs) × (next ≡ behind)
-AppendsTo (Err f) old new behind r = Fails f r
+AppendsTo (Err f) old new behind r = Fails NoMemory f r
 
 abbrev pub Appends : Elem → List ℕ → Data → ℕ → List ℕ → List ℕ → Result ℕ ValueFault → Type 0
 Appends e dims d p old new result = AppendsTo result old new (p + cell_count dims) (nested_from e dims p d)

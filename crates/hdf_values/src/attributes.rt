@@ -1,21 +1,22 @@
 //! Attributes: a small value with its type and shape.
 
-ghost use Rattle.std.specs.Prelude.{◌≡◌, ◌*◌, ◌≤◌, IfOk, option_map};
+ghost use Rattle.std.specs.Prelude.{◌≡◌, ◌*◌, ◌≤◌, IfOk, IsTrue};
 ghost use Rattle.serde_json.specs.View.{view};
 ghost use Rattle.hdf_types.specs.Reading.{size_of};
 ghost use Rattle.hdf_types.specs.Types.{IsSoundType};
 ghost use Rattle.hdf_types.specs.Views.{elem};
 ghost use Rattle.shapes.specs.Shapes.{IsSound, count_of};
-ghost use Rattle.hdf_values.specs.Attributes.{Content, content, IsAttribute, IsSoundAttribute, IsTypeAt, IsValueAt, attribute_of, type_fault, value_fault, typed_at, valued_at, value_or, sized_at, most_bytes, Gives};
-ghost use Rattle.hdf_values.specs.Faults.{Gives as ValueGives};
-ghost use Rattle.hdf_values.specs.Pieces.{AreEncoded};
+ghost use Rattle.hdf_values.specs.Attributes.{Content, content, IsAttribute, IsSoundAttribute, IsTypeAt, IsValueAt, attribute_of, content_tree, type_fault, value_fault, typed_at, valued_at, value_or, sized_at, most_bytes};
+ghost use Rattle.json_trees.specs.Faults.{Fails, Gives};
+ghost use Rattle.json_trees.specs.Shown.{shown};
+ghost use Rattle.hdf_values.specs.Nested.{AreEncoded};
 ghost use Rattle.hdf_values.specs.declared.attributes.AttributeFault.TheVariants.{NoMemory, BadShape};
 
-use crate::shaped::read_value;
+use crate::shaped::{read_value, write_value};
 use crate::{MAX_ATTRIBUTE, ValueFault};
-use hdf_types::{Cause, ElemType, FieldPath, TypeFault, read_type};
-use serde_json::Value;
-use shapes::{Shape, ShapeFault, count, read_shape};
+use hdf_types::{Cause, ElemType, FieldPath, TypeFault, read_type, type_json};
+use serde_json::{Value, json};
+use shapes::{Form, Shape, ShapeFault, count, read_shape, shape_json};
 use std::alloc::{AllocError, Global};
 use std::marker::Model;
 
@@ -129,8 +130,8 @@ impl From<ValueFault> for AttributeFault {
 /// is of another kind at place 0.
 pub fn read_attribute(alloc: Global, tree: &Value) -> Result<Attribute, AttributeFault>
     ensures spelled { IfOk result (λ a. IsAttribute (view tree.now) (content a)) }
-    ensures only { (c : Content) → IsAttribute (view tree.now) c → Gives content result (Ok c) }
-    ensures first { Gives content result (attribute_of (view tree.now)) }
+    ensures only { (c : Content) → IsAttribute (view tree.now) c → Gives (Fails AttributeFault.NoMemory) content result (Ok c) }
+    ensures first { Gives (Fails AttributeFault.NoMemory) content result (attribute_of (view tree.now)) }
     ensures sound { IfOk result (λ a. IsSoundAttribute (content a)) }
 {
     first_of(alloc, tree)
@@ -138,7 +139,7 @@ pub fn read_attribute(alloc: Global, tree: &Value) -> Result<Attribute, Attribut
 
 #[tactic(auto, unfolding(crate::specs::Attributes::attribute_of))]
 fn first_of(alloc: Global, tree: &Value) -> Result<Attribute, AttributeFault>
-    ensures gives { Gives content result (attribute_of (view tree.now)) }
+    ensures gives { Gives (Fails AttributeFault.NoMemory) content result (attribute_of (view tree.now)) }
     ensures spelled { IfOk result (λ a. IsAttribute (view tree.now) (content a)) }
     ensures sound { IfOk result (λ a. IsSoundAttribute (content a)) }
 {
@@ -153,8 +154,8 @@ fn first_of(alloc: Global, tree: &Value) -> Result<Attribute, AttributeFault>
 }
 
 fn typed(alloc: Global, tree: Option<&Value>) -> Result<ElemType, AttributeFault>
-    ensures gives { Gives elem result (typed_at (option_map (λ v. view v.now) tree.entry)) }
-    ensures spelled { IfOk result (λ e. IsTypeAt (option_map (λ v. view v.now) tree.entry) (elem e)) }
+    ensures gives { Gives (Fails AttributeFault.NoMemory) elem result (typed_at (shown tree.entry)) }
+    ensures spelled { IfOk result (λ e. IsTypeAt (shown tree.entry) (elem e)) }
     ensures sound { IfOk result (λ e. IsSoundType (elem e)) }
 {
     match tree {
@@ -174,9 +175,9 @@ fn sized(
 ) -> Result<Vec<u8>, AttributeFault>
     requires kind { IsSoundType (elem kind.now) }
     requires shape { IsSound shape.now }
-    ensures gives { Gives (λ v. v.items) result (sized_at (elem kind.now) shape.now (value_or (valued_at (elem kind.now) shape.now (option_map (λ v. view v.now) tree.entry)))) }
+    ensures gives { Gives (Fails AttributeFault.NoMemory) (λ v. v.items) result (sized_at (elem kind.now) shape.now (value_or (valued_at (elem kind.now) shape.now (shown tree.entry)))) }
     ensures small { IfOk result (λ _. count_of shape.now * size_of (elem kind.now) ≤ most_bytes) }
-    ensures spelled { IfOk result (λ v. IsValueAt (elem kind.now) shape.now (option_map (λ v. view v.now) tree.entry) v.items) }
+    ensures spelled { IfOk result (λ v. IsValueAt (elem kind.now) shape.now (shown tree.entry) v.items) }
     ensures encoded { IfOk result (λ v. AreEncoded (elem kind.now) (count_of shape.now) v.items) }
 {
     if count(shape).saturating_mul(u64::from(kind.size())) > MAX_ATTRIBUTE {
@@ -192,13 +193,53 @@ fn valued(
     tree: Option<&Value>,
 ) -> Result<Vec<u8>, ValueFault>
     requires kind { IsSoundType (elem kind.now) }
-    ensures gives { ValueGives (λ v. v.items) result (valued_at (elem kind.now) shape.now (option_map (λ v. view v.now) tree.entry)) }
-    ensures spelled { IfOk result (λ v. IsValueAt (elem kind.now) shape.now (option_map (λ v. view v.now) tree.entry) v.items) }
+    ensures gives { Gives (Fails ValueFault.NoMemory) (λ v. v.items) result (valued_at (elem kind.now) shape.now (shown tree.entry)) }
+    ensures spelled { IfOk result (λ v. IsValueAt (elem kind.now) shape.now (shown tree.entry) v.items) }
     ensures encoded { IfOk result (λ v. AreEncoded (elem kind.now) (count_of shape.now) v.items) }
 {
     match tree {
         Some(tree) => read_value(alloc, kind, shape, tree),
         None => Err(ValueFault::NotOfType { place: 0 }),
+    }
+}
+
+/// The tree of an attribute: its `shape`, its `type`, and its `value` where it is asked for. With
+/// its value it spells the same attribute.
+///
+/// # Errors
+///
+/// Only where memory runs out.
+pub fn content_json(
+    alloc: Global,
+    attribute: &Attribute,
+    form: Form,
+    with_value: bool,
+) -> Result<Value, AllocError>
+    requires { IsSoundAttribute (content attribute.now) }
+    ensures tree { IfOk result (λ v. view v ≡ content_tree (content attribute.now) form with_value) }
+    ensures reads_back { IsTrue with_value
+        → IfOk result (λ v. attribute_of (view v) ≡ Ok (content attribute.now)) }
+{
+    printed(alloc, attribute, form, with_value)
+}
+
+fn printed(
+    alloc: Global,
+    attribute: &Attribute,
+    form: Form,
+    with_value: bool,
+) -> Result<Value, AllocError>
+    requires { IsSoundAttribute (content attribute.now) }
+    ensures { IfOk result (λ v. view v ≡ content_tree (content attribute.now) form with_value) }
+{
+    let Attribute { elem, shape, bytes } = attribute;
+    let kind = type_json(alloc, elem)?;
+    let cells = shape_json(alloc, shape, form)?;
+    if with_value {
+        let value = write_value(alloc, elem, shape, bytes.as_slice())?;
+        json!(in alloc; {"shape": cells, "type": kind, "value": value})
+    } else {
+        json!(in alloc; {"shape": cells, "type": kind})
     }
 }
 

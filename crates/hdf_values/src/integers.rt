@@ -1,16 +1,21 @@
 //! Whole numbers as two's complement bytes, in either order.
 
-ghost use Rattle.std.specs.Prelude.{◌≡◌, true, ◌≤◌, ◌<◌, ◌-◌, ◌/◌, ◌^◌, ◌≤ℤ◌, pos, negsuc, length, reverse};
+ghost use Rattle.std.specs.Prelude.{◌≡◌, true, ◌≤◌, ◌<◌, ◌-◌, ◌*◌, ◌/◌, ◌^◌, ◌≤ℤ◌, ◌++◌, [], pos, negsuc, length, map, reverse, IfOk};
+ghost use Rattle.std.specs.List.{AllByRecursion};
 ghost use Rattle.serde_json.specs.Data.{number};
 ghost use Rattle.serde_json.specs.Find.{of_integer};
 ghost use Rattle.serde_json.specs.View.{view};
+ghost use Rattle.hdf_types.specs.Elems.{int as int_type};
+ghost use Rattle.hdf_types.specs.Reading.{int_size};
 ghost use Rattle.hdf_types.specs.Types.{IsWidth};
 ghost use Rattle.hdf_values.specs.Integers.{integer_in, in_range as is_in_range, least as least_of, greatest as greatest_of, int_bytes, int_value, twos as twos_of, low_first as low_bytes, number_of, signed_of};
-ghost use Rattle.hdf_values.specs.Elements.{int_encoded, outcome};
+ghost use Rattle.hdf_values.specs.Elements.{Fits, IsNumberIn, decoded, int_encoded, outcome};
+ghost use Rattle.hdf_values.specs.Nested.{Appends, AppendsEach, pieces};
 
-use crate::Misfit;
+use crate::{Misfit, ValueFault};
 use hdf_types::IntType;
 use serde_json::Value;
+use std::alloc::{AllocError, Global};
 
 /// The whole number that a tree is.
 pub fn integer_in(tree: &Value) -> Option<i128>
@@ -55,12 +60,69 @@ pub fn encode_int(int: &IntType, tree: &Value, out: &mut [u8]) -> Result<(), Mis
     ensures exact { outcome result out.new ≡ int_encoded int.now (integer_in (view tree.now)) }
     ensures len { length out.new ≡ length out.old }
 {
-    let value = integer_in(tree).ok_or(Misfit::NotOfType)?;
-    if !in_range(int, value) {
-        return Err(Misfit::OutOfRange);
-    }
+    let value = number_in(int, tree)?;
     write_int(int, value, out);
     Ok(())
+}
+
+/// The number of this type that a tree is.
+fn number_in(int: &IntType, tree: &Value) -> Result<i128, Misfit>
+    requires { IsWidth int.now.bits }
+    ensures { IsNumberIn int.now (integer_in (view tree.now)) result }
+{
+    let value = integer_in(tree).ok_or(Misfit::NotOfType)?;
+    if in_range(int, value) {
+        Ok(value)
+    } else {
+        Err(Misfit::OutOfRange)
+    }
+}
+
+/// Appends the bytes of trees that are numbers of this type, the first of which has a place; the
+/// answer is the place behind the last.
+pub(crate) fn read_ints(
+    int: &IntType,
+    items: &[Value],
+    place: u64,
+    out: &mut Vec<u8>,
+) -> Result<u64, ValueFault>
+    requires width { IsWidth int.now.bits }
+    requires place { place * int_size int.now.bits ≡ length out.old.items }
+    ensures reads { AppendsEach (int_type int.now) [] (map view items.now) place out.old.items out.new.items
+        result }
+    ensures fits { IfOk result (λ _. AllByRecursion (Fits (int_type int.now)) (map view items.now)) }
+    ensures place { IfOk result (λ next. next * int_size int.now.bits ≡ length out.new.items) }
+{
+    let mut next = place;
+    for item in items {
+        next = read_int(int, item, next, out)?;
+    }
+    Ok(next)
+}
+
+fn read_int(int: &IntType, tree: &Value, place: u64, out: &mut Vec<u8>) -> Result<u64, ValueFault>
+    requires width { IsWidth int.now.bits }
+    requires place { place * int_size int.now.bits ≡ length out.old.items }
+    ensures reads { Appends (int_type int.now) [] (view tree.now) place out.old.items out.new.items result }
+    ensures fits { IfOk result (λ _. Fits (int_type int.now) (view tree.now)) }
+    ensures place { IfOk result (λ next. next * int_size int.now.bits ≡ length out.new.items) }
+{
+    match number_in(int, tree) {
+        Ok(value) => push_int(int, value, out)?,
+        Err(misfit) => return Err(misfit.at(place)),
+    }
+    Ok(place + 1)
+}
+
+fn push_int(int: &IntType, value: i128, out: &mut Vec<u8>) -> Result<(), AllocError>
+    requires width { IsWidth int.now.bits }
+    requires fits { is_in_range int.now value ≡ true }
+    ensures { IfOk result (λ _. out.new.items ≡ out.old.items ++ int_bytes int.now value) }
+{
+    let mut room = [0u8; 8];
+    let bytes = &mut room[..(int.bits / 8) as usize];
+    write_int(int, value, bytes);
+    out.extend_from_slice(bytes)
 }
 
 fn write_int(int: &IntType, value: i128, out: &mut [u8])
@@ -97,6 +159,29 @@ fn write_low_first(value: u64, out: &mut [u8])
         *byte = (rest % 256) as u8;
         rest /= 256;
     }
+}
+
+/// The numbers that so many pieces of the bytes are, as trees.
+pub(crate) fn ints_list(
+    alloc: Global,
+    int: &IntType,
+    count: u64,
+    bytes: &[u8],
+) -> Result<Vec<Value>, AllocError>
+    requires width { IsWidth int.now.bits }
+    requires room { length bytes.now ≡ count * int_size int.now.bits }
+    ensures { IfOk result (λ list. map view list.items
+        ≡ map (decoded (int_type int.now)) (pieces count (int_size int.now.bits) bytes.now)) }
+{
+    let size = (int.bits / 8) as usize;
+    let mut list = Vec::with_capacity(alloc, count as usize)?;
+    let mut left = bytes;
+    for _ in 0..count {
+        let (front, back) = left.split_at(size);
+        list.push(decode_int(int, front))?;
+        left = back;
+    }
+    Ok(list)
 }
 
 /// The number that bytes are, as a tree.

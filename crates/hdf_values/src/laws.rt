@@ -1,18 +1,23 @@
 //! Laws about values and their bytes.
 
-ghost use Rattle.std.specs.Prelude.{◌≡◌, ◌↔◌, ◌<◌, ◌≤◌, ℕ, ◌+◌, ◌*◌, List, [], ◌++◌, Some, Ok, Err, length, slice_index_or};
+ghost use Rattle.std.specs.Prelude.{◌≡◌, ◌↔◌, ◌<◌, ◌≤◌, ℕ, ◌+◌, ◌*◌, List, [], ◌++◌, Some, Ok, Err, length, slice_index_or, codes};
 ghost use Rattle.std.specs.List.{AllByRecursion, flat_map};
 ghost use Rattle.serde_json.specs.Data.{Data, null};
+ghost use Rattle.serde_json.specs.Find.{get};
 ghost use Rattle.hdf_types.specs.Elems.{Elem};
 ghost use Rattle.hdf_types.specs.Reading.{size_of};
 ghost use Rattle.hdf_types.specs.Types.{IsSoundType};
+ghost use Rattle.hdf_types.specs.Printed.{type_tree};
 ghost use Rattle.shapes.specs.declared.Shape.{Shape};
+ghost use Rattle.shapes.specs.declared.printing.Form.{Form};
+ghost use Rattle.shapes.specs.Shapes.{LiesIn, count_of, dims_of};
+ghost use Rattle.shapes.specs.Printed.{shape_tree};
 ghost use Rattle.shapes.specs.Places.{IsInside, cell_count, place};
 ghost use Rattle.hdf_values.specs.Elements.{Fits, bytes_of, normal, decoded, encoded, zero_of, IsEncoded};
-ghost use Rattle.hdf_values.specs.Nested.{FitsNested, elements, tree_at, nested_bytes, nested_normal, nested_decoded, nested_from};
-ghost use Rattle.hdf_values.specs.Pieces.{AreEncoded, piece_at, pieces_at, with_pieces};
-ghost use Rattle.hdf_values.specs.Shaped.{IsValue, value_from};
-ghost use Rattle.hdf_values.specs.Attributes.{Content, IsAttribute, attribute_of};
+ghost use Rattle.hdf_values.specs.Nested.{FitsNested, elements, tree_at, nested_bytes, nested_normal, nested_decoded, nested_from, AreEncoded, piece_at, pieces_at, with_pieces};
+ghost use Rattle.hdf_values.specs.Lowest.{HasFault, IsLowest, IsFirstFault};
+ghost use Rattle.hdf_values.specs.Shaped.{IsValue, value_from, value_tree};
+ghost use Rattle.hdf_values.specs.Attributes.{Content, IsAttribute, IsSoundAttribute, attribute_of};
 ghost use Rattle.hdf_values.specs.declared.faults.Misfit.{Misfit};
 ghost use Rattle.hdf_values.specs.declared.faults.ValueFault.{ValueFault};
 ghost use Rattle.hdf_values.specs.declared.attributes.AttributeFault.{AttributeFault};
@@ -77,6 +82,42 @@ pub fn nested_or_fault()
         × (nested_bytes e dims (nested_decoded e dims bs) ≡ bs) }
     ensures rows { (e : Elem) (dims coords : List ℕ) (d : Data) → FitsNested e dims d → IsInside coords dims → tree_at coords d ≡ Some (slice_index_or (elements dims d) (place coords dims) null) }
     ensures bytes { (e : Elem) (dims coords : List ℕ) (d : Data) → IsSoundType e → FitsNested e dims d → IsInside coords dims → (x : Data) × (tree_at coords d ≡ Some x) × Fits e x × (piece_at (size_of e) (place coords dims) (nested_bytes e dims d) ≡ bytes_of e x) }
+{}
+
+/// The fault that is told of an element is the lowest of all that its parts have, and a value has
+/// none.
+pub fn lowest_fault_is_told()
+    ensures lowest { (e : Elem) (d : Data) (m : Misfit) → ((encoded e d ≡ Err m) ↔ IsLowest e d m) }
+    ensures none { (e : Elem) (d : Data) (m : Misfit) → Fits e d → ¬ HasFault e d m }
+{}
+
+/// The fault that is told of nested values is that of a list or an element, and stands at its
+/// place, and all elements before it are there without a fault.
+pub fn first_fault_is_told()
+    ensures { (e : Elem) (dims : List ℕ) (p : ℕ) (d : Data) (f : ValueFault)
+        → nested_from e dims p d ≡ Err f → IsFirstFault e dims p d f }
+{}
+
+/// In the tree that bytes stand for the element at coordinates, which is found by going down the
+/// lists, is the one that the bytes at its place stand for.
+pub fn values_in_rows()
+    ensures nested { (e : Elem) (dims coords bs : List ℕ) → AreEncoded e (cell_count dims) bs
+        → IsInside coords dims
+        → tree_at coords (nested_decoded e dims bs)
+        ≡ Some (decoded e (piece_at (size_of e) (place coords dims) bs)) }
+    ensures shaped { (e : Elem) (s : Shape) (at bs : List ℕ) → AreEncoded e (count_of s) bs → LiesIn at s
+        → tree_at at (value_tree e s bs)
+        ≡ Some (decoded e (piece_at (size_of e) (place at (dims_of s)) bs)) }
+{}
+
+/// A tree with the printed type, shape and value of an attribute at their keys spells the attribute
+/// again, whatever stands at other keys.
+pub fn printed_attributes_read_back()
+    ensures { (d : Data) (c : Content) (form : Form) → IsSoundAttribute c
+        → get (codes "type") d ≡ Some (type_tree c.kind)
+        → get (codes "shape") d ≡ Some (shape_tree c.shape form)
+        → get (codes "value") d ≡ Some (value_tree c.kind c.shape c.bytes)
+        → attribute_of d ≡ Ok c }
 {}
 
 /// A tree spells one attribute, or it has a first fault, and never both.

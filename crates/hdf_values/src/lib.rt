@@ -18,11 +18,12 @@ mod shaped;
 mod tests;
 mod texts;
 
-pub use attributes::{Attribute, AttributeFault, Bytes, read_attribute};
+pub use attributes::{Attribute, AttributeFault, Bytes, content_json, read_attribute};
 pub use elements::{decode, encode, is_encoded, zero};
 pub use faults::{Misfit, ValueFault};
 pub use laws::{
-    attribute_or_fault, encoded_elements, nested_or_fault, shaped_or_fault, value_or_fault,
+    attribute_or_fault, encoded_elements, first_fault_is_told, lowest_fault_is_told,
+    nested_or_fault, printed_attributes_read_back, shaped_or_fault, value_or_fault, values_in_rows,
     values_read_back,
 };
 pub use nested::{read_nested, write_nested};

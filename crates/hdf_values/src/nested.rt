@@ -10,11 +10,11 @@ ghost use Rattle.hdf_types.specs.Views.{elem};
 ghost use Rattle.shapes.specs.Places.{cell_count};
 ghost use Rattle.hdf_values.specs.declared.TheConstants.{MAX_AHEAD};
 ghost use Rattle.hdf_values.specs.Elements.{Fits};
-ghost use Rattle.hdf_values.specs.Faults.{Gives};
-ghost use Rattle.hdf_values.specs.Nested.{FitsNested, nested_bytes, nested_normal, nested_from, nested_decoded, Appends, AppendsEach};
-ghost use Rattle.hdf_values.specs.Pieces.{AreEncoded, pieces};
+ghost use Rattle.json_trees.specs.Faults.{Fails, Gives};
+ghost use Rattle.hdf_values.specs.Nested.{FitsNested, nested_bytes, nested_normal, nested_from, nested_decoded, Appends, AppendsEach, AreEncoded, pieces};
 
 use crate::elements::{decode, encode_part};
+use crate::integers::{ints_list, read_ints};
 use crate::{MAX_AHEAD, ValueFault};
 use hdf_types::ElemType;
 use json_trees::list_items;
@@ -37,8 +37,8 @@ pub fn read_nested(
 ) -> Result<Vec<u8>, ValueFault>
     requires sound { IsSoundType (elem kind.now) }
     ensures fits { IfOk result (λ v. FitsNested (elem kind.now) extents.now (view tree.now) × (v.items ≡ nested_bytes (elem kind.now) extents.now (view tree.now))) }
-    ensures only { FitsNested (elem kind.now) extents.now (view tree.now) → Gives (λ v. v.items) result (Ok (nested_bytes (elem kind.now) extents.now (view tree.now))) }
-    ensures first { Gives (λ v. v.items) result (nested_from (elem kind.now) extents.now 0 (view tree.now)) }
+    ensures only { FitsNested (elem kind.now) extents.now (view tree.now) → Gives (Fails ValueFault.NoMemory) (λ v. v.items) result (Ok (nested_bytes (elem kind.now) extents.now (view tree.now))) }
+    ensures first { Gives (Fails ValueFault.NoMemory) (λ v. v.items) result (nested_from (elem kind.now) extents.now 0 (view tree.now)) }
     ensures encoded { IfOk result (λ v. AreEncoded (elem kind.now) (cell_count extents.now) v.items) }
 {
     let size = kind.size() as usize;
@@ -107,6 +107,9 @@ fn read_members(
     ensures fits { IfOk result (λ _. AllByRecursion (FitsNested (elem kind.now) extents.now) (map view items.now)) }
     ensures place { IfOk result (λ next. next * size ≡ length out.new.items) }
 {
+    if let (ElemType::Int(int), true) = (kind, extents.is_empty()) {
+        return read_ints(int, items, place, out);
+    }
     let mut next = place;
     for item in items {
         next = read_axes(kind, size, extents, item, next, out)?;
@@ -189,6 +192,9 @@ fn members_list(
     requires encoded { AreEncoded (elem kind.now) (count * cell_count extents.now) bytes.now }
     ensures { IfOk result (λ list. map view list.items ≡ map (nested_decoded (elem kind.now) extents.now) (pieces count (cell_count extents.now * size_of (elem kind.now)) bytes.now)) }
 {
+    if let (ElemType::Int(int), true) = (kind, extents.is_empty()) {
+        return ints_list(alloc, int, count, bytes);
+    }
     let mut list = Vec::with_capacity(alloc, count as usize)?;
     let step = bytes.len() / (count as usize).max(1);
     let mut left = bytes;

@@ -4,7 +4,7 @@ ghost use Rattle.std.specs.Prelude.{◌≡◌, ◌↔◌, ◌/◌, None, IfSome,
 ghost use Rattle.hdf_types.specs.Reading.{size_of};
 ghost use Rattle.hdf_types.specs.Types.{IsSoundType};
 ghost use Rattle.hdf_types.specs.Views.{elem};
-ghost use Rattle.hdf_values.specs.Pieces.{AreEncoded, IsFirstUnencoded};
+ghost use Rattle.hdf_values.specs.Nested.{AreEncoded, IsFirstUnencoded};
 
 use crate::elements::is_encoded;
 use hdf_types::ElemType;

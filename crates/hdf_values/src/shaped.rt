@@ -6,8 +6,8 @@ ghost use Rattle.serde_json.specs.View.{view};
 ghost use Rattle.hdf_types.specs.Types.{IsSoundType};
 ghost use Rattle.hdf_types.specs.Views.{elem};
 ghost use Rattle.shapes.specs.Shapes.{count_of};
-ghost use Rattle.hdf_values.specs.Faults.{Gives};
-ghost use Rattle.hdf_values.specs.Pieces.{AreEncoded};
+ghost use Rattle.json_trees.specs.Faults.{Fails, Gives};
+ghost use Rattle.hdf_values.specs.Nested.{AreEncoded};
 ghost use Rattle.hdf_values.specs.Shaped.{IsValue, value_from, null_from, value_tree, value_normal};
 
 use crate::ValueFault;
@@ -32,8 +32,8 @@ pub fn read_value(
 ) -> Result<Vec<u8>, ValueFault>
     requires sound { IsSoundType (elem kind.now) }
     ensures spelled { IfOk result (λ v. IsValue (elem kind.now) shape.now (view tree.now) v.items) }
-    ensures only { (bs : List ℕ) → IsValue (elem kind.now) shape.now (view tree.now) bs → Gives (λ v. v.items) result (Ok bs) }
-    ensures first { Gives (λ v. v.items) result (value_from (elem kind.now) shape.now (view tree.now)) }
+    ensures only { (bs : List ℕ) → IsValue (elem kind.now) shape.now (view tree.now) bs → Gives (Fails ValueFault.NoMemory) (λ v. v.items) result (Ok bs) }
+    ensures first { Gives (Fails ValueFault.NoMemory) (λ v. v.items) result (value_from (elem kind.now) shape.now (view tree.now)) }
     ensures encoded { IfOk result (λ v. AreEncoded (elem kind.now) (count_of shape.now) v.items) }
 {
     value_bytes(alloc, kind, shape, tree)
@@ -46,7 +46,7 @@ fn value_bytes(
     tree: &Value,
 ) -> Result<Vec<u8>, ValueFault>
     requires sound { IsSoundType (elem kind.now) }
-    ensures gives { Gives (λ v. v.items) result (value_from (elem kind.now) shape.now (view tree.now)) }
+    ensures gives { Gives (Fails ValueFault.NoMemory) (λ v. v.items) result (value_from (elem kind.now) shape.now (view tree.now)) }
     ensures spelled { IfOk result (λ v. IsValue (elem kind.now) shape.now (view tree.now) v.items) }
     ensures encoded { IfOk result (λ v. AreEncoded (elem kind.now) (count_of shape.now) v.items) }
 {
@@ -59,7 +59,7 @@ fn value_bytes(
 
 /// The value of a shape without a cell.
 fn null_bytes(alloc: Global, tree: &Value) -> Result<Vec<u8>, ValueFault>
-    ensures gives { Gives (λ v. v.items) result (null_from (view tree.now)) }
+    ensures gives { Gives (Fails ValueFault.NoMemory) (λ v. v.items) result (null_from (view tree.now)) }
     ensures spelled { IfOk result (λ v. (view tree.now ≡ null) × (v.items ≡ [])) }
 {
     if tree.is_null() {

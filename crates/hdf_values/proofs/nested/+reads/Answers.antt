@@ -5,9 +5,11 @@ use Rattle.std.proofs.lemmas.List.{drop_more, drop_all, length-drop, length-map,
 use Rattle.std.proofs.lemmas.Result.{IfOk-weaker}
 use Rattle.serde_json.specs.View.{view}
 use Rattle.serde_json.specs.declared.value.Value.{Value}
+use Rattle.hdf_types.specs.Elems.{int as int_type}
 use Rattle.hdf_types.specs.Views.{elem}
+use Rattle.hdf_values.specs.Elements.{Fits}
 use Rattle.hdf_values.specs.Nested.{FitsNested, AppendsEach}
-use Rattle.hdf_values.proofs.ReadLemmas.{some_extent, no_list, members_fit, appends_more, appends_none}
+use Rattle.hdf_values.proofs.ReadLemmas.{some_extent, no_list, members_fit, appends_more, appends_none, ints_fit}
 use Rattle.hdf_values.proofs.nested.+reads.Goals as goal
 
 pub read_axes-returns-in_default-clause-reads : goal.read_axes-returns-in_default-clause-reads
@@ -55,3 +57,10 @@ read_members-returns-clause-reads t c =
     let next = c.loop-item.next in
     let whole = drop_all c.loop-item.item-index items (omega arith) in
     c.loop-item.invariant.reads out (Ok next) (subst (λ (vs : List Value). AppendsEach e dims (map view vs) next out out (Ok next)) (sym whole) (appends_none e dims next out))
+
+pub read_members-returns-in-Int-true-clause-fits : goal.read_members-returns-in-Int-true-clause-fits
+read_members-returns-in-Int-true-clause-fits t c =
+    let int = c.in-Int-true.int in
+    let ds = map view c.args.items.now in
+    IfOk-weaker c.read_ints.result (λ n. AllByRecursion (Fits (int_type int)) ds) (λ n. AllByRecursion (FitsNested (elem c.args.kind.now) c.args.extents.now) ds)
+    (λ n. ints_fit (elem c.args.kind.now) int c.args.extents.now ds (ap elem c.in-Int-true.is-0) c.in-Int-true.ensures) c.read_ints.ensures.fits

@@ -3,8 +3,7 @@ use Rattle.serde_json.specs.View.{view}
 use Rattle.hdf_types.specs.Reading.{size_of}
 use Rattle.hdf_types.specs.Views.{elem}
 use Rattle.shapes.specs.Places.{cell_count}
-use Rattle.hdf_values.specs.Nested.{nested_decoded}
-use Rattle.hdf_values.specs.Pieces.{AreEncoded, pieces}
+use Rattle.hdf_values.specs.Nested.{nested_decoded, AreEncoded, pieces}
 use Rattle.hdf_values.proofs.nested.+writes.Given as goal
 
 abbrev pub decreases-axes_tree : goal.decreases-axes_tree

@@ -2,7 +2,8 @@
 use Rattle.std.proofs.Common.{◌≡◌, Ok, sym, ap, rules}
 use Rattle.serde_json.specs.View.{view}
 use Rattle.hdf_types.specs.Views.{elem}
-use Rattle.hdf_values.specs.Faults.{Gives}
+use Rattle.json_trees.specs.Faults.{Fails, Gives}
+use Rattle.hdf_values.specs.declared.faults.ValueFault.TheVariants.{NoMemory}
 use Rattle.hdf_values.specs.Nested.{FitsNested, nested_bytes, nested_from}
 use Rattle.hdf_values.proofs.NestedLemmas.{nested_read, are_encoded}
 use Rattle.hdf_values.proofs.ReadLemmas.{whole_bytes}
@@ -16,7 +17,7 @@ whole c =
 
 pub returns-in_err-read_axes-clause-only : goal.returns-in_err-read_axes-clause-only
 returns-in_err-read_axes-clause-only c h =
-    let told : Gives (λ v. v.items) c.from_residual-in_err-read_axes.result (nested_from (elem c.args.kind.now) c.args.extents.now 0 (view c.args.tree.now)) = search rules in
+    let told : Gives (Fails NoMemory) (λ v. v.items) c.from_residual-in_err-read_axes.result (nested_from (elem c.args.kind.now) c.args.extents.now 0 (view c.args.tree.now)) = search rules in
     rw (nested_read (elem c.args.kind.now) c.args.extents.now 0 (view c.args.tree.now) h) at told
 
 pub returns-clause-fits : goal.returns-clause-fits

@@ -4,7 +4,7 @@ use Rattle.std.proofs.lemmas.Bool.{false≢true}
 use Rattle.hdf_types.specs.Reading.{size_of}
 use Rattle.hdf_types.specs.Views.{elem}
 use Rattle.hdf_values.specs.Elements.{IsEncoded}
-use Rattle.hdf_values.specs.Pieces.{IsFirstUnencoded}
+use Rattle.hdf_values.specs.Nested.{IsFirstUnencoded}
 use Rattle.hdf_values.proofs.PieceLemmas.{one_passed, passed_within, all_passed, first_wrong, too_short, not_all, none_left, some_left, some_size}
 use Rattle.hdf_values.proofs.pieces.first_unencoded.Goals as goal
 
