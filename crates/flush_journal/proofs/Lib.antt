@@ -12,8 +12,8 @@ pub mod NumberLemmas
 pub mod PayloadLemmas
 pub mod ReadLemmas
 pub mod NewLemmas
-pub mod NextLemmas
 pub mod EncodingLemmas
 pub mod HeaderLemmas
 pub mod BlockLemmas
 pub mod LayoutLemmas
+pub mod KeptLemmas

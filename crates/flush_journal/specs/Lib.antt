@@ -4,7 +4,6 @@ pub mod Blocks
 pub mod Frames
 pub mod Gates
 pub mod Moments
-pub mod Nexts
 pub mod Numbers
 pub mod Reading
 pub mod Records
@@ -14,3 +13,4 @@ pub mod Windows
 pub use Rattle.edge_traits.specs.Disks
 pub use Rattle.edge_traits.specs.Causes
 pub use Rattle.text_maps.specs.Keyed
+pub use Rattle.text_maps.specs.Nexts

@@ -18,7 +18,7 @@ mod window;
 pub use batch::Batch;
 pub use journal::Journal;
 pub use laws::{journal_or_fault, payload_is_encoding};
-pub use recovered::Recovered;
+pub use recovered::{Body, Recovered};
 pub use report::Report;
 pub use why::{JournalRefused, Why};
 
