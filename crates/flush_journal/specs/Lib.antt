@@ -11,7 +11,7 @@ pub mod Refusals
 pub mod Standing
 pub mod Tries
 pub mod Unchanged
-pub mod Windows
+pub mod Readers
 pub use Rattle.edge_traits.specs.Disks
 pub use Rattle.edge_traits.specs.Causes
 pub use Rattle.text_maps.specs.Keyed

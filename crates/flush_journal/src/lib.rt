@@ -8,11 +8,11 @@ mod gates;
 mod header;
 mod journal;
 mod read;
+mod reader;
 mod records;
 mod recovered;
 mod report;
 mod why;
-mod window;
 
 pub use batch::Batch;
 pub use journal::Journal;
