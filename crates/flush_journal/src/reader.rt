@@ -92,7 +92,8 @@ impl<D: Disk> Reader<D> {
     fn load(&mut self, at: u64, want: usize) -> Result<usize, Why>
         ensures on { GoesOn self.old self.new }
         ensures has { IfOk result (λ n. Has self.new at n) }
-        ensures count { D.honest → IfOk result (λ n. n ≡ length (take want (drop at (file_of self.old)))) }
+        ensures count { D.honest → IfOk result
+            (λ n. n ≡ length (take want (drop at (file_of self.old)))) }
         ensures why { IfErr result (MayFail self.old self.new) }
     {
         self.bytes.clear();
