@@ -3,7 +3,7 @@ use Rattle.std.proofs.Common.{◌≡◌, inl, inr, ⊎_elim, ℕ, suc, zero, ◌
 use Rattle.std.specs.Prelude.{◌&&◌, ◌⊎◌, nat_le}
 use Rattle.std.proofs.lemmas.Bool.Decides.{nat_tests}
 use Rattle.std.proofs.lemmas.List.{take_at, drop_at, take_more, drop_more, take_all, drop_all, length-take-le, take-append-le, drop-append-le}
-use Rattle.edge_traits.specs.Disks.{Written, Torn, Follows, Only, LeavesNoMore, Elapses}
+use Rattle.edge_traits.specs.Disks.{Written, Torn, Follows, Only, LeavesNoMore, Elapses, ElapsesBy}
 use Rattle.edge_traits.specs.MemDisks.{Memory, begun, step, after, TornBy, IsImage, LeftSince, IsRested, Replays, writes_fit, size_after, Unsynced, Tears}
 use Rattle.edge_traits.specs.declared.mem_disk.Call.{Call}
 use Rattle.edge_traits.specs.declared.mem_disk.Call.TheVariants.{Wrote, Synced}
@@ -98,6 +98,14 @@ module _ (first : List ℕ) (calls later : List Call) (call : Call) (is : later 
       let m = after (begun first) calls in
       let from = image_written m at copy i (omega (arith, inside, ap length r.reads)) (subst (λ (x : Call). IsImage (step m x) i) c (image_later i image)) in
       (from.0, from.1, subst (λ (l : List ℕ). Torn at (length l) from.0 i) copied from.2)
+
+  pub elapses_written : (step' : List ℕ → List ℕ → Type 0) → Follows step' (IsImage (after (begun first) calls)) (IsImage (after (begun first) later))
+      → ElapsesBy step' (length calls) (length later) (LeftSince first calls) (LeftSince first later) (IsImage (after (begun first) calls))
+  elapses_written step' follows = record {
+    later = elapses_push.later;
+    nothing_else = λ t c le left. ⊎_elim (λ was. inl was) (λ now. inr (follows c now)) (elapses_push.nothing_else t c le left);
+    keeps = elapses_push.keeps;
+  }
 
   pub only_synced : (bytes kept : List ℕ) → call ≡ Synced → Replays first calls bytes kept → Only bytes (IsImage (after (begun first) later))
   only_synced bytes kept c r = λ i image. image_synced (after (begun first) calls) i (subst (λ (x : Call). IsImage (step (after (begun first) calls) x) i) c (image_later i image)) ∙ r.reads

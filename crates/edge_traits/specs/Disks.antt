@@ -20,9 +20,13 @@ Fills at bytes n buf = take n buf ≡ take (length buf) (drop at bytes)
 abbrev pub LeavesNoMore : (List ℕ → Type 0) → (List ℕ → Type 0) → Type 0
 LeavesNoMore old new = (c : List ℕ) → new c → old c
 
+-- what a step makes of an image that a crash could leave before
+abbrev pub After : (List ℕ → List ℕ → Type 0) → (List ℕ → Type 0) → List ℕ → Type 0
+After step old c = (d : List ℕ) × old d × step d c
+
 -- each image that a crash may leave is one that it could leave before, after a step
 abbrev pub Follows : (List ℕ → List ℕ → Type 0) → (List ℕ → Type 0) → (List ℕ → Type 0) → Type 0
-Follows step old new = (c : List ℕ) → new c → (d : List ℕ) × old d × step d c
+Follows step old new = LeavesNoMore (After step old) new
 
 -- a crash leaves these bytes and nothing else
 abbrev pub Only : List ℕ → (List ℕ → Type 0) → Type 0
@@ -33,3 +37,8 @@ pub record Elapses (before now : ℕ) (past since : ℕ → List ℕ → Type 0)
   pub later : before ≤ now
   pub nothing_else : (t : ℕ) (c : List ℕ) → t ≤ before → since t c → past t c ⊎ images c
   pub keeps : (t : ℕ) (c : List ℕ) → t ≤ before → past t c → since t c
+
+-- Time goes on over a call that takes this step, by one move or by many: a crash since t might have left what it might have left
+-- before this call, or what the step makes of an image of before.
+abbrev pub ElapsesBy : (List ℕ → List ℕ → Type 0) → ℕ → ℕ → (ℕ → List ℕ → Type 0) → (ℕ → List ℕ → Type 0) → (List ℕ → Type 0) → Type 0
+ElapsesBy step before now past since old = Elapses before now past since (After step old)

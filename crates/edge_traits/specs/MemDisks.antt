@@ -1,6 +1,6 @@
 -- What a disk in memory reads, and what a crash may leave of it, from its record of calls.
 use Rattle.std.specs.Prelude.{◌≡◌, ◌⊎◌, ℕ, ◌+◌, ◌≤◌, max, Bool, true, false, List, [], ◌∷◌, ◌++◌, length, take, drop, nat_le, ◌&&◌}
-use Rattle.std.proofs.Common.{subst, sym, arith}
+use Rattle.std.proofs.Common.{inl, subst, sym, arith}
 use Rattle.std.proofs.lemmas.List.{take_all}
 use Rattle.edge_traits.specs.Disks.{Torn}
 use Rattle.edge_traits.specs.declared.mem_disk.Call.{Call}
@@ -73,6 +73,9 @@ pub record Tears (start image : List ℕ) (k : ℕ) (calls : List Call) : Type 0
   pub size : length image ≡ size_after (length start) (take k calls)
   pub fit : writes_fit (length image) (drop k calls) ≡ true
   pub reach : size_after (length image) (drop k calls) ≡ size_after (length start) calls
+
+pub reads_are_left : (first : List ℕ) (calls : List Call) (bytes kept : List ℕ) → Replays first calls bytes kept → IsImage (after (begun first) calls) bytes
+reads_are_left first calls bytes kept r = inl (sym r.reads)
 
 pub counts_now : (first : List ℕ) (calls : List Call) (t : ℕ) (c : List ℕ) → t ≤ length calls → IsImage (after (begun first) calls) c → LeftSince first calls t c
 counts_now first calls t c le image =

@@ -1,7 +1,7 @@
 ghost use Rattle.std.specs.Prelude.{◌≡◌, ℕ, ◌+◌, ◌≤◌, List, length, IfOk, OnOk, OnErr};
 ghost use Rattle.std.specs.Io.{ReadsAtMost};
 ghost use Rattle.edge_traits.specs.Causes.{HasCause};
-ghost use Rattle.edge_traits.specs.Disks.{Written, Torn, Fills, LeavesNoMore, Follows, Only, Elapses};
+ghost use Rattle.edge_traits.specs.Disks.{Written, Torn, Fills, LeavesNoMore, Follows, Only, Elapses, ElapsesBy};
 
 use crate::Failed;
 
@@ -32,6 +32,13 @@ pub trait Disk {
     /// The greatest length.
     ghost most: { Self → ℕ };
 
+    /// The type of what stands beside the disk in the same object.
+    ghost Others: { Type 0 };
+
+    /// What stands beside the disk in the same object, as what reads give of another area of the same file. No call of
+    /// the disk changes it.
+    ghost beside: { Self → Others };
+
     /// The length of what reads give.
     ///
     /// # Errors
@@ -45,6 +52,7 @@ pub trait Disk {
         ensures time { honest → Elapses (moment self.old) (moment self.new)
             (left_since self.old) (left_since self.new) (images self.new) }
         ensures most { most self.new ≡ most self.old }
+        ensures beside { beside self.new ≡ beside self.old }
         ensures cause { HasCause (faults self.old) (faults self.new) result };
 
     /// The greatest length, which never changes.
@@ -64,6 +72,7 @@ pub trait Disk {
         ensures time { honest → Elapses (moment self.old) (moment self.new)
             (left_since self.old) (left_since self.new) (images self.new) }
         ensures most { most self.new ≡ most self.old }
+        ensures beside { beside self.new ≡ beside self.old }
         ensures cause { HasCause (faults self.old) (faults self.new) result };
 
     /// Writes over what stands there, and past the end.
@@ -77,9 +86,10 @@ pub trait Disk {
         ensures ok { honest → OnOk result (Written at bytes.now (reads self.old) (reads self.new)) }
         ensures err { honest → OnErr result (Torn at (length bytes.now) (reads self.old) (reads self.new)) }
         ensures images { honest → Follows (Torn at (length bytes.now)) (images self.old) (images self.new) }
-        ensures time { honest → Elapses (moment self.old) (moment self.new)
-            (left_since self.old) (left_since self.new) (images self.new) }
+        ensures time { honest → ElapsesBy (Torn at (length bytes.now)) (moment self.old) (moment self.new)
+            (left_since self.old) (left_since self.new) (images self.old) }
         ensures most { most self.new ≡ most self.old }
+        ensures beside { beside self.new ≡ beside self.old }
         ensures cause { HasCause (faults self.old) (faults self.new) result };
 
     /// After `Ok` a crash leaves what reads give.
@@ -94,7 +104,11 @@ pub trait Disk {
         ensures time { honest → Elapses (moment self.old) (moment self.new)
             (left_since self.old) (left_since self.new) (images self.new) }
         ensures most { most self.new ≡ most self.old }
+        ensures beside { beside self.new ≡ beside self.old }
         ensures cause { HasCause (faults self.old) (faults self.new) result };
+
+    /// A crash may leave what reads give.
+    ghost reads_left: { (disk : Self) → honest → images disk (reads disk) };
 
     /// This moment is one of those since an earlier one.
     ghost counts_now: { (disk : Self) (t : ℕ) (c : List ℕ) → honest → t ≤ moment disk → images disk c

@@ -43,6 +43,10 @@ impl Disk for FileDisk {
 
     ghost most = { λ _. 2 ^ 40 };
 
+    ghost Others = { Unit {0} };
+
+    ghost beside = { λ _. tt };
+
     fn length(&mut self) -> Result<u64, Failed> {
         match self.file.metadata() {
             Ok(metadata) => Ok(metadata.len()),
@@ -94,6 +98,8 @@ impl Disk for FileDisk {
         }
         Ok(())
     }
+
+    ghost reads_left = { λ _ told. absurd told };
 
     ghost counts_now = { λ _ _ _ told _ _. absurd told };
 

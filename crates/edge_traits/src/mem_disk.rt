@@ -174,7 +174,7 @@ impl MemDisk {
 }
 
 impl Disk for MemDisk {
-    ghost use Rattle.edge_traits.specs.MemDisks.{begun, after, IsImage, LeftSince, counts_now as was_now, only_now as is_now};
+    ghost use Rattle.edge_traits.specs.MemDisks.{begun, after, IsImage, LeftSince, reads_are_left, counts_now as was_now, only_now as is_now};
 
     ghost honest = { Unit {0} };
 
@@ -189,6 +189,10 @@ impl Disk for MemDisk {
     ghost faults = { λ d. d.schedule.faults };
 
     ghost most = { λ d. d.room };
+
+    ghost Others = { Unit {0} };
+
+    ghost beside = { λ _. tt };
 
     fn length(&mut self) -> Result<u64, Failed> {
         if self.schedule.call_fails() {
@@ -241,6 +245,8 @@ impl Disk for MemDisk {
         self.synced = self.calls.len();
         Ok(())
     }
+
+    ghost reads_left = { λ d _. reads_are_left d.first.items d.calls.items d.bytes.items d.base.items d.replays };
 
     ghost counts_now = { λ d t c _ le image. was_now d.first.items d.calls.items t c le image };
 

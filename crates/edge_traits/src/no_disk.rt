@@ -1,4 +1,4 @@
-ghost use Rattle.std.specs.Prelude.{◌≡◌, ℕ, List, [], IsErr};
+ghost use Rattle.std.specs.Prelude.{◌≡◌, ℕ, List, [], IsErr, refl};
 ghost use Rattle.edge_traits.specs.Causes.{Rose};
 
 use crate::faults::FaultCount;
@@ -36,6 +36,10 @@ impl Disk for NoDisk {
 
     ghost most = { λ _. 0 };
 
+    ghost Others = { Unit {0} };
+
+    ghost beside = { λ _. tt };
+
     fn length(&mut self) -> Result<u64, Failed>
         ensures fails { IsErr result }
         ensures counts { Rose (⟦<NoDisk as Disk>⟧.faults self.old) (⟦<NoDisk as Disk>⟧.faults self.new) }
@@ -71,6 +75,8 @@ impl Disk for NoDisk {
         self.count.rise();
         Err(Failed)
     }
+
+    ghost reads_left = { λ _ _. refl };
 
     ghost counts_now = { λ _ _ _ _ _ empty. empty };
 

@@ -5,7 +5,7 @@ use Rattle.std.proofs.lemmas.Bool.{cond-true}
 use Rattle.std.proofs.lemmas.Bool.Decides.{nat_tests}
 use Rattle.std.proofs.lemmas.List.{take_at, drop_at, append-nil}
 use Rattle.flush_journal.specs.Records.{Record, cut, is_key_length, cut_key, cut_body, first_record, records_of, four_bytes, eight_bytes, encoded, encoded_all}
-use Rattle.flush_journal.specs.Frames.{framed, frame_of, framed_records, payload_of}
+use Rattle.flush_journal.specs.Frames.{record_size, framed, frame_of, framed_records, payload_of}
 use Rattle.flush_journal.specs.Gates.{EndsShut}
 use Rattle.flush_journal.proofs.RecordLemmas.{cut-append, cut_number_4-append, length-four_bytes, length-eight_bytes, records_of_first, records_of_more, records_of_nothing}
 
@@ -32,7 +32,7 @@ first_record-encoded r rest some short small =
     ∙ ap (option_and_then (λ (k : List ℕ × List ℕ). option_and_then (λ (b : List ℕ × List ℕ). Some ((k.0, b.0), b.1)) (cut_body k.1))) (cut_key-append r.0 (four_bytes (length r.1) ++ (r.1 ++ rest)) some short)
     ∙ ap (option_and_then (λ (b : List ℕ × List ℕ). Some ((r.0, b.0), b.1))) (cut_body-append r.1 rest small)
 
-pub length-encoded : (r : Record) → length (encoded r) ≡ 8 + length r.0 + length r.1
+pub length-encoded : (r : Record) → length (encoded r) ≡ record_size r
 length-encoded r =
     length-append (four_bytes (length r.0) ++ r.0 ++ four_bytes (length r.1)) r.1
     ∙ omega (arith, length-append (four_bytes (length r.0) ++ r.0) (four_bytes (length r.1)), length-append (four_bytes (length r.0)) r.0, length-four_bytes (length r.0), length-four_bytes (length r.1))

@@ -30,8 +30,9 @@ pub length-frame_of : (rs : List Record) → rs ≢ [] → length (frame_of rs) 
 length-frame_of [] some = absurd (some refl)
 length-frame_of (r ∷ rs) some = length-framed (encoded_all (r ∷ rs))
 
-pub need_of-frame : (rs : List Record) → rs ≢ [] → need_of rs ≡ length (frame_of rs) + 1
-need_of-frame rs some = omega (arith, length-frame_of rs some)
+-- what a batch needs is its frame and the gate before it
+pub need_of-size : (rs : List Record) (frame : List ℕ) → rs ≢ [] → frame ≡ frame_of rs → length frame + 1 ≡ need_of rs
+need_of-size rs frame some is = ap (λ (l : List ℕ). length l + 1) is ∙ omega (arith, length-frame_of rs some)
 
 pub frame_ends : (rs : List Record) → rs ≢ [] → EndsShut (frame_of rs)
 frame_ends [] some = absurd (some refl)

@@ -4,10 +4,11 @@ pub mod ContentLemmas
 pub mod GateLemmas
 pub mod Moments
 pub mod Results
-pub mod StandLemmas
+pub mod Unchanged
+pub mod EndGates
 pub mod BatchLemmas
 pub mod JournalLemmas
-pub mod StandingLemmas
+pub mod JournalStates
 pub mod NumberLemmas
 pub mod PayloadLemmas
 pub mod ReadLemmas

@@ -2,6 +2,10 @@
 use Rattle.std.specs.Prelude.{ℕ, ◌+◌, ◌-◌, List, [], ◌∷◌, ◌++◌, length, take, drop, unwrap_or}
 use Rattle.flush_journal.specs.Records.{Record, records_of, encoded_all, eight_bytes}
 
+-- how many bytes a record takes: two lengths of four bytes, the key and the body
+abbrev pub record_size : Record → ℕ
+record_size r = 8 + length r.0 + length r.1
+
 unfoldable pub framed : List ℕ → List ℕ
 framed payload = eight_bytes (length payload) ++ payload ++ 0 ∷ []
 

@@ -9,7 +9,9 @@ pub mod Reading
 pub mod Records
 pub mod Refusals
 pub mod Standing
-pub mod Windows
+pub mod Tries
+pub mod Unchanged
+pub mod Readers
 pub use Rattle.edge_traits.specs.Disks
 pub use Rattle.edge_traits.specs.Causes
 pub use Rattle.text_maps.specs.Keyed

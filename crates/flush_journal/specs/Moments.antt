@@ -1,8 +1,9 @@
 -- What a crash at each moment of some calls may leave.
-use Rattle.std.specs.Prelude.{ℕ, ◌⊎◌, ◌≤◌, List}
+use Rattle.std.specs.Prelude.{◌⊎◌, ℕ, ◌≤◌, List}
+use Rattle.edge_traits.specs.declared.disk.Disk.{Ghosts}
 
 -- a crash at any moment since `old` leaves bytes that have P; `before` serves a run that began earlier
-pub record Leaves {D : Type 0} (moment : D → ℕ) (left_since : D → ℕ → List ℕ → Type 0) (old new : D) (P : List ℕ → Type 0) : Type 0 where
-  pub later : moment old ≤ moment new
-  pub each : (c : List ℕ) → left_since new (moment old) c → P c
-  pub before : (t : ℕ) (c : List ℕ) → t ≤ moment old → left_since new t c → left_since old t c ⊎ P c
+pub record Leaves {D : Type 0} (met : Ghosts D) (old new : D) (P : List ℕ → Type 0) : Type 0 where
+  pub later : met.moment old ≤ met.moment new
+  pub each : (c : List ℕ) → met.left_since new (met.moment old) c → P c
+  pub before : (t : ℕ) (c : List ℕ) → t ≤ met.moment old → met.left_since new t c → met.left_since old t c ⊎ P c

@@ -2,7 +2,7 @@
 use Rattle.std.specs.Prelude.{◌≡◌, ◌≢◌, ◌⊎◌, ℕ, List, [], ◌∷◌, ◌++◌, length, Option, Some, None, option_map, Ok}
 use Rattle.edge_traits.specs.declared.disk.Disk.{Ghosts}
 use Rattle.edge_traits.specs.Disks.{Only}
-use Rattle.flush_journal.specs.Records.{Record, Held, encoded_all}
+use Rattle.flush_journal.specs.Records.{Record, Held, encoded_all, put_all}
 use Rattle.flush_journal.specs.Frames.{frame_of}
 use Rattle.flush_journal.specs.Gates.{Either}
 use Rattle.flush_journal.specs.Files.{Content, content, held, grown}
@@ -38,23 +38,30 @@ pub record Numbers {D : Type 0} {met : Ghosts D} (j : Journal D met) (c : Conten
   pub end : (numbers_of j).end ≡ c.end
 
 -- nothing is pending, and the file has this content, all of it on the disk
-pub record IsSettled {D : Type 0} {met : Ghosts D} (reads : D → List ℕ) (images : D → List ℕ → Type 0) (j : Journal D met) (c : Content) : Type 0 where
+pub record IsSettled {D : Type 0} {met : Ghosts D} (j : Journal D met) (c : Content) : Type 0 where
   pub idle : pending_of j ≡ None
   pub numbers : Numbers j c
-  pub file : content (reads j.disk) ≡ Ok c
-  pub only : Only (reads j.disk) (images j.disk)
-
--- These records are pending. What reads give, and each image, is a file with this content, or with the batch too.
-pub record IsOwed {D : Type 0} {met : Ghosts D} (reads : D → List ℕ) (images : D → List ℕ → Type 0) (j : Journal D met) (c : Content) (rs : List Record) : Type 0 where
-  pub pending : pending_of j ≡ Some rs
-  pub some : rs ≢ []
-  pub numbers : Numbers j c
-  pub front : List ℕ
-  pub closed : content (front ++ 0 ∷ []) ≡ Ok c
-  pub place : length front ≡ c.end
-  pub now : Either front (frame_of rs) (reads j.disk)
-  pub each : (i : List ℕ) → images j.disk i → Either front (frame_of rs) i
+  pub file : content (met.reads (disk_of j)) ≡ Ok c
+  pub only : Only (met.reads (disk_of j)) (met.images (disk_of j))
 
 -- a file holds the one map or the other
 abbrev pub HoldsEither : Held → Held → List ℕ → Type 0
 HoldsEither m n bytes = (held bytes ≡ Some m) ⊎ (held bytes ≡ Some n)
+
+-- what reads give, and each image, goes on behind one front: with a closed gate, or with the whole batch
+pub record IsCut (reads : List ℕ) (images : List ℕ → Type 0) (c : Content) (rs : List Record) : Type 0 where
+  pub front : List ℕ
+  pub closed : content (front ++ 0 ∷ []) ≡ Ok c
+  pub place : length front ≡ c.end
+  pub now : Either front (frame_of rs) reads
+  pub each : (i : List ℕ) → images i → Either front (frame_of rs) i
+
+-- These records are pending. What reads give, and each image, holds the map of before, or that with the records put in; `cut` is
+-- what the next try goes on from.
+pub record IsOwed {D : Type 0} {met : Ghosts D} (j : Journal D met) (c : Content) (rs : List Record) : Type 0 where
+  pub pending : pending_of j ≡ Some rs
+  pub some : rs ≢ []
+  pub numbers : Numbers j c
+  pub now : HoldsEither c.held (put_all rs c.held) (met.reads (disk_of j))
+  pub each : (i : List ℕ) → met.images (disk_of j) i → HoldsEither c.held (put_all rs c.held) i
+  pub cut : IsCut (met.reads (disk_of j)) (met.images (disk_of j)) c rs

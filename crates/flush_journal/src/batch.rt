@@ -1,9 +1,18 @@
 // Records that are to be written in one piece.
 ghost use Rattle.std.specs.Prelude.{◌≡◌, ◌+◌, ◌-◌, ◌^◌, ◌<◌, ◌≤◌, ◌↔◌, [], ◌∷◌, ◌++◌, length, drop, max, vec_len, vec_capacity, IsTrue, IsOk, OnOk, OnErr, Some};
-ghost use Rattle.flush_journal.specs.Frames.{frame_of, framed, framed_records, payload_of};
+ghost use Rattle.flush_journal.specs.Frames.{frame_of, framed, framed_records, payload_of, record_size};
 ghost use Rattle.flush_journal.specs.Records.{encoded, encoded_all, records_of};
 
 use std::alloc::{AllocError, Global};
+
+// How many bytes a record has beside its key and its body.
+const RECORD_BESIDE: usize = 8;
+
+// How many bytes stand in front of a payload: its length.
+const FRONT: usize = 8;
+
+// How many bytes a frame has beside its payload: the length, and a closed gate.
+const BESIDE: usize = FRONT + 1;
 
 /// Records in the order in which they were put in. Its bytes stand as `Journal::append` writes them: no byte, or the
 /// payload with its length in front and a closed gate behind.
@@ -32,7 +41,7 @@ impl Batch {
         self.frame.as_slice().is_empty()
     }
 
-    /// Takes room for this many more bytes of records. A record has eight bytes beside its key and its body.
+    /// Takes room for this many more bytes of records. A record takes eight bytes beside its key and its body.
     pub fn reserve(&mut self, bytes: usize) -> Result<(), AllocError>
         ensures ok { OnOk result (bytes ≤ spare self.new) }
         ensures records { records self.new ≡ records self.old }
@@ -47,10 +56,11 @@ impl Batch {
         requires short_body { length body.now < 2 ^ 32 }
         ensures ok { OnOk result (records self.new ≡ records self.old ++ (key.now, body.now) ∷ []) }
         ensures err { OnErr result (records self.new ≡ records self.old) }
-        ensures reserved { 8 + length key.now + length body.now ≤ spare self.old → IsOk result }
-        ensures spare { OnOk result (spare self.old ≤ spare self.new + (8 + length key.now + length body.now)) }
+        ensures reserved { record_size (key.now, body.now) ≤ spare self.old → IsOk result }
+        ensures spare { OnOk result
+            (spare self.old ≤ spare self.new + record_size (key.now, body.now)) }
     {
-        reserve_frame(&mut self.frame, 8 + key.len() + body.len())?;
+        reserve_frame(&mut self.frame, RECORD_BESIDE + key.len() + body.len())?;
         add_record(&mut self.frame, key, body);
         Ok(())
     }
@@ -65,15 +75,13 @@ impl Batch {
     }
 }
 
-// How many bytes a frame has beside its payload.
-const BESIDE: usize = 9;
-
 // Takes room in a frame for so many more bytes of payload.
 fn reserve_frame(frame: &mut Vec<u8>, bytes: usize) -> Result<(), AllocError>
     ensures items { frame.new.items ≡ frame.old.items }
     ensures ok { OnOk result (max 9 (vec_len frame.new) + bytes ≤ vec_capacity frame.new) }
     ensures capacity { vec_capacity frame.old ≤ vec_capacity frame.new }
-    ensures succeeds { bytes < 2 ^ 63 → max 9 (vec_len frame.old) + bytes ≤ vec_capacity frame.old → IsOk result }
+    ensures succeeds { bytes < 2 ^ 63 → max 9 (vec_len frame.old) + bytes ≤ vec_capacity frame.old
+        → IsOk result }
 {
     let beside = BESIDE.saturating_sub(frame.len());
     if bytes > usize::MAX - beside {
@@ -101,7 +109,7 @@ fn open_frame(frame: &mut Vec<u8>)
 {
     if frame.len() < BESIDE {
         frame.clear();
-        extend_reserved(frame, &[0; 8]);
+        extend_reserved(frame, &[0; FRONT]);
     } else {
         frame.pop();
     }
@@ -115,7 +123,7 @@ fn close_frame(frame: &mut Vec<u8>)
     ensures len { vec_len frame.new ≡ vec_len frame.old + 1 }
     ensures capacity { vec_capacity frame.new ≡ vec_capacity frame.old }
 {
-    let size = frame.len() - 8;
+    let size = frame.len() - FRONT;
     frame.push_reserved(0);
     set_front(frame.as_mut_slice(), (size as u64).to_be_bytes());
 }
@@ -125,16 +133,18 @@ fn set_front(bytes: &mut [u8], front: [u8; 8])
     requires { 8 ≤ length bytes.old }
     ensures { bytes.new ≡ front ++ drop 8 bytes.old }
 {
-    bytes[..8].copy_from_slice(&front);
+    bytes[..FRONT].copy_from_slice(&front);
 }
 
 // Adds a record to a frame where there is room.
 fn add_record(frame: &mut Vec<u8>, key: &[u8], body: &[u8])
-    requires room { max 9 (vec_len frame.old) + (8 + length key.now + length body.now) ≤ vec_capacity frame.old }
+    requires room { max 9 (vec_len frame.old) + record_size (key.now, body.now)
+        ≤ vec_capacity frame.old }
     requires short_key { length key.now < 65536 }
     requires short_body { length body.now < 2 ^ 32 }
-    ensures items { frame.new.items ≡ framed (payload_of frame.old.items ++ encoded (key.now, body.now)) }
-    ensures len { vec_len frame.new ≡ max 9 (vec_len frame.old) + (8 + length key.now + length body.now) }
+    ensures items { frame.new.items
+        ≡ framed (payload_of frame.old.items ++ encoded (key.now, body.now)) }
+    ensures len { vec_len frame.new ≡ max 9 (vec_len frame.old) + record_size (key.now, body.now) }
     ensures capacity { vec_capacity frame.old ≤ vec_capacity frame.new }
 {
     open_frame(frame);

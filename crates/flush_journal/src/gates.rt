@@ -4,6 +4,7 @@ ghost use Rattle.edge_traits.specs.Causes.{HasCause};
 ghost use Rattle.edge_traits.specs.Disks.{Elapses, LeavesNoMore};
 ghost use Rattle.flush_journal.specs.Gates.{Shut, IsLaid, Opened, Either, AllHave, OnlyHas, GateStands, EndsShut};
 ghost use Rattle.flush_journal.specs.Moments.{Leaves};
+ghost use Rattle.flush_journal.specs.Unchanged.{SameDisk};
 
 use edge_traits::{Disk, Failed};
 
@@ -20,7 +21,7 @@ fn lay<D: Disk>(disk: &mut D, end: u64, frame: &[u8]) -> Result<(), Failed>
         → AllHave (Shut front) (D.reads disk.new) (D.images disk.new) }
     ensures moments { D.honest → (front : List ℕ) → length front ≡ end
         → OnlyHas (Shut front) (D.reads disk.old) (D.images disk.old)
-        → Leaves D.moment D.left_since disk.old disk.new (Shut front) }
+        → Leaves D.Disk disk.old disk.new (Shut front) }
     ensures ok { D.honest → (front : List ℕ) → length front ≡ end
         → OnlyHas (Shut front) (D.reads disk.old) (D.images disk.old)
         → OnOk result (OnlyHas (IsLaid front frame.now) (D.reads disk.new) (D.images disk.new)) }
@@ -28,7 +29,7 @@ fn lay<D: Disk>(disk: &mut D, end: u64, frame: &[u8]) -> Result<(), Failed>
         → Shut front (D.reads disk.new) }
     ensures laid { D.honest → (front : List ℕ) → length front ≡ end → Shut front (D.reads disk.old)
         → OnOk result (IsLaid front frame.now (D.reads disk.new)) }
-    ensures most { D.most disk.new ≡ D.most disk.old }
+    ensures same { SameDisk D.Disk disk.old disk.new }
     ensures cause { HasCause (D.faults disk.old) (D.faults disk.new) result }
 {
     disk.write_at(end + 1, frame)?;
@@ -44,15 +45,16 @@ fn open_gate<D: Disk>(disk: &mut D, end: u64) -> Result<(), Failed>
         → AllHave (Either front frame) (D.reads disk.new) (D.images disk.new) }
     ensures moments { D.honest → (front frame : List ℕ) → length front ≡ end
         → OnlyHas (IsLaid front frame) (D.reads disk.old) (D.images disk.old)
-        → Leaves D.moment D.left_since disk.old disk.new (Either front frame) }
+        → Leaves D.Disk disk.old disk.new (Either front frame) }
     ensures ok { D.honest → (front frame : List ℕ) → length front ≡ end
         → OnlyHas (IsLaid front frame) (D.reads disk.old) (D.images disk.old)
         → OnOk result (OnlyHas (Opened front frame) (D.reads disk.new) (D.images disk.new)) }
-    ensures reads { D.honest → (front frame : List ℕ) → length front ≡ end → IsLaid front frame (D.reads disk.old)
-        → Either front frame (D.reads disk.new) }
-    ensures opened { D.honest → (front frame : List ℕ) → length front ≡ end → IsLaid front frame (D.reads disk.old)
+    ensures reads { D.honest → (front frame : List ℕ) → length front ≡ end
+        → IsLaid front frame (D.reads disk.old) → Either front frame (D.reads disk.new) }
+    ensures opened { D.honest → (front frame : List ℕ) → length front ≡ end
+        → IsLaid front frame (D.reads disk.old)
         → OnOk result (Opened front frame (D.reads disk.new)) }
-    ensures most { D.most disk.new ≡ D.most disk.old }
+    ensures same { SameDisk D.Disk disk.old disk.new }
     ensures cause { HasCause (D.faults disk.old) (D.faults disk.new) result }
 {
     disk.write_at(end, &[OPEN])?;
@@ -69,14 +71,15 @@ pub fn write_frame<D: Disk>(disk: &mut D, end: u64, frame: &[u8]) -> Result<(), 
         → AllHave (Either front frame.now) (D.reads disk.new) (D.images disk.new) }
     ensures moments { D.honest → (front : List ℕ) → length front ≡ end
         → OnlyHas (Shut front) (D.reads disk.old) (D.images disk.old)
-        → Leaves D.moment D.left_since disk.old disk.new (Either front frame.now) }
+        → Leaves D.Disk disk.old disk.new (Either front frame.now) }
     ensures ok { D.honest → (front : List ℕ) → length front ≡ end
         → OnlyHas (Shut front) (D.reads disk.old) (D.images disk.old)
         → OnOk result (OnlyHas (Opened front frame.now) (D.reads disk.new) (D.images disk.new)) }
-    ensures stands { D.honest → EndsShut frame.now → GateStands end (length frame.now) (D.reads disk.new) }
+    ensures stands { D.honest → EndsShut frame.now
+        → GateStands end (length frame.now) (D.reads disk.new) }
     ensures moved { D.honest → EndsShut frame.now
         → OnOk result (GateStands (end + length frame.now) 0 (D.reads disk.new)) }
-    ensures most { D.most disk.new ≡ D.most disk.old }
+    ensures same { SameDisk D.Disk disk.old disk.new }
     ensures cause { HasCause (D.faults disk.old) (D.faults disk.new) result }
 {
     lay(disk, end, frame)?;
@@ -91,7 +94,7 @@ fn gate_is_open<D: Disk>(disk: &mut D, end: u64) -> Result<bool, Failed>
     ensures images { D.honest → LeavesNoMore (D.images disk.old) (D.images disk.new) }
     ensures time { D.honest → Elapses (D.moment disk.old) (D.moment disk.new)
         (D.left_since disk.old) (D.left_since disk.new) (D.images disk.new) }
-    ensures most { D.most disk.new ≡ D.most disk.old }
+    ensures same { SameDisk D.Disk disk.old disk.new }
     ensures cause { HasCause (D.faults disk.old) (D.faults disk.new) result }
 {
     let mut gate = [0];
@@ -109,14 +112,15 @@ pub fn write_again<D: Disk>(disk: &mut D, end: u64, frame: &[u8]) -> Result<(), 
         → AllHave (Either front frame.now) (D.reads disk.new) (D.images disk.new) }
     ensures moments { D.honest → (front : List ℕ) → length front ≡ end
         → AllHave (Either front frame.now) (D.reads disk.old) (D.images disk.old)
-        → Leaves D.moment D.left_since disk.old disk.new (Either front frame.now) }
+        → Leaves D.Disk disk.old disk.new (Either front frame.now) }
     ensures ok { D.honest → (front : List ℕ) → length front ≡ end
         → AllHave (Either front frame.now) (D.reads disk.old) (D.images disk.old)
         → OnOk result (OnlyHas (Opened front frame.now) (D.reads disk.new) (D.images disk.new)) }
-    ensures stands { D.honest → EndsShut frame.now → GateStands end (length frame.now) (D.reads disk.new) }
+    ensures stands { D.honest → EndsShut frame.now
+        → GateStands end (length frame.now) (D.reads disk.new) }
     ensures moved { D.honest → EndsShut frame.now
         → OnOk result (GateStands (end + length frame.now) 0 (D.reads disk.new)) }
-    ensures most { D.most disk.new ≡ D.most disk.old }
+    ensures same { SameDisk D.Disk disk.old disk.new }
     ensures cause { HasCause (D.faults disk.old) (D.faults disk.new) result }
 {
     disk.sync()?;

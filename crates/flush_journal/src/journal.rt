@@ -1,21 +1,20 @@
 // A journal over a disk.
-ghost use Rattle.std.specs.Prelude.{◌≡◌, ◌≢◌, ℕ, ◌+◌, ◌^◌, ◌<◌, ◌≤◌, ◌↔◌, [], ◌∷◌, ◌++◌, length, IsTrue, IsOk, OnOk, OnErr, IfOk, IfErr, MatchResult, None, Some, Ok, Err, Result, List, option_map};
-ghost use Rattle.edge_traits.specs.Causes.{Rose};
+ghost use Rattle.std.specs.Prelude.{◌≡◌, ◌≢◌, ◌+◌, ◌^◌, ◌<◌, ◌≤◌, ◌↔◌, [], IsTrue, OnOk, OnErr, IfOk, IfErr, MatchResult, None, Some, Ok, Err, Result, List, option_map};
 ghost use Rattle.flush_journal.specs.Batches.{records, owed_size};
-ghost use Rattle.edge_traits.specs.Disks.{LeavesNoMore};
+ghost use Rattle.edge_traits.specs.Disks.{Only};
 ghost use Rattle.flush_journal.specs.Files.{Content, content, fresh};
-ghost use Rattle.flush_journal.specs.Frames.{need_of};
 ghost use Rattle.flush_journal.specs.Gates.{GateStands};
-ghost use Rattle.flush_journal.specs.Moments.{Leaves};
 ghost use Rattle.flush_journal.specs.Numbers.{IsVersion1};
-ghost use Rattle.flush_journal.specs.Records.{Record, put_all};
+ghost use Rattle.flush_journal.specs.Unchanged.{SameBytes, SameDisk};
+ghost use Rattle.flush_journal.specs.Records.{Record};
 ghost use Rattle.flush_journal.specs.Reading.{MayRefuseReading};
-ghost use Rattle.flush_journal.specs.Refusals.{Answers, NoMagic, MayRefuseCreate};
+ghost use Rattle.flush_journal.specs.Refusals.{NoMagic, MayRefuseCreate};
 
 use crate::create::write_new;
 use crate::gates::{write_again, write_frame};
 use crate::header::{HEADER_SIZE, VERSION};
 use crate::read::read_journal;
+use crate::reader::Reader;
 use crate::{Batch, JournalRefused, Recovered, Report, Why};
 use edge_traits::{Disk, Failed};
 use std::alloc::Global;
@@ -46,7 +45,8 @@ fn check_room(end: u64, size: u64, room: u64) -> Result<(), Why>
 }
 
 impl<D: Disk> Journal<D> {
-    ghost use Rattle.flush_journal.specs.Standing.{disk_of, numbers_of, end_of, pending_of, with_batch, Numbers, IsSettled, IsOwed, HoldsEither};
+    ghost use Rattle.flush_journal.specs.Standing.{disk_of, numbers_of, pending_of, Numbers, IsSettled, IsOwed};
+    ghost use Rattle.flush_journal.specs.Tries.{Tries, Writes};
 
     /// Makes a journal for so many lanes, without a batch, on a disk. After `Ok` whatever a crash leaves is it; a crash
     /// before leaves any bytes.
@@ -58,9 +58,15 @@ impl<D: Disk> Journal<D> {
     pub fn create(mut disk: D, lanes: u32) -> Result<Journal<D>, JournalRefused<D>>
         requires some { 1 ≤ lanes }
         requires few { lanes ≤ 16 }
-        ensures settled { D.honest → IfOk result (λ j. IsSettled D.reads D.images j (fresh lanes)) }
+        ensures settled { D.honest → IfOk result (λ j. IsSettled j (fresh lanes)) }
+        ensures numbers { IfOk result (λ j. Numbers j (fresh lanes)) }
+        ensures idle { IfOk result (λ j. pending_of j ≡ None) }
         ensures room { OnOk result (17 ≤ D.most disk) }
         ensures none { OnOk result (NoMagic D.honest (D.reads disk)) }
+        ensures same { MatchResult result (λ j. SameDisk D.Disk disk (disk_of j))
+            (λ r. SameDisk D.Disk disk r.disk) }
+        ensures refused { D.honest → IfErr result (λ r. r.why ≢ Why.DiskFault
+            → SameBytes D.Disk disk r.disk) }
         ensures why { IfErr result (λ r. MayRefuseCreate D.honest (D.reads disk) (D.most disk)
             (D.faults disk) (D.faults r.disk) r.why) }
     {
@@ -86,26 +92,34 @@ impl<D: Disk> Journal<D> {
     ///
     /// `NotAJournal` with the place of what is wrong, where no journal stands there; `DiskFault` where the disk had a
     /// fault; `NoMemory`.
-    pub fn recover(alloc: Global, mut disk: D) -> Result<(Journal<D>, Recovered), JournalRefused<D>>
-        ensures recovered { D.honest → IfOk result (λ p. (c : Content) × (content (D.reads disk) ≡ Ok c)
-            × IsSettled D.reads D.images p.0 c × (p.1 ≡ c.held)) }
-        ensures same { D.honest → MatchResult result (λ p. D.reads (disk_of p.0) ≡ D.reads disk)
-            (λ r. D.reads r.disk ≡ D.reads disk) }
-        ensures fewer { D.honest → MatchResult result (λ p. LeavesNoMore (D.images disk) (D.images (disk_of p.0)))
-            (λ r. LeavesNoMore (D.images disk) (D.images r.disk)) }
-        ensures why { IfErr result (λ r. MayRefuseReading D.honest (D.reads disk) (D.faults disk) (D.faults r.disk) r.why) }
+    pub fn recover(alloc: Global, disk: D) -> Result<(Journal<D>, Recovered), JournalRefused<D>>
+        ensures recovered { D.honest → IfOk result (λ p. (c : Content)
+            × (content (D.reads disk) ≡ Ok c) × IsSettled p.0 c × (p.1 ≡ c.held)) }
+        ensures idle { IfOk result (λ p. pending_of p.0 ≡ None) }
+        ensures same { MatchResult result (λ p. SameDisk D.Disk disk (disk_of p.0))
+            (λ r. SameDisk D.Disk disk r.disk) }
+        ensures bytes { D.honest → MatchResult result (λ p. SameBytes D.Disk disk (disk_of p.0))
+            (λ r. SameBytes D.Disk disk r.disk) }
+        ensures synced { D.honest → IfErr result (λ r. r.why ≢ Why.DiskFault
+            → Only (D.reads disk) (D.images r.disk)) }
+        ensures why { IfErr result (λ r. MayRefuseReading D.honest (D.reads disk)
+            (D.faults disk) (D.faults r.disk) r.why) }
     {
+        let mut reader = Reader::open(alloc, disk)?;
         let mut recovered = Recovered::new(alloc);
-        match read_journal(alloc, &mut disk, &mut recovered) {
+        match read_journal(&mut reader, &mut recovered) {
             Ok(numbers) => {
                 let journal = Journal {
-                    disk,
+                    disk: reader.into_disk(),
                     numbers,
                     pending: None,
                 };
                 Ok((journal, recovered))
             }
-            Err(why) => Err(JournalRefused { disk, why }),
+            Err(why) => Err(JournalRefused {
+                disk: reader.into_disk(),
+                why,
+            }),
         }
     }
 
@@ -142,25 +156,12 @@ impl<D: Disk> Journal<D> {
     /// call of the disk. After either the batch is pending: `settle` writes it.
     pub fn append(&mut self, batch: Batch) -> Result<(), Why>
         requires idle { pending_of self.old ≡ None }
-        ensures ok { D.honest → (c : Content) → IsSettled D.reads D.images self.old c
-            → OnOk result (IsSettled D.reads D.images self.new (with_batch c (records batch))) }
-        ensures err { D.honest → (c : Content) → IsSettled D.reads D.images self.old c
-            → OnErr result (IsOwed D.reads D.images self.new c (records batch)) }
-        ensures moments { D.honest → (c : Content) → IsSettled D.reads D.images self.old c
-            → Leaves D.moment D.left_since (disk_of self.old) (disk_of self.new)
-            (HoldsEither c.held (put_all (records batch) c.held)) }
-        ensures done { OnOk result (pending_of self.new ≡ None) }
-        ensures pending { OnErr result (pending_of self.new ≡ Some (records batch)) }
+        ensures writes { D.honest → (c : Content) → IsSettled self.old c
+            → Writes self.old self.new c (records batch) result }
+        ensures tries { records batch ≢ [] → Tries self.old self.new (records batch) result }
         ensures empty { records batch ≡ [] → result ≡ Ok tt }
         ensures untouched { records batch ≡ [] → self.new ≡ self.old }
-        ensures cause { Answers (end_of self.old) (need_of (records batch)) (D.most (disk_of self.old))
-            (D.faults (disk_of self.old)) (D.faults (disk_of self.new)) result }
-        ensures full { records batch ≢ [] → D.most (disk_of self.old) < end_of self.old + need_of (records batch)
-            → disk_of self.new ≡ disk_of self.old }
-        ensures refused { records batch ≢ [] → D.most (disk_of self.old) < end_of self.old + need_of (records batch)
-            → result ≡ Err (Why.JournalFull (end_of self.old) (need_of (records batch)) (D.most (disk_of self.old))) }
-        ensures later { D.faults (disk_of self.old) ≤ D.faults (disk_of self.new) }
-        ensures most { D.most (disk_of self.new) ≡ D.most (disk_of self.old) }
+        ensures same { SameDisk D.Disk (disk_of self.old) (disk_of self.new) }
     {
         if batch.is_empty() {
             return Ok(());
@@ -186,27 +187,13 @@ impl<D: Disk> Journal<D> {
     ///
     /// Those of `append`. After either the batch stays pending.
     pub fn settle(&mut self) -> Result<(), Why>
-        ensures ok { D.honest → (c : Content) → (rs : List Record) → IsOwed D.reads D.images self.old c rs
-            → OnOk result (IsSettled D.reads D.images self.new (with_batch c rs)) }
-        ensures err { D.honest → (c : Content) → (rs : List Record) → IsOwed D.reads D.images self.old c rs
-            → OnErr result (IsOwed D.reads D.images self.new c rs) }
-        ensures moments { D.honest → (c : Content) → (rs : List Record) → IsOwed D.reads D.images self.old c rs
-            → Leaves D.moment D.left_since (disk_of self.old) (disk_of self.new)
-            (HoldsEither c.held (put_all rs c.held)) }
-        ensures done { OnOk result (pending_of self.new ≡ None) }
-        ensures pending { OnErr result (pending_of self.new ≡ pending_of self.old) }
+        ensures writes { D.honest → (c : Content) → (rs : List Record) → IsOwed self.old c rs
+            → Writes self.old self.new c rs result }
+        ensures tries { (rs : List Record) → pending_of self.old ≡ Some rs
+            → Tries self.old self.new rs result }
         ensures idle { pending_of self.old ≡ None → result ≡ Ok tt }
         ensures untouched { pending_of self.old ≡ None → self.new ≡ self.old }
-        ensures cause { (rs : List Record) → pending_of self.old ≡ Some rs
-            → Answers (end_of self.old) (need_of rs) (D.most (disk_of self.old))
-            (D.faults (disk_of self.old)) (D.faults (disk_of self.new)) result }
-        ensures full { (rs : List Record) → pending_of self.old ≡ Some rs
-            → D.most (disk_of self.old) < end_of self.old + need_of rs → disk_of self.new ≡ disk_of self.old }
-        ensures refused { (rs : List Record) → pending_of self.old ≡ Some rs
-            → D.most (disk_of self.old) < end_of self.old + need_of rs
-            → result ≡ Err (Why.JournalFull (end_of self.old) (need_of rs) (D.most (disk_of self.old))) }
-        ensures later { D.faults (disk_of self.old) ≤ D.faults (disk_of self.new) }
-        ensures most { D.most (disk_of self.new) ≡ D.most (disk_of self.old) }
+        ensures same { SameDisk D.Disk (disk_of self.old) (disk_of self.new) }
     {
         let Some(batch) = &self.pending else {
             return Ok(());

@@ -9,11 +9,11 @@ mod header;
 mod journal;
 mod laws;
 mod read;
+mod reader;
 mod records;
 mod recovered;
 mod report;
 mod why;
-mod window;
 
 pub use batch::Batch;
 pub use journal::Journal;

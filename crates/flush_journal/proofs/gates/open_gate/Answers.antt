@@ -14,10 +14,10 @@ returns-in_err-write_at-clause-kept g c = λ h front frame place has. record {
 
 pub returns-in_err-write_at-clause-moments : goal.returns-in_err-write_at-clause-moments
 returns-in_err-write_at-clause-moments g c = λ h front frame place has.
-    one_call g.D.Disk.moment g.D.Disk.left_since c.args.disk.now c.write_at.new.self (Either front frame) _
+    one_call g.D.Disk c.args.disk.now c.write_at.new.self (Either front frame) _
     (λ i left. inl (laid_shut front c.args.end place frame i (subst (IsLaid front frame) (sym (has.only i (g.met.D.Disk.only_now c.args.disk.now i h left))) has.now)))
     (c.write_at.ensures.time h)
-    (images_gate front c.args.end place _ _ _ _ has (c.write_at.ensures.images h))
+    (images_gate front c.args.end place _ _ _ _ has (λ i left. left))
 
 pub returns-clause-kept : goal.returns-clause-kept
 returns-clause-kept g c = λ h front frame place has. record {
@@ -28,11 +28,11 @@ returns-clause-kept g c = λ h front frame place has. record {
 pub returns-clause-moments : goal.returns-clause-moments
 returns-clause-moments g c = λ h front frame place has.
     let behind = images_gate front c.args.end place _ _ _ _ has (c.write_at.ensures.images h) in
-    joined g.D.Disk.moment g.D.Disk.left_since c.args.disk.now c.write_at.new.self c.sync.new.self (Either front frame)
-    (one_call g.D.Disk.moment g.D.Disk.left_since c.args.disk.now c.write_at.new.self (Either front frame) _
+    joined g.D.Disk c.args.disk.now c.write_at.new.self c.sync.new.self (Either front frame)
+    (one_call g.D.Disk c.args.disk.now c.write_at.new.self (Either front frame) _
     (λ i left. inl (laid_shut front c.args.end place frame i (subst (IsLaid front frame) (sym (has.only i (g.met.D.Disk.only_now c.args.disk.now i h left))) has.now)))
-    (c.write_at.ensures.time h) behind)
-    (one_call g.D.Disk.moment g.D.Disk.left_since c.write_at.new.self c.sync.new.self (Either front frame) _
+    (c.write_at.ensures.time h) (images_gate front c.args.end place _ _ _ _ has (λ i left. left)))
+    (one_call g.D.Disk c.write_at.new.self c.sync.new.self (Either front frame) _
     (λ i left. behind i (g.met.D.Disk.only_now c.write_at.new.self i h left))
     (c.sync.ensures.time h) (λ i left. behind i (c.sync.ensures.images h i left)))
 

@@ -1,24 +1,24 @@
 use Rattle.std.proofs.Common.{◌≢◌, arith, slice_index}
 use Rattle.std.proofs.lemmas.Bool.Decides.{nat_tests}
 use Rattle.flush_journal.specs.Gates.{Either}
-use Rattle.flush_journal.proofs.StandLemmas.{found_shut}
+use Rattle.flush_journal.proofs.EndGates.{found_shut}
 use Rattle.flush_journal.proofs.Moments.{quiet_call, joined}
 use Rattle.flush_journal.proofs.gates.write_again.Goals as goal
 
 pub returns-in_err-gate_is_open-clause-moments : goal.returns-in_err-gate_is_open-clause-moments
 returns-in_err-gate_is_open-clause-moments g c = λ h front place has.
-    joined g.D.Disk.moment g.D.Disk.left_since c.args.disk.now c.sync.new.self c.gate_is_open.new.disk (Either front c.args.frame.now)
-    (quiet_call g.D.Disk.moment g.D.Disk.left_since c.args.disk.now c.sync.new.self (Either front c.args.frame.now) _ _
+    joined g.D.Disk c.args.disk.now c.sync.new.self c.gate_is_open.new.disk (Either front c.args.frame.now)
+    (quiet_call g.D.Disk c.args.disk.now c.sync.new.self (Either front c.args.frame.now) _ _
     (λ i left. g.met.D.Disk.only_now c.args.disk.now i h left) has.each (c.sync.ensures.time h) (c.sync.ensures.images h))
-    (quiet_call g.D.Disk.moment g.D.Disk.left_since c.sync.new.self c.gate_is_open.new.disk (Either front c.args.frame.now) _ _
+    (quiet_call g.D.Disk c.sync.new.self c.gate_is_open.new.disk (Either front c.args.frame.now) _ _
     (λ i left. g.met.D.Disk.only_now c.sync.new.self i h left) (λ i left. has.each i (c.sync.ensures.images h i left)) (c.gate_is_open.ensures.time h) (c.gate_is_open.ensures.images h))
 
 pub returns-then-branch-clause-moments : goal.returns-then-branch-clause-moments
 returns-then-branch-clause-moments g c = λ h front place has.
-    joined g.D.Disk.moment g.D.Disk.left_since c.args.disk.now c.sync.new.self c.gate_is_open.new.disk (Either front c.args.frame.now)
-    (quiet_call g.D.Disk.moment g.D.Disk.left_since c.args.disk.now c.sync.new.self (Either front c.args.frame.now) _ _
+    joined g.D.Disk c.args.disk.now c.sync.new.self c.gate_is_open.new.disk (Either front c.args.frame.now)
+    (quiet_call g.D.Disk c.args.disk.now c.sync.new.self (Either front c.args.frame.now) _ _
     (λ i left. g.met.D.Disk.only_now c.args.disk.now i h left) has.each (c.sync.ensures.time h) (c.sync.ensures.images h))
-    (quiet_call g.D.Disk.moment g.D.Disk.left_since c.sync.new.self c.gate_is_open.new.disk (Either front c.args.frame.now) _ _
+    (quiet_call g.D.Disk c.sync.new.self c.gate_is_open.new.disk (Either front c.args.frame.now) _ _
     (λ i left. g.met.D.Disk.only_now c.sync.new.self i h left) (λ i left. has.each i (c.sync.ensures.images h i left)) (c.gate_is_open.ensures.time h) (c.gate_is_open.ensures.images h))
 
 pub returns-clause-kept : goal.returns-clause-kept
@@ -29,11 +29,11 @@ returns-clause-kept g c = λ h front place has.
 pub returns-clause-moments : goal.returns-clause-moments
 returns-clause-moments g c = λ h front place has.
     let shut : slice_index (g.D.Disk.reads c.sync.new.self) c.args.end ≢ 1 = (let e = c.in_ok-gate_is_open.ensures.open h in λ is. grind (arith, nat_tests, e, c.if-branch.false)) in
-    joined g.D.Disk.moment g.D.Disk.left_since c.args.disk.now c.gate_is_open.new.disk c.write_frame.new.disk (Either front c.args.frame.now)
-    (joined g.D.Disk.moment g.D.Disk.left_since c.args.disk.now c.sync.new.self c.gate_is_open.new.disk (Either front c.args.frame.now)
-    (quiet_call g.D.Disk.moment g.D.Disk.left_since c.args.disk.now c.sync.new.self (Either front c.args.frame.now) _ _
+    joined g.D.Disk c.args.disk.now c.gate_is_open.new.disk c.write_frame.new.disk (Either front c.args.frame.now)
+    (joined g.D.Disk c.args.disk.now c.sync.new.self c.gate_is_open.new.disk (Either front c.args.frame.now)
+    (quiet_call g.D.Disk c.args.disk.now c.sync.new.self (Either front c.args.frame.now) _ _
     (λ i left. g.met.D.Disk.only_now c.args.disk.now i h left) has.each (c.sync.ensures.time h) (c.sync.ensures.images h))
-    (quiet_call g.D.Disk.moment g.D.Disk.left_since c.sync.new.self c.gate_is_open.new.disk (Either front c.args.frame.now) _ _
+    (quiet_call g.D.Disk c.sync.new.self c.gate_is_open.new.disk (Either front c.args.frame.now) _ _
     (λ i left. g.met.D.Disk.only_now c.sync.new.self i h left) (λ i left. has.each i (c.sync.ensures.images h i left)) (c.gate_is_open.ensures.time h) (c.gate_is_open.ensures.images h)))
     (c.write_frame.ensures.moments h front place (found_shut front c.args.frame.now _ _ _ _ _ c.args.end place has.now (c.sync.ensures.reads h) (c.gate_is_open.ensures.reads h) (c.in_ok-sync.ensures.ok h) (c.gate_is_open.ensures.images h) shut))
 

@@ -1,6 +1,6 @@
 use Rattle.std.proofs.Common.{◌+◌, length, take, inl}
 use Rattle.flush_journal.specs.Gates.{Shut, Opened, Either, GateStands}
-use Rattle.flush_journal.proofs.StandLemmas.{shut_of_stands, shut_long, stands_of_either, stands_of_opened}
+use Rattle.flush_journal.proofs.EndGates.{shut_of_stands, shut_long, stands_of_either, stands_of_opened}
 use Rattle.flush_journal.proofs.Moments.{joined, weaker}
 use Rattle.flush_journal.proofs.Results.{on_ok}
 use Rattle.flush_journal.proofs.gates.write_frame.Goals as goal
@@ -20,8 +20,8 @@ returns-clause-kept g c = λ h front place has. c.open_gate.ensures.kept h front
 
 pub returns-clause-moments : goal.returns-clause-moments
 returns-clause-moments g c = λ h front place has.
-    joined g.D.Disk.moment g.D.Disk.left_since c.args.disk.now c.lay.new.disk c.open_gate.new.disk (Either front c.args.frame.now)
-    (weaker g.D.Disk.moment g.D.Disk.left_since c.args.disk.now c.lay.new.disk (Shut front) (Either front c.args.frame.now) (λ i shut. inl shut) (c.lay.ensures.moments h front place has))
+    joined g.D.Disk c.args.disk.now c.lay.new.disk c.open_gate.new.disk (Either front c.args.frame.now)
+    (weaker g.D.Disk c.args.disk.now c.lay.new.disk (Shut front) (Either front c.args.frame.now) (λ i shut. inl shut) (c.lay.ensures.moments h front place has))
     (c.open_gate.ensures.moments h front c.args.frame.now place (c.in_ok-lay.ensures.ok h front place has))
 
 pub returns-clause-stands : goal.returns-clause-stands

@@ -1,6 +1,6 @@
 use Rattle.std.proofs.Common.{◌≡◌, ◌∙◌, List, ℕ, sym, ap, refl, arith, max, ◌+◌, [], ◌∷◌, length, length-append}
 use Rattle.edge_traits.specs.declared.mem_disk.Call.TheVariants.{Wrote}
-use Rattle.edge_traits.proofs.MemDiskLemmas.{elapses_push, replays_written, rested_written, images_written, unsynced_push}
+use Rattle.edge_traits.proofs.MemDiskLemmas.{elapses_written, replays_written, rested_written, images_written, unsynced_push}
 use Rattle.edge_traits.proofs.mem_disk.MemDiskDisk.write_at.Goals as goal
 
 pub invariant_of-self-in_default : goal.invariant_of-self-in_default
@@ -29,4 +29,6 @@ returns-clause-images c = λ h.
 pub returns-clause-time : goal.returns-clause-time
 returns-clause-time c = λ h.
     let call = c.in_default.ensures.calls in
-    elapses_push c.args.self.now.first.items c.args.self.now.calls.items c.record_write.new.calls.items (Wrote c.args.at call.0) call.2
+    elapses_written c.args.self.now.first.items c.args.self.now.calls.items c.record_write.new.calls.items (Wrote c.args.at call.0) call.2 _
+    (images_written c.args.self.now.first.items c.args.self.now.calls.items c.record_write.new.calls.items (Wrote c.args.at call.0) call.2
+    c.args.at call.0 c.args.bytes.now c.args.self.now.bytes.items c.args.self.now.base.items refl call.1 (c.requires.inside h) c.args.self.now.replays)

@@ -25,21 +25,19 @@ pub none_owed : (p : Option Batch) → option_map records p ≡ None → owed_si
 none_owed None e = refl
 none_owed (Some b) e = absurd (cc)
 
-module _ {D : Type 0} {met : Ghosts D} (reads : D → List ℕ) (images : D → List ℕ → Type 0) (j : Journal D met) (c : Content) (rs : List Record) (front : List ℕ) (is : IsFront front c) (are : AreBatch rs) where
-  pub owed_by : pending_of j ≡ Some rs → Numbers j c → AllHave (Either front (frame_of rs)) (reads j.disk) (images j.disk) → IsOwed reads images j c rs
+module _ {D : Type 0} {met : Ghosts D} (j : Journal D met) (c : Content) (rs : List Record) (front : List ℕ) (is : IsFront front c) (are : AreBatch rs) where
+  pub owed_by : pending_of j ≡ Some rs → Numbers j c → AllHave (Either front (frame_of rs)) (met.reads j.disk) (met.images j.disk) → IsOwed j c rs
   owed_by pending numbers has = record {
     pending = pending;
     some = are.some;
     numbers = numbers;
-    front = front;
-    closed = content-shut front c is 0 [] (omega arith);
-    place = is.place;
-    now = has.now;
-    each = has.each;
+    now = either_held front c is rs are (met.reads j.disk) has.now;
+    each = λ i left. either_held front c is rs are i (has.each i left);
+    cut = record { front = front; closed = content-shut front c is 0 [] (omega arith); place = is.place; now = has.now; each = has.each };
   }
 
   pub settled_by : pending_of j ≡ None → j.numbers.version ≡ c.version → j.numbers.lanes ≡ c.lanes → j.numbers.batches ≡ c.batches + 1 → j.numbers.end ≡ c.end + length (frame_of rs)
-      → OnlyHas (Opened front (frame_of rs)) (reads j.disk) (images j.disk) → IsSettled reads images j (with_batch c rs)
+      → OnlyHas (Opened front (frame_of rs)) (met.reads j.disk) (met.images j.disk) → IsSettled j (with_batch c rs)
   settled_by idle version lanes batches end has = record {
     idle = idle;
     numbers = record {
@@ -48,12 +46,12 @@ module _ {D : Type 0} {met : Ghosts D} (reads : D → List ℕ) (images : D → 
       batches = batches ∙ sym (with_batch-batches c rs are.some);
       end = end ∙ sym (with_batch-end c rs are.some);
     };
-    file = opened_content front c is rs are (reads j.disk) has.now;
+    file = opened_content front c is rs are (met.reads j.disk) has.now;
     only = has.only;
   }
 
-  pub leaves_either : (moment : D → ℕ) (left_since : D → ℕ → List ℕ → Type 0) (old new : D) → Leaves moment left_since old new (Either front (frame_of rs)) → Leaves moment left_since old new (HoldsEither c.held (put_all rs c.held))
-  leaves_either moment left_since old new l = weaker moment left_since old new (Either front (frame_of rs)) (HoldsEither c.held (put_all rs c.held)) (either_held front c is rs are) l
+  pub leaves_either : (old new : D) → Leaves met old new (Either front (frame_of rs)) → Leaves met old new (HoldsEither c.held (put_all rs c.held))
+  leaves_either old new l = weaker met old new (Either front (frame_of rs)) (HoldsEither c.held (put_all rs c.held)) (either_held front c is rs are) l
 
 -- the batch that is pending has some record
 pub some_pending : (p : Option Batch) (b : Batch) → option_map records p ≢ Some [] → p ≡ Some b → records b ≢ []

@@ -1,0 +1,18 @@
+-- What calls of a disk leave as it was.
+use Rattle.std.specs.Prelude.{◌≡◌, ℕ, ◌≤◌}
+use Rattle.edge_traits.specs.declared.disk.Disk.{Ghosts}
+use Rattle.edge_traits.specs.Disks.{LeavesNoMore}
+
+-- of every disk: its room and what lies beside it; and its count of faults didn't fall
+pub record SameDisk {D : Type 0} (met : Ghosts D) (old new : D) : Type 0 where
+  pub most : met.most new ≡ met.most old
+  pub beside : met.beside new ≡ met.beside old
+  pub faults : met.faults old ≤ met.faults new
+
+-- of a disk that tells its bytes: what reads give; time didn't go back, and no image is new, be it of a crash now or of one since
+-- an earlier moment
+pub record SameBytes {D : Type 0} (met : Ghosts D) (old new : D) : Type 0 where
+  pub reads : met.reads new ≡ met.reads old
+  pub images : LeavesNoMore (met.images old) (met.images new)
+  pub later : met.moment old ≤ met.moment new
+  pub since : (t : ℕ) → t ≤ met.moment old → LeavesNoMore (met.left_since old t) (met.left_since new t)
