@@ -1,11 +1,10 @@
 -- A map of records whose bodies aren't empty stays one.
 use Rattle.std.proofs.Common.{◌≡◌, ℕ, ◌<◌, Bool, true, false, cond, List, length, Some, None, is_eq, Result, Ok, Err, OnOk, OnErr, refl, sym, ◌∙◌, ap, subst}
-use Rattle.std.specs.Cmp.{Equal-is}
 use Rattle.std.specs.Cmp.Lexicographic.{nat_list_cmp_total}
 use Rattle.std.specs.FinMap as map
 use Rattle.text_maps.specs.Keyed.{text_order}
-use Rattle.text_maps.proofs.KeyedMaps.{exact_texts}
 use Rattle.flush_journal.specs.Records.{Record, Held, IsRecord, AreKept}
+use Rattle.flush_journal.proofs.PutLemmas.{tied}
 
 pub kept_empty : (m : Held) → m ≡ map.empty → AreKept m
 kept_empty m is = λ q b e. absurd (let none : map.get m q ≡ None = ap (λ (n : Held). map.get n q) is ∙ map.get-empty text_order q in cc)
@@ -24,7 +23,7 @@ kept_put m n key body is sound some kept = λ q b e.
   where
     here : (q b : List ℕ) (t : Bool) → is_eq (text_order q key) ≡ t → cond t (Some body) (map.get m q) ≡ Some b → IsRecord (q, b) × (0 < length b)
     here q b true tie e =
-        let same_key : key ≡ q = sym (exact_texts q key ((Equal-is (text_order q key)).0 tie)) in
+        let same_key : key ≡ q = sym (tied q key tie) in
         let same_body : body ≡ b = cc in
         subst (λ (r : Record). IsRecord r × (0 < length r.1)) (λ i. (same_key i, same_body i)) (sound, some)
     here q b false tie e = kept q b e

@@ -18,3 +18,4 @@ pub mod HeaderLemmas
 pub mod BlockLemmas
 pub mod LayoutLemmas
 pub mod KeptLemmas
+pub mod PutLemmas

@@ -112,3 +112,8 @@ pub record IsRecord (r : Record) : Type 0 where
 -- a map of records whose bodies aren't empty
 abbrev pub AreKept : Held → Type 0
 AreKept m = (key body : List ℕ) → map.get m key ≡ Some body → IsRecord (key, body) × (0 < length body)
+
+-- what stands at a key after a record with this body
+abbrev pub kept_body : List ℕ → Option (List ℕ)
+kept_body [] = None
+kept_body (b ∷ body) = Some (b ∷ body)
