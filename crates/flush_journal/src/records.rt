@@ -59,7 +59,8 @@ fn body_at_front(bytes: &[u8]) -> Option<(&[u8], &[u8])>
 
 // The record at the front, and what follows.
 pub fn first_record(bytes: &[u8]) -> Option<(&[u8], &[u8], &[u8])>
-    ensures found { option_map (λ p. ((p.0.now, p.1.now), p.2.now)) result ≡ first_record bytes.now }
+    ensures found { option_map (λ p. ((p.0.now, p.1.now), p.2.now)) result
+        ≡ first_record bytes.now }
     ensures sound { IfSome result (λ p. IsRecord (p.0.now, p.1.now)) }
 {
     let (key, rest) = key_at_front(bytes)?;

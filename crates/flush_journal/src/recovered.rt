@@ -95,8 +95,8 @@ impl Recovered {
         Some(body.bytes())
     }
 
-    /// The least key of the map, or the least one behind a key. Where the map has that key, it is found in order; else
-    /// each key before it is looked at.
+    /// The least key of the map, or the least one behind a key. Where the map has that key, it is found in
+    /// order; else each key before it is looked at.
     pub fn next_key(&self, after: Option<&[u8]>) -> Option<&[u8]>
         ensures { IsNext self.now (option_copied after.entry) (option_copied result) }
     {
