@@ -1,6 +1,6 @@
 -- A payload is some records exactly where it is their encoding.
-use Rattle.std.proofs.Common.{◌≡◌, ℕ, zero, suc, ◌+◌, ◌≤◌, ◌<◌, ◌^◌, Bool, true, false, List, [], ◌∷◌, ◌++◌, length, get_or, Option, Some, None, refl, sym, ◌∙◌, ap, subst, arith, append_assoc, length-append}
-use Rattle.std.specs.Prelude.{option_map, option_and_then, nat_lt, ◌&&◌, if◌then◌else◌, All}
+use Rattle.std.proofs.Common.{◌≡◌, ℕ, zero, suc, ◌<◌, ◌^◌, Bool, true, false, List, [], ◌∷◌, ◌++◌, length, get_or, Some, None, refl, sym, ◌∙◌, ap, subst, arith, append_assoc}
+use Rattle.std.specs.Prelude.{option_map, option_and_then, if◌then◌else◌, All}
 use Rattle.std.specs.List.{AllByRecursion}
 use Rattle.std.specs.Int.{w32, w64, from_be_bytes}
 use Rattle.std.proofs.lemmas.Option.{option_and_then_some}
@@ -165,3 +165,7 @@ all_records rs h = All-from_recursion IsRecord rs h
 
 pub each_record : (rs : List Record) → All IsRecord rs → Records rs
 each_record rs h = recursion_from_All IsRecord rs h
+
+-- a record that was read is one that a payload can have
+pub record_sound : (bytes : List ℕ) (r : Record × List ℕ) → AreBytes bytes → Some r ≡ first_record bytes → IsRecord r.0
+record_sound bytes r h e = (record_encoded bytes r (bytes_each bytes h) (sym e)).sound

@@ -1,15 +1,15 @@
 -- A file has a content, or a fault, exactly where it is laid out so.
-use Rattle.std.proofs.Common.{◌≡◌, ◌⊎◌, ⊎_elim, inl, inr, ℕ, suc, ◌+◌, ◌≤◌, ◌<◌, List, [], ◌∷◌, ◌++◌, length, drop, Option, Some, None, Result, Ok, Err, refl, sym, ◌∙◌, ap, subst, arith, append_assoc, length-append}
+use Rattle.std.proofs.Common.{◌≡◌, inl, inr, ℕ, ◌+◌, ◌≤◌, List, [], ◌∷◌, ◌++◌, length, drop, Some, None, Result, Ok, Err, refl, sym, ◌∙◌, ap, subst, arith, append_assoc, length-append}
 use Rattle.std.specs.Prelude.{slice_index}
 use Rattle.flush_journal.specs.Records.{Record}
-use Rattle.flush_journal.specs.Files.{Content, header_ranges, first_outside, first_batch, read_on, fresh, content}
+use Rattle.flush_journal.specs.Files.{Content, header_ranges, first_outside, read_on, fresh, content}
 use Rattle.flush_journal.specs.Blocks.{header_bytes, blocks, IsJournal, IsLeft, IsFault}
 use Rattle.flush_journal.specs.Blocks.IsFault.{no_header, no_gate, no_payload}
 use Rattle.flush_journal.proofs.FileLemmas.{after_batch, read_on_open, read_on_shut}
 use Rattle.flush_journal.proofs.ContentLemmas.{content-header, content-outside}
 use Rattle.flush_journal.proofs.EncodingLemmas.{Bytes, bytes_parts}
-use Rattle.flush_journal.proofs.BlockLemmas.{grown_all, Batches, blocks_read, Stops, IsReading, reading_of, grown_version, grown_lanes, grown_count, grown_end, grown_held, length-blocks, all_batches, each_batch, no_payload_of, no_batch_of}
-use Rattle.flush_journal.proofs.HeaderLemmas.{HasHeader, header_found, header_read, length-header, outside_begins, begins_outside}
+use Rattle.flush_journal.proofs.BlockLemmas.{grown_all, Batches, blocks_read, Stops, reading_of, grown_version, grown_lanes, grown_count, grown_end, grown_held, length-blocks, all_batches, each_batch, no_payload_of, no_batch_of}
+use Rattle.flush_journal.proofs.HeaderLemmas.{header_found, header_read, length-header, outside_begins, begins_outside}
 
 -- the place behind a header and blocks
 laid_length : (lanes : ℕ) (bs : List (List Record)) (left : List ℕ) → lanes ≤ 16 → length (header_bytes lanes ++ blocks bs ++ left) ≡ (grown_all (fresh lanes) bs).end + length left

@@ -13,8 +13,9 @@ pub mod NumberLemmas
 pub mod PayloadLemmas
 pub mod ReadLemmas
 pub mod NewLemmas
-pub mod NextLemmas
 pub mod EncodingLemmas
 pub mod HeaderLemmas
 pub mod BlockLemmas
 pub mod LayoutLemmas
+pub mod KeptLemmas
+pub mod PutLemmas

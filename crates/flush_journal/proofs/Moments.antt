@@ -1,5 +1,5 @@
 -- How a run of disk calls goes on.
-use Rattle.std.proofs.Common.{inl, inr, ⊎_elim, ℕ, ◌≤◌, List, arith}
+use Rattle.std.proofs.Common.{inl, inr, ⊎_elim, ℕ, List, arith}
 use Rattle.edge_traits.specs.declared.disk.Disk.{Ghosts}
 use Rattle.edge_traits.specs.Disks.{Elapses, LeavesNoMore}
 use Rattle.flush_journal.specs.Moments.{Leaves}

@@ -1,8 +1,10 @@
 -- What one call after another leaves as it was.
-use Rattle.std.proofs.Common.{◌≡◌, ℕ, ◌≤◌, List, inl, ⊎_elim, refl, ◌∙◌, arith}
+use Rattle.std.proofs.Common.{◌≡◌, ℕ, ◌≤◌, List, ⊎_elim, refl, ◌∙◌, arith}
 use Rattle.edge_traits.specs.declared.disk.Disk.{Ghosts}
 use Rattle.edge_traits.specs.Disks.{Elapses, LeavesNoMore}
+use Rattle.flush_journal.specs.Readers.{GoesOn}
 use Rattle.flush_journal.specs.Unchanged.{SameDisk, SameBytes}
+use Rattle.flush_journal.specs.declared.reader.Reader.{Reader}
 
 module _ {D : Type 0} (met : Ghosts D) where
   -- no call
@@ -37,4 +39,15 @@ module _ {D : Type 0} (met : Ghosts D) where
     images = images;
     later = time.later;
     since = λ t le i left. ⊎_elim (λ was. was) (λ now. counts_now old t i told le (images i now)) (time.nothing_else t i le left);
+  }
+
+module _ {D : Type 0} {met : Ghosts D} where
+  pub goes_on_here : (r : Reader D met) → GoesOn r r
+  goes_on_here r = record { end = refl; same = same_here met r.disk; bytes = λ h. bytes_here met r.disk }
+
+  pub goes_on_both : (old mid new : Reader D met) → GoesOn old mid → GoesOn mid new → GoesOn old new
+  goes_on_both old mid new first then_ = record {
+    end = then_.end ∙ first.end;
+    same = same_both met old.disk mid.disk new.disk first.same then_.same;
+    bytes = λ h. bytes_both met old.disk mid.disk new.disk (first.bytes h) (then_.bytes h);
   }

@@ -4,7 +4,6 @@ pub mod Blocks
 pub mod Frames
 pub mod Gates
 pub mod Moments
-pub mod Nexts
 pub mod Numbers
 pub mod Reading
 pub mod Records
@@ -12,7 +11,8 @@ pub mod Refusals
 pub mod Standing
 pub mod Tries
 pub mod Unchanged
-pub mod Windows
+pub mod Readers
 pub use Rattle.edge_traits.specs.Disks
 pub use Rattle.edge_traits.specs.Causes
 pub use Rattle.text_maps.specs.Keyed
+pub use Rattle.text_maps.specs.Nexts

@@ -1,5 +1,5 @@
 -- The numbers of a journal.
-use Rattle.std.specs.Prelude.{◌≡◌, ℕ, ◌≤◌}
+use Rattle.std.specs.Prelude.{◌≡◌, ◌≤◌}
 use Rattle.flush_journal.specs.declared.report.Report.{Report}
 
 -- numbers that a journal of version 1 can have: each batch takes some bytes before the end

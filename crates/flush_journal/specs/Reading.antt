@@ -13,10 +13,6 @@ use Rattle.flush_journal.specs.declared.why.Why.TheVariants.{DiskFault, NotAJour
 abbrev pub Shows : List ℕ → ℕ → List ℕ → Type 0
 Shows file from bytes = bytes ≡ take (length bytes) (drop from file)
 
--- so many bytes at this place are among those from that one
-abbrev pub Covers : (at size from : ℕ) → List ℕ → Type 0
-Covers at size from bytes = (from ≤ at) × (at + size ≤ from + length bytes)
-
 -- A reading may be refused by a fault only where the disk's count rose from `before` to `now`, and with a place only where the file
 -- is no journal for what stands there.
 abbrev pub MayRefuseReading : Type 0 → List ℕ → (before now : ℕ) → Why → Type 0

@@ -1,7 +1,7 @@
 -- Records, and the map that they make.
 --     A record is four bytes key length, the key, four bytes body length, the body. Numbers are big-endian.
 --     A key has 1 to 65,535 bytes. An empty body takes the key out of the map.
-use Rattle.std.specs.Prelude.{ℕ, zero, suc, ◌^◌, ◌<◌, Bool, List, [], ◌∷◌, ◌++◌, length, slice_index, Option, Some, None, option_and_then, option_map, nat_lt, ◌&&◌, if◌then◌else◌}
+use Rattle.std.specs.Prelude.{◌≡◌, ℕ, zero, suc, ◌^◌, ◌<◌, Bool, List, [], ◌∷◌, ◌++◌, length, slice_index, Option, Some, None, option_and_then, option_map, nat_lt, ◌&&◌, if◌then◌else◌}
 use Rattle.std.specs.Int.{w32, w64, from_be_bytes, to_be_bytes}
 use Rattle.std.specs.FinMap as map
 use Rattle.text_maps.specs.Keyed.{text_order}
@@ -108,3 +108,12 @@ pub record IsRecord (r : Record) : Type 0 where
   pub some : 0 < length r.0
   pub key : length r.0 < 65536
   pub body : length r.1 < 2 ^ 32
+
+-- a map of records whose bodies aren't empty
+abbrev pub AreKept : Held → Type 0
+AreKept m = (key body : List ℕ) → map.get m key ≡ Some body → IsRecord (key, body) × (0 < length body)
+
+-- what stands at a key after a record with this body
+abbrev pub kept_body : List ℕ → Option (List ℕ)
+kept_body [] = None
+kept_body (b ∷ body) = Some (b ∷ body)

@@ -1,5 +1,5 @@
 -- What a try to write a batch does: an append, or a later one.
-use Rattle.std.specs.Prelude.{◌≡◌, ℕ, ◌+◌, ◌<◌, List, length, Option, Some, None, Result, Err, OnOk, OnErr}
+use Rattle.std.specs.Prelude.{◌≡◌, ◌+◌, ◌<◌, List, length, Some, None, Result, Err, OnOk, OnErr}
 use Rattle.edge_traits.specs.declared.disk.Disk.{Ghosts}
 use Rattle.flush_journal.specs.Records.{Record, put_all}
 use Rattle.flush_journal.specs.Files.{Content}

@@ -57,7 +57,8 @@ impl Batch {
         ensures ok { OnOk result (records self.new ≡ records self.old ++ (key.now, body.now) ∷ []) }
         ensures err { OnErr result (records self.new ≡ records self.old) }
         ensures reserved { record_size (key.now, body.now) ≤ spare self.old → IsOk result }
-        ensures spare { OnOk result (spare self.old ≤ spare self.new + record_size (key.now, body.now)) }
+        ensures spare { OnOk result
+            (spare self.old ≤ spare self.new + record_size (key.now, body.now)) }
     {
         reserve_frame(&mut self.frame, RECORD_BESIDE + key.len() + body.len())?;
         add_record(&mut self.frame, key, body);
@@ -79,7 +80,8 @@ fn reserve_frame(frame: &mut Vec<u8>, bytes: usize) -> Result<(), AllocError>
     ensures items { frame.new.items ≡ frame.old.items }
     ensures ok { OnOk result (max 9 (vec_len frame.new) + bytes ≤ vec_capacity frame.new) }
     ensures capacity { vec_capacity frame.old ≤ vec_capacity frame.new }
-    ensures succeeds { bytes < 2 ^ 63 → max 9 (vec_len frame.old) + bytes ≤ vec_capacity frame.old → IsOk result }
+    ensures succeeds { bytes < 2 ^ 63 → max 9 (vec_len frame.old) + bytes ≤ vec_capacity frame.old
+        → IsOk result }
 {
     let beside = BESIDE.saturating_sub(frame.len());
     if bytes > usize::MAX - beside {
@@ -136,10 +138,12 @@ fn set_front(bytes: &mut [u8], front: [u8; 8])
 
 // Adds a record to a frame where there is room.
 fn add_record(frame: &mut Vec<u8>, key: &[u8], body: &[u8])
-    requires room { max 9 (vec_len frame.old) + record_size (key.now, body.now) ≤ vec_capacity frame.old }
+    requires room { max 9 (vec_len frame.old) + record_size (key.now, body.now)
+        ≤ vec_capacity frame.old }
     requires short_key { length key.now < 65536 }
     requires short_body { length body.now < 2 ^ 32 }
-    ensures items { frame.new.items ≡ framed (payload_of frame.old.items ++ encoded (key.now, body.now)) }
+    ensures items { frame.new.items
+        ≡ framed (payload_of frame.old.items ++ encoded (key.now, body.now)) }
     ensures len { vec_len frame.new ≡ max 9 (vec_len frame.old) + record_size (key.now, body.now) }
     ensures capacity { vec_capacity frame.old ≤ vec_capacity frame.new }
 {

@@ -1,5 +1,5 @@
 // A journal's first bytes, written.
-ghost use Rattle.std.specs.Prelude.{◌≡◌, ◌≢◌, ℕ, ◌+◌, ◌<◌, ◌≤◌, ◌↔◌, List, [], ◌∷◌, ◌++◌, length, take, drop, IfOk, IfErr, OnOk, Ok, IsTrue};
+ghost use Rattle.std.specs.Prelude.{◌≡◌, ◌≢◌, ◌+◌, ◌<◌, ◌≤◌, ◌↔◌, ◌++◌, take, drop, IfOk, IfErr, OnOk, Ok, IsTrue};
 ghost use Rattle.edge_traits.specs.Disks.{Only};
 ghost use Rattle.flush_journal.specs.Files.{magic, content, fresh};
 ghost use Rattle.flush_journal.specs.Gates.{GateStands};
@@ -18,7 +18,8 @@ fn has_magic<D: Disk>(disk: &mut D) -> Result<bool, Why>
     ensures yes { D.honest → IfOk result (λ b. IsTrue b ↔ (take 8 (D.reads disk.old) ≡ magic)) }
     ensures same { SameDisk D.Disk disk.old disk.new }
     ensures bytes { D.honest → SameBytes D.Disk disk.old disk.new }
-    ensures why { IfErr result (MayRefuseCreate D.honest (D.reads disk.old) (D.most disk.old) (D.faults disk.old) (D.faults disk.new)) }
+    ensures why { IfErr result (MayRefuseCreate D.honest (D.reads disk.old) (D.most disk.old)
+        (D.faults disk.old) (D.faults disk.new)) }
 {
     let mut first = [0; 8];
     let count = disk.read_at(0, &mut first)?;
@@ -28,14 +29,16 @@ fn has_magic<D: Disk>(disk: &mut D) -> Result<bool, Why>
 // Writes the header and a closed gate, where no journal stands, and syncs.
 pub fn write_new<D: Disk>(disk: &mut D, lanes: u32) -> Result<(), Why>
     requires few { lanes ≤ 16 }
-    ensures file { D.honest → OnOk result (D.reads disk.new ≡ new_file lanes ++ drop 17 (D.reads disk.old)) }
+    ensures file { D.honest → OnOk result
+        (D.reads disk.new ≡ new_file lanes ++ drop 17 (D.reads disk.old)) }
     ensures only { D.honest → OnOk result (Only (D.reads disk.new) (D.images disk.new)) }
     ensures same { SameDisk D.Disk disk.old disk.new }
     ensures refused { D.honest → IfErr result (λ why. why ≢ Why.DiskFault
         → SameBytes D.Disk disk.old disk.new) }
     ensures room { OnOk result (17 ≤ D.most disk.old) }
     ensures none { OnOk result (NoMagic D.honest (D.reads disk.old)) }
-    ensures why { IfErr result (MayRefuseCreate D.honest (D.reads disk.old) (D.most disk.old) (D.faults disk.old) (D.faults disk.new)) }
+    ensures why { IfErr result (MayRefuseCreate D.honest (D.reads disk.old) (D.most disk.old)
+        (D.faults disk.old) (D.faults disk.new)) }
 {
     if has_magic(disk)? {
         return Err(Why::Exists);

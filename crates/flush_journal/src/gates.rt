@@ -49,9 +49,10 @@ fn open_gate<D: Disk>(disk: &mut D, end: u64) -> Result<(), Failed>
     ensures ok { D.honest → (front frame : List ℕ) → length front ≡ end
         → OnlyHas (IsLaid front frame) (D.reads disk.old) (D.images disk.old)
         → OnOk result (OnlyHas (Opened front frame) (D.reads disk.new) (D.images disk.new)) }
-    ensures reads { D.honest → (front frame : List ℕ) → length front ≡ end → IsLaid front frame (D.reads disk.old)
-        → Either front frame (D.reads disk.new) }
-    ensures opened { D.honest → (front frame : List ℕ) → length front ≡ end → IsLaid front frame (D.reads disk.old)
+    ensures reads { D.honest → (front frame : List ℕ) → length front ≡ end
+        → IsLaid front frame (D.reads disk.old) → Either front frame (D.reads disk.new) }
+    ensures opened { D.honest → (front frame : List ℕ) → length front ≡ end
+        → IsLaid front frame (D.reads disk.old)
         → OnOk result (Opened front frame (D.reads disk.new)) }
     ensures same { SameDisk D.Disk disk.old disk.new }
     ensures cause { HasCause (D.faults disk.old) (D.faults disk.new) result }
@@ -74,7 +75,8 @@ pub fn write_frame<D: Disk>(disk: &mut D, end: u64, frame: &[u8]) -> Result<(), 
     ensures ok { D.honest → (front : List ℕ) → length front ≡ end
         → OnlyHas (Shut front) (D.reads disk.old) (D.images disk.old)
         → OnOk result (OnlyHas (Opened front frame.now) (D.reads disk.new) (D.images disk.new)) }
-    ensures stands { D.honest → EndsShut frame.now → GateStands end (length frame.now) (D.reads disk.new) }
+    ensures stands { D.honest → EndsShut frame.now
+        → GateStands end (length frame.now) (D.reads disk.new) }
     ensures moved { D.honest → EndsShut frame.now
         → OnOk result (GateStands (end + length frame.now) 0 (D.reads disk.new)) }
     ensures same { SameDisk D.Disk disk.old disk.new }
@@ -114,7 +116,8 @@ pub fn write_again<D: Disk>(disk: &mut D, end: u64, frame: &[u8]) -> Result<(), 
     ensures ok { D.honest → (front : List ℕ) → length front ≡ end
         → AllHave (Either front frame.now) (D.reads disk.old) (D.images disk.old)
         → OnOk result (OnlyHas (Opened front frame.now) (D.reads disk.new) (D.images disk.new)) }
-    ensures stands { D.honest → EndsShut frame.now → GateStands end (length frame.now) (D.reads disk.new) }
+    ensures stands { D.honest → EndsShut frame.now
+        → GateStands end (length frame.now) (D.reads disk.new) }
     ensures moved { D.honest → EndsShut frame.now
         → OnOk result (GateStands (end + length frame.now) 0 (D.reads disk.new)) }
     ensures same { SameDisk D.Disk disk.old disk.new }

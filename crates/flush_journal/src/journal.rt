@@ -1,7 +1,7 @@
 // A journal over a disk.
-ghost use Rattle.std.specs.Prelude.{◌≡◌, ◌≢◌, ℕ, ◌+◌, ◌^◌, ◌<◌, ◌≤◌, ◌↔◌, [], ◌∷◌, ◌++◌, length, IsTrue, IsOk, OnOk, OnErr, IfOk, IfErr, MatchResult, None, Some, Ok, Err, Result, List, option_map};
+ghost use Rattle.std.specs.Prelude.{◌≡◌, ◌≢◌, ◌+◌, ◌^◌, ◌<◌, ◌≤◌, ◌↔◌, [], IsTrue, OnOk, OnErr, IfOk, IfErr, MatchResult, None, Some, Ok, Err, Result, List, option_map};
 ghost use Rattle.flush_journal.specs.Batches.{records, owed_size};
-ghost use Rattle.edge_traits.specs.Disks.{LeavesNoMore};
+ghost use Rattle.edge_traits.specs.Disks.{Only};
 ghost use Rattle.flush_journal.specs.Files.{Content, content, fresh};
 ghost use Rattle.flush_journal.specs.Gates.{GateStands};
 ghost use Rattle.flush_journal.specs.Numbers.{IsVersion1};
@@ -14,6 +14,7 @@ use crate::create::write_new;
 use crate::gates::{write_again, write_frame};
 use crate::header::{HEADER_SIZE, VERSION};
 use crate::read::read_journal;
+use crate::reader::Reader;
 use crate::{Batch, JournalRefused, Recovered, Report, Why};
 use edge_traits::{Disk, Failed};
 use std::alloc::Global;
@@ -91,26 +92,34 @@ impl<D: Disk> Journal<D> {
     ///
     /// `NotAJournal` with the place of what is wrong, where no journal stands there; `DiskFault` where the disk had a
     /// fault; `NoMemory`.
-    pub fn recover(alloc: Global, mut disk: D) -> Result<(Journal<D>, Recovered), JournalRefused<D>>
-        ensures recovered { D.honest → IfOk result (λ p. (c : Content) × (content (D.reads disk) ≡ Ok c)
-            × IsSettled p.0 c × (p.1 ≡ c.held)) }
-        ensures same { D.honest → MatchResult result (λ p. D.reads (disk_of p.0) ≡ D.reads disk)
-            (λ r. D.reads r.disk ≡ D.reads disk) }
-        ensures fewer { D.honest → MatchResult result (λ p. LeavesNoMore (D.images disk) (D.images (disk_of p.0)))
-            (λ r. LeavesNoMore (D.images disk) (D.images r.disk)) }
-        ensures why { IfErr result (λ r. MayRefuseReading D.honest (D.reads disk) (D.faults disk) (D.faults r.disk) r.why) }
+    pub fn recover(alloc: Global, disk: D) -> Result<(Journal<D>, Recovered), JournalRefused<D>>
+        ensures recovered { D.honest → IfOk result (λ p. (c : Content)
+            × (content (D.reads disk) ≡ Ok c) × IsSettled p.0 c × (p.1 ≡ c.held)) }
+        ensures idle { IfOk result (λ p. pending_of p.0 ≡ None) }
+        ensures same { MatchResult result (λ p. SameDisk D.Disk disk (disk_of p.0))
+            (λ r. SameDisk D.Disk disk r.disk) }
+        ensures bytes { D.honest → MatchResult result (λ p. SameBytes D.Disk disk (disk_of p.0))
+            (λ r. SameBytes D.Disk disk r.disk) }
+        ensures synced { D.honest → IfErr result (λ r. r.why ≢ Why.DiskFault
+            → Only (D.reads disk) (D.images r.disk)) }
+        ensures why { IfErr result (λ r. MayRefuseReading D.honest (D.reads disk)
+            (D.faults disk) (D.faults r.disk) r.why) }
     {
+        let mut reader = Reader::open(alloc, disk)?;
         let mut recovered = Recovered::new(alloc);
-        match read_journal(alloc, &mut disk, &mut recovered) {
+        match read_journal(&mut reader, &mut recovered) {
             Ok(numbers) => {
                 let journal = Journal {
-                    disk,
+                    disk: reader.into_disk(),
                     numbers,
                     pending: None,
                 };
                 Ok((journal, recovered))
             }
-            Err(why) => Err(JournalRefused { disk, why }),
+            Err(why) => Err(JournalRefused {
+                disk: reader.into_disk(),
+                why,
+            }),
         }
     }
 

@@ -9,16 +9,16 @@ mod header;
 mod journal;
 mod laws;
 mod read;
+mod reader;
 mod records;
 mod recovered;
 mod report;
 mod why;
-mod window;
 
 pub use batch::Batch;
 pub use journal::Journal;
-pub use laws::{journal_or_fault, payload_is_encoding};
-pub use recovered::Recovered;
+pub use laws::{journal_or_fault, last_record_wins, payload_is_encoding};
+pub use recovered::{Body, Recovered};
 pub use report::Report;
 pub use why::{JournalRefused, Why};
 

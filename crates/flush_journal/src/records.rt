@@ -1,6 +1,6 @@
 // The bytes of records, read from the front.
-ghost use Rattle.std.specs.Prelude.{◌≡◌, option_map};
-ghost use Rattle.flush_journal.specs.Records.{cut, cut_number_4, cut_number_8, cut_key, cut_body, first_record};
+ghost use Rattle.std.specs.Prelude.{◌≡◌, option_map, IfSome};
+ghost use Rattle.flush_journal.specs.Records.{cut, cut_number_4, cut_number_8, cut_key, cut_body, first_record, IsRecord};
 
 const MAX_KEY: usize = 65_535;
 
@@ -59,7 +59,9 @@ fn body_at_front(bytes: &[u8]) -> Option<(&[u8], &[u8])>
 
 // The record at the front, and what follows.
 pub fn first_record(bytes: &[u8]) -> Option<(&[u8], &[u8], &[u8])>
-    ensures { option_map (λ p. ((p.0.now, p.1.now), p.2.now)) result ≡ first_record bytes.now }
+    ensures found { option_map (λ p. ((p.0.now, p.1.now), p.2.now)) result
+        ≡ first_record bytes.now }
+    ensures sound { IfSome result (λ p. IsRecord (p.0.now, p.1.now)) }
 {
     let (key, rest) = key_at_front(bytes)?;
     let (body, rest) = body_at_front(rest)?;

@@ -1,21 +1,20 @@
 // What a journal held when it was opened.
-ghost use Rattle.std.specs.Prelude.{◌≡◌, OnOk, option_map, MatchOption, IfOk, true, false};
+ghost use Rattle.std.specs.Prelude.{◌≡◌, OnOk, option_map, MatchOption, IfOk, true, false, vec_items};
 ghost use Rattle.std.specs.FinMap as map;
-ghost use Rattle.std.specs.BTreeMap as tree;
-ghost use Rattle.std.specs.List.Sorted.{IsStrictlySortedBy};
 ghost use Rattle.std.specs.Option.{option_copied};
-ghost use Rattle.flush_journal.specs.Nexts.{is_behind, first_behind, IsNext, texts, key_order};
-ghost use Rattle.flush_journal.specs.Records.{put_record, put_all, records_of};
+ghost use Rattle.text_maps.specs.Keyed.{keyed};
+ghost use Rattle.text_maps.specs.Nexts.{IsNext};
+ghost use Rattle.flush_journal.specs.Records.{IsRecord, AreKept, put_record, put_all, records_of};
 
 use crate::records::first_record;
 use std::alloc::{AllocError, Global};
-use std::cmp::Ordering;
 use std::collections::BTreeMap;
 use std::marker::Model;
+use text_maps::ByteMap;
 
-// The body of a record.
+/// The body of a record.
 #[derive(Drop)]
-struct Body {
+pub struct Body {
     bytes: Vec<u8>,
 }
 
@@ -34,6 +33,12 @@ impl Body {
         Body { bytes }
     }
 
+    pub fn bytes(&self) -> &[u8]
+        ensures { result.now ≡ self.now }
+    {
+        self.bytes.as_slice()
+    }
+
     fn into_bytes(self) -> Vec<u8>
         ensures { result.items ≡ self }
     {
@@ -45,20 +50,23 @@ impl Body {
 #[derive(Drop)]
 pub struct Recovered {
     alloc: Global,
-    entries: BTreeMap<Vec<u8>, Body>,
+    records: ByteMap<Body>,
 }
 
 impl Model for Recovered {
-    ghost use Rattle.std.specs.Prelude.{List, ℕ, vec_items};
+    ghost use Rattle.std.specs.Prelude.{List, ℕ};
     ghost use Rattle.std.specs.FinMap as map;
     ghost use Rattle.std.specs.Coded.{coded_ℕ, coded_list};
-    ghost use Rattle.text_maps.specs.Keyed.{text_order, keyed};
+    ghost use Rattle.text_maps.specs.Keyed.{text_order};
+    ghost use Rattle.flush_journal.specs.Records.{AreKept};
 
     ghost Value = { map.FinMap text_order (List ℕ) };
 
     ghost coded = { map.code (coded_list coded_ℕ) (coded_list coded_ℕ) };
 
-    ghost view = { λ a. map.from_entries (keyed vec_items a.entries.entries) };
+    ghost view = { λ a. a.records };
+
+    ghost invariant = { λ a. AreKept a.records };
 }
 
 impl Recovered {
@@ -68,8 +76,39 @@ impl Recovered {
     {
         Recovered {
             alloc,
-            entries: BTreeMap::new(alloc),
+            records: ByteMap::new(alloc),
         }
+    }
+
+    /// Each key has 1 to 65,535 bytes, and each body 1 to 2^32 - 1.
+    pub fn sizes(&self)
+        ensures { AreKept self.now }
+    {
+        let _ = &self.records;
+    }
+
+    /// The body of a key.
+    pub fn get(&self, key: &[u8]) -> Option<&[u8]>
+        ensures { option_copied result ≡ map.get self.now key.now }
+    {
+        let body = self.records.get(key)?;
+        Some(body.bytes())
+    }
+
+    /// The least key of the map, or the least one behind a key. Where the map has that key, it is found in
+    /// order; else each key before it is looked at.
+    pub fn next_key(&self, after: Option<&[u8]>) -> Option<&[u8]>
+        ensures { IsNext self.now (option_copied after.entry) (option_copied result) }
+    {
+        let (key, _) = self.records.next_key(after)?;
+        Some(key)
+    }
+
+    /// The records, in the order of their keys.
+    pub fn as_tree(&self) -> &BTreeMap<Vec<u8>, Body>
+        ensures { map.entries self.now ≡ keyed vec_items result.now.entries }
+    {
+        self.records.as_tree()
     }
 
     /// Takes a key and its body out of the map, and gives the body.
@@ -77,31 +116,21 @@ impl Recovered {
         ensures body { option_map (λ v. v.items) result ≡ map.get self.old key.now }
         ensures rest { self.new ≡ map.remove self.old key.now }
     {
-        match self.entries.remove(key) {
-            Some(body) => Some(body.into_bytes()),
-            None => None,
-        }
-    }
-
-    /// The least key of the map, or the least one behind a key. It walks over the keys before it.
-    pub fn next_key(&self, after: Option<&[u8]>) -> Option<&[u8]>
-        ensures { IsNext self.now (option_copied after.entry) (option_copied result) }
-    {
-        first_key(&self.entries, after)
+        let body = self.records.remove(key)?;
+        Some(body.into_bytes())
     }
 
     // Puts a body at a key, or takes the key out for an empty one.
     fn put_record(&mut self, key: &[u8], body: &[u8]) -> Result<(), AllocError>
+        requires { IsRecord (key.now, body.now) }
         ensures { OnOk result (self.new ≡ put_record (key.now, body.now) self.old) }
     {
         if body.is_empty() {
-            self.entries.remove(key);
+            self.records.remove(key);
             return Ok(());
         }
-        let key = key.to_vec(self.alloc)?;
         let body = Body::new(body.to_vec(self.alloc)?);
-        self.entries.insert(key, body)?;
-        Ok(())
+        self.records.put_copy(key, body)
     }
 
     // Puts in the records of a payload, or says that it is no list of records.
@@ -119,27 +148,4 @@ impl Recovered {
         }
         Ok(true)
     }
-}
-
-// Whether a key is behind another, where one is given.
-fn is_behind<'x>(after: Option<&'x [u8]>, key: &'x [u8]) -> bool
-    ensures { result ≡ is_behind (option_copied after.entry) key.now }
-{
-    match after {
-        None => true,
-        Some(after) => matches!(Ord::cmp(&after, &key), Ordering::Less),
-    }
-}
-
-// The first key behind another, of keys in their order.
-fn first_key<'x>(entries: &'x BTreeMap<Vec<u8>, Body>, after: Option<&[u8]>) -> Option<&'x [u8]>
-    ensures found { option_copied result ≡ first_behind (option_copied after.entry) (texts entries.now.entries) }
-    ensures ordered { IsStrictlySortedBy key_order (tree.keys entries.now) }
-{
-    for key in entries.keys() {
-        if is_behind(after, key) {
-            return Some(key.as_slice());
-        }
-    }
-    None
 }
