@@ -11,11 +11,10 @@ use Rattle.text_maps.specs.Keyed.{text_order}
 use Rattle.object_ids.specs.Paths.{parent_of, path_of, root_path}
 use Rattle.object_ids.specs.declared.ids.ObjectId.{ObjectId}
 use Rattle.object_ids.proofs.PathLemmas.{parent_of-shorter}
-use Rattle.domains.specs.declared.nodes.TheConstants.{MAX_NODES}
 use Rattle.domains.specs.declared.classes.Node.{Node}
 use Rattle.domains.specs.declared.classes.NodeClass.{NodeClass}
 use Rattle.domains.specs.declared.classes.NodeClass.TheVariants.{Folder, Domain}
-use Rattle.domains.specs.Contents.{Contents, IsCatalogue, IsFolderAt, IsDomainAt, IsGroupOf, HasChildren, HasRoot, IsFree, IsNumberFree, IsPlace, MayStandAt, NumberFits, class_at, only_root, raised, with_node}
+use Rattle.domains.specs.Contents.{most_nodes, Contents, IsCatalogue, IsFolderAt, IsDomainAt, IsGroupOf, HasChildren, HasRoot, IsFree, IsNumberFree, IsPlace, MayStandAt, NumberFits, class_at, only_root, raised, with_node}
 
 IsOther : List ℕ → List ℕ → Type 0
 IsOther q path = eq_by_cmp text_order q path ≡ false
@@ -81,7 +80,7 @@ module _ (c : Contents) (path : List ℕ) (node : Node) where
   folder_here : node.class ≡ Folder → (q : List ℕ) → q ≡ path → IsFolderAt (with_node c path node) q
   folder_here folder q same = ap (class_at (with_node c path node)) same ∙ class_here ∙ ap Some folder
 
-one_more : (o : Option Node) (n : ℕ) → n < MAX_NODES → cond (is_some o) n (n + 1) ≤ MAX_NODES
+one_more : (o : Option Node) (n : ℕ) → n < most_nodes → cond (is_some o) n (n + 1) ≤ most_nodes
 one_more None n room = omega arith
 one_more (Some x) n room = omega arith
 
@@ -183,13 +182,13 @@ module _ (c : Contents) (path : List ℕ) (node : Node) (valid : IsCatalogue c) 
 
 -- a node that may be put leaves a catalogue
 pub with_node-valid : (c : Contents) (path : List ℕ) (node : Node) → IsCatalogue c → path_of path ≡ Some path
-    → MayStandAt c path node.class → len c.nodes < MAX_NODES → (HasChildren c path → node.class ≡ Folder)
+    → MayStandAt c path node.class → len c.nodes < most_nodes → (HasChildren c path → node.class ≡ Folder)
     → NumberFits node.class → IsNumberFree c path node.class → HasRoot node.class → IsCatalogue (with_node c path node)
 with_node-valid c path node valid canonical place room children fits free own_root = record {
   root = keeps_root c path node valid canonical place children;
   paths = keeps_paths c path node valid canonical place children;
   parents = keeps_parents c path node valid canonical place children;
-  few = subst (λ n. n ≤ MAX_NODES) (sym (len-insert nat_list_cmp_total c.nodes path node)) (one_more (get c.nodes path) (len c.nodes) room);
+  few = subst (λ n. n ≤ most_nodes) (sym (len-insert nat_list_cmp_total c.nodes path node)) (one_more (get c.nodes path) (len c.nodes) room);
   below = keeps_below c path node valid free own_root;
   fits = raised-fits c.next node.class valid.fits fits;
   roots = keeps_roots c path node valid free own_root;
@@ -235,10 +234,10 @@ module _ (node : Node) (folder : node.class ≡ Folder) where
   unfolding nothing
   root_root = folder_here nothing root_path node folder root_path refl
 
-  root_few : len (insert (empty {X = Node} {R = text_order}) root_path node) ≤ MAX_NODES
+  root_few : len (insert (empty {X = Node} {R = text_order}) root_path node) ≤ most_nodes
   root_few =
-      let room : len (empty {X = Node} {R = text_order}) < MAX_NODES = subst (λ n. n < MAX_NODES) (sym (len-empty text_order Node)) (lit< tt) in
-      subst (λ n. n ≤ MAX_NODES) (sym (len-insert nat_list_cmp_total (empty {X = Node} {R = text_order}) root_path node)) (one_more _ _ room)
+      let room : len (empty {X = Node} {R = text_order}) < most_nodes = subst (λ n. n < most_nodes) (sym (len-empty text_order Node)) (lit< tt) in
+      subst (λ n. n ≤ most_nodes) (sym (len-insert nat_list_cmp_total (empty {X = Node} {R = text_order}) root_path node)) (one_more _ _ room)
 
 -- a folder at `/` alone is a catalogue
 pub only_root-valid : (node : Node) → node.class ≡ Folder → IsCatalogue (only_root node)

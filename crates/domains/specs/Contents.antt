@@ -1,5 +1,6 @@
 -- What a catalogue is.
 --     Contents      the nodes by their paths, and the number of the next domain
+--     most_nodes      the most nodes of a catalogue
 --     class_at c path      the class of the node at a path, where there is one
 --     IsFolderAt, IsDomainAt, HasChildren      what stands at a path
 --     IsCatalogue      what is true of every catalogue
@@ -12,7 +13,6 @@ use Rattle.text_maps.specs.Keyed.{text_order}
 use Rattle.object_ids.specs.Paths.{parent_of, path_of, root_path}
 use Rattle.object_ids.specs.declared.ids.Kind.TheVariants.{Group}
 use Rattle.object_ids.specs.declared.ids.ObjectId.{ObjectId}
-use Rattle.domains.specs.declared.nodes.TheConstants.{MAX_NODES}
 use Rattle.domains.specs.declared.classes.Node.{Node}
 use Rattle.domains.specs.declared.classes.NodeClass.{NodeClass}
 use Rattle.domains.specs.declared.classes.NodeClass.TheVariants.{Folder, Domain}
@@ -20,6 +20,9 @@ use Rattle.domains.specs.declared.classes.NodeClass.TheVariants.{Folder, Domain}
 pub record Contents : Type 0 where
   pub nodes : FinMap text_order Node
   pub next : ℕ
+
+abbrev pub most_nodes : ℕ
+most_nodes = 65536
 
 abbrev pub class_at : Contents → List ℕ → Option NodeClass
 class_at c path = option_map (λ node. node.class) (get c.nodes path)
@@ -42,7 +45,7 @@ pub record IsCatalogue (c : Contents) : Type 0 where
   pub root : IsFolderAt c root_path
   pub paths : (path : List ℕ) → IsSome (class_at c path) → path_of path ≡ Some path
   pub parents : (path : List ℕ) → IsSome (class_at c path) → IsFolderAt c (parent_of path)
-  pub few : len c.nodes ≤ MAX_NODES
+  pub few : len c.nodes ≤ most_nodes
   pub below : (path : List ℕ) (number : ℕ) (id : ObjectId) → IsDomainAt c path number id → number < c.next
   pub fits : c.next ≤ 2 ^ 48
   pub roots : (path : List ℕ) (number : ℕ) (id : ObjectId) → IsDomainAt c path number id → IsGroupOf number id
@@ -74,7 +77,7 @@ HasRoot (Domain number id) = IsGroupOf number id
 pub record IsPlace (c : Contents) (path : List ℕ) : Type 0 where
   pub empty : get c.nodes path ≡ None
   pub parent : IsFolderAt c (parent_of path)
-  pub room : len c.nodes < MAX_NODES
+  pub room : len c.nodes < most_nodes
 
 -- the next number, which no number so far reaches
 abbrev pub raised : ℕ → NodeClass → ℕ

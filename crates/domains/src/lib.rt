@@ -4,11 +4,11 @@
 //! hold domains and folders.
 #![tactic(auto)]
 
+mod catalogue;
 mod classes;
-mod nodes;
 
+pub use catalogue::{Catalogue, MAX_NODES};
 pub use classes::{Node, NodeClass};
-pub use nodes::{Catalogue, MAX_NODES};
 
 #[cfg(test)]
 mod tests;

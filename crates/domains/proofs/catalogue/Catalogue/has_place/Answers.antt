@@ -1,7 +1,7 @@
 use Rattle.std.proofs.Common.{◌≡◌, ℕ, ◌<◌, List, false, is_some, Option, Some, None, option_copied, Bor, refl, ap, sym, subst, ◌∙◌, true≢false}
 use Rattle.domains.specs.declared.classes.Node.{Node}
 use Rattle.domains.specs.Contents.{IsFolderAt}
-use Rattle.domains.proofs.nodes.Catalogue.has_place.Goals as goal
+use Rattle.domains.proofs.catalogue.Catalogue.has_place.Goals as goal
 
 some_there : (r : Option (Bor Node)) (o : Option Node) → option_copied r ≡ o → is_some r ≡ is_some o
 some_there None o e = ap is_some e

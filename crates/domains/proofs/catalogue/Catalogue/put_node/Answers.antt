@@ -4,7 +4,7 @@ use Rattle.text_maps.specs.Keyed.{text_order}
 use Rattle.domains.specs.declared.classes.Node.{Node}
 use Rattle.domains.specs.Contents.{Contents, IsCatalogue, raised}
 use Rattle.domains.proofs.Puts.{with_node-valid}
-use Rattle.domains.proofs.nodes.Catalogue.put_node.Goals as goal
+use Rattle.domains.proofs.catalogue.Catalogue.put_node.Goals as goal
 
 pub returns-clause-ok : goal.returns-clause-ok
 returns-clause-ok c =

@@ -6,7 +6,7 @@ use Rattle.domains.specs.declared.classes.Node.{Node}
 use Rattle.domains.specs.declared.classes.NodeClass.TheVariants.{Folder}
 use Rattle.domains.specs.Contents.{IsCatalogue}
 use Rattle.domains.proofs.Puts.{only_root-valid}
-use Rattle.domains.proofs.nodes.Catalogue.new.Goals as goal
+use Rattle.domains.proofs.catalogue.Catalogue.new.Goals as goal
 
 pub invariant_of-result : goal.invariant_of-result
 invariant_of-result c =

@@ -2,7 +2,7 @@ ghost use Rattle.std.specs.Prelude.{◌≡◌, ◌≤◌, ◌<◌, ◌^◌, ◌�
 ghost use Rattle.std.specs.FinMap as map;
 ghost use Rattle.std.specs.Option.{option_copied};
 ghost use Rattle.domains.specs.declared.classes.NodeClass.{NodeClass};
-ghost use Rattle.domains.specs.Contents.{HasChildren, HasRoot, IsCatalogue, IsFolderAt, IsFree, IsNumberFree, IsPlace, MayStandAt, NumberFits, only_root, raised, with_node};
+ghost use Rattle.domains.specs.Contents.{HasChildren, HasRoot, IsCatalogue, IsFolderAt, IsFree, IsNumberFree, IsPlace, MayStandAt, NumberFits, most_nodes, only_root, raised, with_node};
 
 use crate::classes::{Node, NodeClass};
 use access_lists::AccessList;
@@ -68,7 +68,7 @@ impl Catalogue {
     /// How many nodes there are.
     pub fn nodes(&self) -> u64
         ensures value { result ≡ map.len self.now.nodes }
-        ensures most { result ≤ MAX_NODES }
+        ensures most { result ≤ most_nodes }
     {
         self.nodes.len() as u64
     }
@@ -124,7 +124,7 @@ impl Catalogue {
     /// of that number.
     pub fn put_node(&mut self, path: &DomainPath, node: Node) -> Result<(), AllocError>
         requires place { MayStandAt self.old path.now node.class }
-        requires room { map.len self.old.nodes < MAX_NODES }
+        requires room { map.len self.old.nodes < most_nodes }
         requires children { HasChildren self.old path.now → node.class ≡ NodeClass.Folder }
         requires fits { NumberFits node.class }
         requires free { IsNumberFree self.old path.now node.class }

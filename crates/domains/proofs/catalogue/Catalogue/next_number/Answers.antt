@@ -1,7 +1,7 @@
 use Rattle.std.proofs.Common.{List, ℕ, subst}
 use Rattle.domains.specs.Contents.{Contents, IsFree}
 use Rattle.domains.proofs.Puts.{next_is_free}
-use Rattle.domains.proofs.nodes.Catalogue.next_number.Goals as goal
+use Rattle.domains.proofs.catalogue.Catalogue.next_number.Goals as goal
 
 pub returns-clause-free : goal.returns-clause-free
 returns-clause-free c =
