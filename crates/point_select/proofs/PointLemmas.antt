@@ -1,9 +1,9 @@
 -- The tests in order find the points that the grammar relates to the tree, and no other.
-use Rattle.std.proofs.Common.{◌≡◌, ℕ, suc, ◌+◌, ◌<◌, ◌≤◌, ◌&&◌, Bool, true, false, cond, inl, inr, List, [], ◌∷◌, ◌++◌, length, All, drop, get_or, Option, Some, None, Result, Ok, Err, IfOk, IfSome, nat_lt, nat_eq, refl, sym, ap, subst, ◌∙◌, arith, add-one}
+use Rattle.std.proofs.Common.{◌≡◌, ℕ, suc, ◌+◌, ◌<◌, ◌≤◌, false, cond, inl, inr, List, [], ◌∷◌, ◌++◌, length, All, Option, Some, None, Result, Ok, Err, IfOk, IfSome, nat_lt, nat_eq, refl, sym, ap, subst, ◌∙◌, arith, add-one}
 use Rattle.std.specs.List.{AllZip}
-use Rattle.std.proofs.lemmas.Bool.{eqb-true, false≢true, ltb-true, lt-ltb, eq-eqb}
+use Rattle.std.proofs.lemmas.Bool.{eqb-true, false≢true, eq-eqb}
 use Rattle.std.proofs.lemmas.Bool.Decides.{nat_tests}
-use Rattle.std.proofs.lemmas.List.{drop_more, drop_all, append_assoc}
+use Rattle.std.proofs.lemmas.List.{append_assoc}
 use Rattle.std.proofs.lemmas.List.Elements.{All-nil, All-cons}
 use Rattle.serde_json.specs.Data.{Data, Items, array}
 use Rattle.json_trees.specs.Trees.{list_of, list_in}
@@ -17,7 +17,7 @@ use Rattle.shapes.specs.Shapes.{IsDims, LiesIn}
 use Rattle.shapes.proofs.ShapeLemmas.{dims_alone_told, dims_alone_read}
 use Rattle.point_select.specs.declared.TheConstants.{MAX_POINTS}
 use Rattle.point_select.specs.declared.PointFault.{PointFault}
-use Rattle.point_select.specs.declared.PointFault.TheVariants.{Syntax, TooMany, Rank, Past, NoMemory}
+use Rattle.point_select.specs.declared.PointFault.TheVariants.{Syntax, TooMany, Rank, Past}
 use Rattle.point_select.specs.Points.{IsPoint, SpellsPoints, IsBadPoint, IsFirstBad}
 use Rattle.shapes.proofs.InsideLemmas.{inside_told, inside_read}
 use Rattle.point_select.specs.Faults.{coords_in, point_at, point_of, followed, points_from, points_in, counted_points, points_of, GivesPoints}

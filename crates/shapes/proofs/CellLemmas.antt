@@ -1,5 +1,5 @@
 -- The cells of a shape by their places, and the order of both.
-use Rattle.std.proofs.Common.{◌≡◌, ℕ, zero, suc, ◌+◌, ◌*◌, ◌/◌, ◌%◌, ◌^◌, ◌<◌, ◌≤◌, All, List, [], ◌∷◌, length, get_or, refl, sym, ap, subst, ◌∙◌, arith}
+use Rattle.std.proofs.Common.{◌≡◌, ℕ, zero, suc, ◌+◌, ◌*◌, ◌/◌, ◌%◌, ◌^◌, ◌<◌, ◌≤◌, All, List, [], ◌∷◌, length, refl, sym, ap, subst, ◌∙◌, arith}
 use Rattle.std.specs.declared.cmp.Ordering.{Ordering}
 use Rattle.std.specs.declared.cmp.Ordering.TheVariants.{Less, Equal, Greater}
 use Rattle.std.specs.Ordering.{MatchOrdering, nat_cmp, ordering_then}
@@ -11,7 +11,7 @@ use Rattle.json_trees.proofs.TreeLemmas.{length-AllZip}
 use Rattle.short_lists.specs.Order.{list_order}
 use Rattle.shapes.specs.declared.Shape.{Shape}
 use Rattle.shapes.specs.declared.Shape.TheVariants.{Null, Scalar, Simple}
-use Rattle.shapes.specs.Places.{cell_count, IsInside, place, coordinates, coords_of}
+use Rattle.shapes.specs.Places.{cell_count, IsInside, place, coords_of}
 use Rattle.shapes.specs.Shapes.{IsSound, LiesIn, cells_of, cell_of, count_of, dims_of}
 use Rattle.shapes.proofs.PlaceLemmas.{cell_count-room, place_below}
 use Rattle.shapes.proofs.GridLemmas.{length-coordinates, coordinates-place}

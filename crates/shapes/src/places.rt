@@ -1,6 +1,6 @@
 //! How many cells a shape has, and which cell stands at which place.
 
-ghost use Rattle.std.specs.Prelude.{◌≡◌, ◌≤◌, ◌<◌, ℕ, List, [], length};
+ghost use Rattle.std.specs.Prelude.{◌≡◌, ◌≤◌, ◌<◌, ℕ, List, length};
 ghost use Rattle.shapes.specs.Places.{cell_count, room_of, IsInside, place};
 ghost use Rattle.shapes.specs.Shapes.{IsSound, count_of, dims_of, LiesIn, cells_of, cell_of};
 ghost use Rattle.shapes.specs.declared.TheConstants.{MAX_CELLS, MAX_RANK};

@@ -1,15 +1,15 @@
 //! How JSON trees spell shapes and dims (HDF5/JSON, "Shape"), and how a shape takes other dims.
 
-ghost use Rattle.std.specs.Prelude.{◌≡◌, ◌≤◌, ◌↔◌, ℕ, ◌∷◌, [], ◌++◌, List, Option, Some, None, Ok, Err, All, map, take, length, option_map, option_copied, option_and_then, IfOk, IfSome, IfNone, MatchOption, min, codes, nat_le, ◌-◌, ◌^◌};
+ghost use Rattle.std.specs.Prelude.{◌≡◌, ◌≤◌, ◌↔◌, ℕ, ◌∷◌, [], List, Option, Some, None, Ok, Err, All, map, length, option_map, option_and_then, IfOk, IfSome, min, codes, nat_le, ◌-◌, ◌^◌};
 ghost use Rattle.serde_json.specs.Data.{Data};
 ghost use Rattle.serde_json.specs.View.{view};
 ghost use Rattle.serde_json.specs.Find.{get};
 ghost use Rattle.json_trees.specs.Shown.{shown};
-ghost use Rattle.json_trees.specs.Trees.{all_in, list_in, text_at};
-ghost use Rattle.shapes.specs.Extents.{extent_in, limit_in, extents_in, limits_in, dims_in};
+ghost use Rattle.json_trees.specs.Trees.{all_in, list_in};
+ghost use Rattle.shapes.specs.Extents.{extent_in, extents_in, dims_in};
 ghost use Rattle.shapes.specs.Spelled.{kept_of, number_in, kept_grid, kept_limited, kept_simple, few_of};
 ghost use Rattle.shapes.specs.Places.{room_of};
-ghost use Rattle.shapes.specs.Shapes.{IsShape, IsSound, IsResized, IsDims, shape_of, resized_of, fitted_of, grid_of, limited_of, simple_of, plain_of, worded_of, word_of, limits_tree, is_over as over_limit, first_over as over_from};
+ghost use Rattle.shapes.specs.Shapes.{IsShape, IsSound, IsResized, IsDims, shape_of, resized_of, fitted_of, plain_of, worded_of, word_of, limits_tree, is_over as over_limit, first_over as over_from};
 ghost use Rattle.shapes.specs.declared.Shape.{Shape};
 ghost use Rattle.shapes.specs.declared.ShapeFault.{ShapeFault};
 ghost use Rattle.shapes.specs.declared.TheConstants.{MAX_RANK, MAX_EXTENT, MAX_CELLS};

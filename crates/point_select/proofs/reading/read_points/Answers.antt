@@ -2,7 +2,6 @@
 use Rattle.std.proofs.Common.{◌≤◌, Ok, All, length}
 use Rattle.serde_json.specs.View.{view}
 use Rattle.shapes.specs.Shapes.{LiesIn}
-use Rattle.point_select.specs.declared.TheConstants.{MAX_POINTS}
 use Rattle.point_select.specs.Points.{SpellsPoints}
 use Rattle.point_select.specs.Faults.{points_of}
 use Rattle.point_select.proofs.PointLemmas.{points_told, points_read, points_inside, points_few, answer_told, answer_same}
