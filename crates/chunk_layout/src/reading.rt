@@ -1,6 +1,6 @@
 //! How creation properties give a layout.
 
-ghost use Rattle.std.specs.Prelude.{◌≡◌, ◌≤◌, ◌↔◌, ◌⊎◌, ℕ, List, [], ◌∷◌, ◌++◌, Some, None, Ok, Err, IfOk, map, take, option_map, option_and_then, codes};
+ghost use Rattle.std.specs.Prelude.{◌≡◌, ◌≤◌, ◌↔◌, ◌⊎◌, ℕ, List, Some, None, Ok, Err, IfOk, map, take, option_map, option_and_then, codes};
 ghost use Rattle.serde_json.specs.Data.{Data};
 ghost use Rattle.serde_json.specs.View.{view};
 ghost use Rattle.serde_json.specs.Find.{get};
@@ -18,7 +18,7 @@ use crate::sizes::bytes;
 use crate::{Layout, LayoutFault, MAX_CHUNK_BYTES, default_layout};
 use json_trees::{list_items, member_text, whole_number};
 use serde_json::Value;
-use shapes::{Dims, MAX_EXTENT, MAX_RANK, Shape};
+use shapes::{Dims, MAX_EXTENT, Shape};
 
 /// The layout that creation properties give to an array with elements of `size` bytes.
 ///
