@@ -130,8 +130,10 @@ impl From<ValueFault> for AttributeFault {
 /// is of another kind at place 0.
 pub fn read_attribute(alloc: Global, tree: &Value) -> Result<Attribute, AttributeFault>
     ensures spelled { IfOk result (λ a. IsAttribute (view tree.now) (content a)) }
-    ensures only { (c : Content) → IsAttribute (view tree.now) c → Gives (Fails AttributeFault.NoMemory) content result (Ok c) }
-    ensures first { Gives (Fails AttributeFault.NoMemory) content result (attribute_of (view tree.now)) }
+    ensures only { (c : Content) → IsAttribute (view tree.now) c
+        → Gives (Fails AttributeFault.NoMemory) content result (Ok c) }
+    ensures first { Gives (Fails AttributeFault.NoMemory) content result
+        (attribute_of (view tree.now)) }
     ensures sound { IfOk result (λ a. IsSoundAttribute (content a)) }
 {
     first_of(alloc, tree)
@@ -139,7 +141,8 @@ pub fn read_attribute(alloc: Global, tree: &Value) -> Result<Attribute, Attribut
 
 #[tactic(auto, unfolding(crate::specs::Attributes::attribute_of))]
 fn first_of(alloc: Global, tree: &Value) -> Result<Attribute, AttributeFault>
-    ensures gives { Gives (Fails AttributeFault.NoMemory) content result (attribute_of (view tree.now)) }
+    ensures gives { Gives (Fails AttributeFault.NoMemory) content result
+        (attribute_of (view tree.now)) }
     ensures spelled { IfOk result (λ a. IsAttribute (view tree.now) (content a)) }
     ensures sound { IfOk result (λ a. IsSoundAttribute (content a)) }
 {
@@ -154,7 +157,8 @@ fn first_of(alloc: Global, tree: &Value) -> Result<Attribute, AttributeFault>
 }
 
 fn typed(alloc: Global, tree: Option<&Value>) -> Result<ElemType, AttributeFault>
-    ensures gives { Gives (Fails AttributeFault.NoMemory) elem result (typed_at (shown tree.entry)) }
+    ensures gives { Gives (Fails AttributeFault.NoMemory) elem result
+        (typed_at (shown tree.entry)) }
     ensures spelled { IfOk result (λ e. IsTypeAt (shown tree.entry) (elem e)) }
     ensures sound { IfOk result (λ e. IsSoundType (elem e)) }
 {
@@ -175,9 +179,12 @@ fn sized(
 ) -> Result<Vec<u8>, AttributeFault>
     requires kind { IsSoundType (elem kind.now) }
     requires shape { IsSound shape.now }
-    ensures gives { Gives (Fails AttributeFault.NoMemory) (λ v. v.items) result (sized_at (elem kind.now) shape.now (value_or (valued_at (elem kind.now) shape.now (shown tree.entry)))) }
+    ensures gives { Gives (Fails AttributeFault.NoMemory) (λ v. v.items) result
+        (sized_at (elem kind.now) shape.now
+        (value_or (valued_at (elem kind.now) shape.now (shown tree.entry)))) }
     ensures small { IfOk result (λ _. count_of shape.now * size_of (elem kind.now) ≤ most_bytes) }
-    ensures spelled { IfOk result (λ v. IsValueAt (elem kind.now) shape.now (shown tree.entry) v.items) }
+    ensures spelled { IfOk result
+        (λ v. IsValueAt (elem kind.now) shape.now (shown tree.entry) v.items) }
     ensures encoded { IfOk result (λ v. AreEncoded (elem kind.now) (count_of shape.now) v.items) }
 {
     if count(shape).saturating_mul(u64::from(kind.size())) > MAX_ATTRIBUTE {
@@ -193,8 +200,10 @@ fn valued(
     tree: Option<&Value>,
 ) -> Result<Vec<u8>, ValueFault>
     requires kind { IsSoundType (elem kind.now) }
-    ensures gives { Gives (Fails ValueFault.NoMemory) (λ v. v.items) result (valued_at (elem kind.now) shape.now (shown tree.entry)) }
-    ensures spelled { IfOk result (λ v. IsValueAt (elem kind.now) shape.now (shown tree.entry) v.items) }
+    ensures gives { Gives (Fails ValueFault.NoMemory) (λ v. v.items) result
+        (valued_at (elem kind.now) shape.now (shown tree.entry)) }
+    ensures spelled { IfOk result
+        (λ v. IsValueAt (elem kind.now) shape.now (shown tree.entry) v.items) }
     ensures encoded { IfOk result (λ v. AreEncoded (elem kind.now) (count_of shape.now) v.items) }
 {
     match tree {
@@ -216,7 +225,8 @@ pub fn content_json(
     with_value: bool,
 ) -> Result<Value, AllocError>
     requires { IsSoundAttribute (content attribute.now) }
-    ensures tree { IfOk result (λ v. view v ≡ content_tree (content attribute.now) form with_value) }
+    ensures tree { IfOk result
+        (λ v. view v ≡ content_tree (content attribute.now) form with_value) }
     ensures reads_back { IsTrue with_value
         → IfOk result (λ v. attribute_of (view v) ≡ Ok (content attribute.now)) }
 {

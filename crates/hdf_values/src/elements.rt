@@ -27,7 +27,9 @@ use std::alloc::{AllocError, Global};
 pub fn encode(kind: &ElemType, tree: &Value, out: &mut [u8]) -> Result<(), ValueFault>
     requires sound { IsSoundType (elem kind.now) }
     requires room { length out.old ≡ size_of (elem kind.now) }
-    ensures fits { IfOk result (λ _. Fits (elem kind.now) (view tree.now) × (out.new ≡ bytes_of (elem kind.now) (view tree.now))) }
+    ensures fits { IfOk result
+        (λ _. Fits (elem kind.now) (view tree.now)
+        × (out.new ≡ bytes_of (elem kind.now) (view tree.now))) }
     ensures only { Fits (elem kind.now) (view tree.now) → result ≡ Ok tt }
     ensures first { outcome result out.new ≡ placed 0 (encoded (elem kind.now) (view tree.now)) }
     ensures len { length out.new ≡ length out.old }
@@ -63,7 +65,8 @@ fn encode_fields(fields: &[Field], trees: &[Value], out: &mut [u8]) -> Result<()
     requires formed { AreFormed (field_list fields.now) }
     requires small { fields_size (field_list fields.now) ≤ MAX_SIZE }
     requires room { length out.old ≡ fields_size (field_list fields.now) }
-    ensures exact { outcome result out.new ≡ fields_encoded (field_list fields.now) (map view trees.now) }
+    ensures exact { outcome result out.new
+        ≡ fields_encoded (field_list fields.now) (map view trees.now) }
     ensures fits { IfOk result (λ _. FitFields (field_list fields.now) (map view trees.now)) }
     ensures len { length out.new ≡ length out.old }
 {
@@ -81,7 +84,8 @@ fn encode_fields(fields: &[Field], trees: &[Value], out: &mut [u8]) -> Result<()
 
 /// Ok where both are, else the lower fault.
 fn both(here: Result<(), Misfit>, rest: Result<(), Misfit>) -> Result<(), Misfit>
-    ensures joins { (front back : List ℕ) → outcome result (front ++ back) ≡ joined (outcome here front) (outcome rest back) }
+    ensures joins { (front back : List ℕ)
+        → outcome result (front ++ back) ≡ joined (outcome here front) (outcome rest back) }
     ensures ok { IfOk result (λ _. (here ≡ Ok tt) × (rest ≡ Ok tt)) }
 {
     match (here, rest) {
@@ -138,7 +142,8 @@ pub fn decode(alloc: Global, kind: &ElemType, bytes: &[u8]) -> Result<Value, All
     requires sound { IsSoundType (elem kind.now) }
     requires encoded { IsEncoded (elem kind.now) bytes.now }
     ensures value { IfOk result (λ v. view v ≡ decoded (elem kind.now) bytes.now) }
-    ensures inverse { (d : Data) → Fits (elem kind.now) d → bytes_of (elem kind.now) d ≡ bytes.now → IfOk result (λ v. view v ≡ normal (elem kind.now) d) }
+    ensures inverse { (d : Data) → Fits (elem kind.now) d → bytes_of (elem kind.now) d ≡ bytes.now
+        → IfOk result (λ v. view v ≡ normal (elem kind.now) d) }
 {
     decode_part(alloc, kind, bytes)
 }
@@ -165,7 +170,8 @@ fn decode_fields(alloc: Global, fields: &[Field], bytes: &[u8]) -> Result<Vec<Va
     requires formed { AreFormed (field_list fields.now) }
     requires small { fields_size (field_list fields.now) ≤ MAX_SIZE }
     requires encoded { AreEncodedFields (field_list fields.now) bytes.now }
-    ensures { IfOk result (λ list. map view list.items ≡ fields_decoded (field_list fields.now) bytes.now) }
+    ensures { IfOk result
+        (λ list. map view list.items ≡ fields_decoded (field_list fields.now) bytes.now) }
 {
     let mut list = Vec::with_capacity(alloc, fields.len())?;
     let mut left = bytes;

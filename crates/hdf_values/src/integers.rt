@@ -88,9 +88,10 @@ pub(crate) fn read_ints(
 ) -> Result<u64, ValueFault>
     requires width { IsWidth int.now.bits }
     requires place { place * int_size int.now.bits ≡ length out.old.items }
-    ensures reads { AppendsEach (int_type int.now) [] (map view items.now) place out.old.items out.new.items
-        result }
-    ensures fits { IfOk result (λ _. AllByRecursion (Fits (int_type int.now)) (map view items.now)) }
+    ensures reads { AppendsEach (int_type int.now) []
+        (map view items.now) place out.old.items out.new.items result }
+    ensures fits { IfOk result
+        (λ _. AllByRecursion (Fits (int_type int.now)) (map view items.now)) }
     ensures place { IfOk result (λ next. next * int_size int.now.bits ≡ length out.new.items) }
 {
     let mut next = place;
@@ -103,7 +104,8 @@ pub(crate) fn read_ints(
 fn read_int(int: &IntType, tree: &Value, place: u64, out: &mut Vec<u8>) -> Result<u64, ValueFault>
     requires width { IsWidth int.now.bits }
     requires place { place * int_size int.now.bits ≡ length out.old.items }
-    ensures reads { Appends (int_type int.now) [] (view tree.now) place out.old.items out.new.items result }
+    ensures reads { Appends (int_type int.now) []
+        (view tree.now) place out.old.items out.new.items result }
     ensures fits { IfOk result (λ _. Fits (int_type int.now) (view tree.now)) }
     ensures place { IfOk result (λ next. next * int_size int.now.bits ≡ length out.new.items) }
 {

@@ -25,9 +25,12 @@ ghost use Rattle.hdf_values.specs.declared.attributes.AttributeFault.{AttributeF
 /// What a value is written as has the size of its type, and reads back as the value without the
 /// filling of its texts, which has the same bytes. 0 and the empty text are values.
 pub fn values_read_back()
-    ensures size { (e : Elem) (d : Data) → IsSoundType e → Fits e d → length (bytes_of e d) ≡ size_of e }
-    ensures back { (e : Elem) (d : Data) → IsSoundType e → Fits e d → decoded e (bytes_of e d) ≡ normal e d }
-    ensures again { (e : Elem) (d : Data) → IsSoundType e → Fits e d → Fits e (normal e d) × (bytes_of e (normal e d) ≡ bytes_of e d) }
+    ensures size { (e : Elem) (d : Data) → IsSoundType e → Fits e d
+        → length (bytes_of e d) ≡ size_of e }
+    ensures back { (e : Elem) (d : Data) → IsSoundType e → Fits e d
+        → decoded e (bytes_of e d) ≡ normal e d }
+    ensures again { (e : Elem) (d : Data) → IsSoundType e → Fits e d
+        → Fits e (normal e d) × (bytes_of e (normal e d) ≡ bytes_of e d) }
     ensures zero { (e : Elem) → IsSoundType e → Fits e (zero_of e) }
 {}
 
@@ -56,8 +59,8 @@ pub fn encoded_elements()
         → AreEncoded e m (pieces_at (size_of e) i m bs) }
     ensures replaced { (e : Elem) (n i : ℕ) (x bs : List ℕ) → IsSoundType e → AreEncoded e n bs
         → IsEncoded e x → i < n → AreEncoded e n (with_pieces (size_of e) i x bs) }
-    ensures all_replaced { (e : Elem) (n i m : ℕ) (xs bs : List ℕ) → AreEncoded e n bs → AreEncoded e m xs
-        → i + m ≤ n → AreEncoded e n (with_pieces (size_of e) i xs bs) }
+    ensures all_replaced { (e : Elem) (n i m : ℕ) (xs bs : List ℕ) → AreEncoded e n bs
+        → AreEncoded e m xs → i + m ≤ n → AreEncoded e n (with_pieces (size_of e) i xs bs) }
     ensures fits { (e : Elem) (bs : List ℕ) → IsSoundType e → IsEncoded e bs
         → Fits e (decoded e bs) × (bytes_of e (decoded e bs) ≡ bs) }
 {}
@@ -74,14 +77,22 @@ pub fn shaped_or_fault()
 /// back. The element at coordinates, which is found by going down the lists, stands at their place
 /// in row-major order, among the elements and among the bytes.
 pub fn nested_or_fault()
-    ensures value { (e : Elem) (dims : List ℕ) (p : ℕ) (d : Data) → FitsNested e dims d → nested_from e dims p d ≡ Ok (nested_bytes e dims d) }
-    ensures fault { (e : Elem) (dims : List ℕ) (p : ℕ) (d : Data) (f : ValueFault) → nested_from e dims p d ≡ Err f → FitsNested e dims d → ⊥ }
-    ensures back { (e : Elem) (dims : List ℕ) (d : Data) → IsSoundType e → FitsNested e dims d → nested_decoded e dims (nested_bytes e dims d) ≡ nested_normal e dims d }
+    ensures value { (e : Elem) (dims : List ℕ) (p : ℕ) (d : Data) → FitsNested e dims d
+        → nested_from e dims p d ≡ Ok (nested_bytes e dims d) }
+    ensures fault { (e : Elem) (dims : List ℕ) (p : ℕ) (d : Data) (f : ValueFault)
+        → nested_from e dims p d ≡ Err f → FitsNested e dims d → ⊥ }
+    ensures back { (e : Elem) (dims : List ℕ) (d : Data) → IsSoundType e → FitsNested e dims d
+        → nested_decoded e dims (nested_bytes e dims d) ≡ nested_normal e dims d }
     ensures fits { (e : Elem) (dims bs : List ℕ) → IsSoundType e → AreEncoded e (cell_count dims) bs
         → FitsNested e dims (nested_decoded e dims bs)
         × (nested_bytes e dims (nested_decoded e dims bs) ≡ bs) }
-    ensures rows { (e : Elem) (dims coords : List ℕ) (d : Data) → FitsNested e dims d → IsInside coords dims → tree_at coords d ≡ Some (slice_index_or (elements dims d) (place coords dims) null) }
-    ensures bytes { (e : Elem) (dims coords : List ℕ) (d : Data) → IsSoundType e → FitsNested e dims d → IsInside coords dims → (x : Data) × (tree_at coords d ≡ Some x) × Fits e x × (piece_at (size_of e) (place coords dims) (nested_bytes e dims d) ≡ bytes_of e x) }
+    ensures rows { (e : Elem) (dims coords : List ℕ) (d : Data) → FitsNested e dims d
+        → IsInside coords dims
+        → tree_at coords d ≡ Some (slice_index_or (elements dims d) (place coords dims) null) }
+    ensures bytes { (e : Elem) (dims coords : List ℕ) (d : Data) → IsSoundType e
+        → FitsNested e dims d → IsInside coords dims
+        → (x : Data) × (tree_at coords d ≡ Some x) × Fits e x
+        × (piece_at (size_of e) (place coords dims) (nested_bytes e dims d) ≡ bytes_of e x) }
 {}
 
 /// The fault that is told of an element is the lowest of all that its parts have, and a value has
@@ -105,7 +116,8 @@ pub fn values_in_rows()
         → IsInside coords dims
         → tree_at coords (nested_decoded e dims bs)
         ≡ Some (decoded e (piece_at (size_of e) (place coords dims) bs)) }
-    ensures shaped { (e : Elem) (s : Shape) (at bs : List ℕ) → AreEncoded e (count_of s) bs → LiesIn at s
+    ensures shaped { (e : Elem) (s : Shape) (at bs : List ℕ) → AreEncoded e (count_of s) bs
+        → LiesIn at s
         → tree_at at (value_tree e s bs)
         ≡ Some (decoded e (piece_at (size_of e) (place at (dims_of s)) bs)) }
 {}
@@ -124,5 +136,6 @@ pub fn printed_attributes_read_back()
 pub fn attribute_or_fault()
     ensures one { (d : Data) (a b : Content) → IsAttribute d a → IsAttribute d b → a ≡ b }
     ensures value { (d : Data) (c : Content) → IsAttribute d c → attribute_of d ≡ Ok c }
-    ensures fault { (d : Data) (f : AttributeFault) (c : Content) → attribute_of d ≡ Err f → IsAttribute d c → ⊥ }
+    ensures fault { (d : Data) (f : AttributeFault) (c : Content) → attribute_of d ≡ Err f
+        → IsAttribute d c → ⊥ }
 {}

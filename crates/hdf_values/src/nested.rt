@@ -36,10 +36,16 @@ pub fn read_nested(
     tree: &Value,
 ) -> Result<Vec<u8>, ValueFault>
     requires sound { IsSoundType (elem kind.now) }
-    ensures fits { IfOk result (λ v. FitsNested (elem kind.now) extents.now (view tree.now) × (v.items ≡ nested_bytes (elem kind.now) extents.now (view tree.now))) }
-    ensures only { FitsNested (elem kind.now) extents.now (view tree.now) → Gives (Fails ValueFault.NoMemory) (λ v. v.items) result (Ok (nested_bytes (elem kind.now) extents.now (view tree.now))) }
-    ensures first { Gives (Fails ValueFault.NoMemory) (λ v. v.items) result (nested_from (elem kind.now) extents.now 0 (view tree.now)) }
-    ensures encoded { IfOk result (λ v. AreEncoded (elem kind.now) (cell_count extents.now) v.items) }
+    ensures fits { IfOk result
+        (λ v. FitsNested (elem kind.now) extents.now (view tree.now)
+        × (v.items ≡ nested_bytes (elem kind.now) extents.now (view tree.now))) }
+    ensures only { FitsNested (elem kind.now) extents.now (view tree.now)
+        → Gives (Fails ValueFault.NoMemory) (λ v. v.items) result
+        (Ok (nested_bytes (elem kind.now) extents.now (view tree.now))) }
+    ensures first { Gives (Fails ValueFault.NoMemory) (λ v. v.items) result
+        (nested_from (elem kind.now) extents.now 0 (view tree.now)) }
+    ensures encoded { IfOk result
+        (λ v. AreEncoded (elem kind.now) (cell_count extents.now) v.items) }
 {
     let size = kind.size() as usize;
     let mut out = Vec::with_capacity(alloc, room_ahead(extents.as_slice(), size))?;
@@ -72,7 +78,8 @@ fn read_axes(
     requires sound { IsSoundType (elem kind.now) }
     requires size { size ≡ size_of (elem kind.now) }
     requires place { place * size ≡ length out.old.items }
-    ensures reads { Appends (elem kind.now) extents.now (view tree.now) place out.old.items out.new.items result }
+    ensures reads { Appends (elem kind.now) extents.now
+        (view tree.now) place out.old.items out.new.items result }
     ensures fits { IfOk result (λ _. FitsNested (elem kind.now) extents.now (view tree.now)) }
     ensures place { IfOk result (λ next. next * size ≡ length out.new.items) }
 {
@@ -103,8 +110,10 @@ fn read_members(
     requires sound { IsSoundType (elem kind.now) }
     requires size { size ≡ size_of (elem kind.now) }
     requires place { place * size ≡ length out.old.items }
-    ensures reads { AppendsEach (elem kind.now) extents.now (map view items.now) place out.old.items out.new.items result }
-    ensures fits { IfOk result (λ _. AllByRecursion (FitsNested (elem kind.now) extents.now) (map view items.now)) }
+    ensures reads { AppendsEach (elem kind.now) extents.now
+        (map view items.now) place out.old.items out.new.items result }
+    ensures fits { IfOk result
+        (λ _. AllByRecursion (FitsNested (elem kind.now) extents.now) (map view items.now)) }
     ensures place { IfOk result (λ next. next * size ≡ length out.new.items) }
 {
     if let (ElemType::Int(int), true) = (kind, extents.is_empty()) {
@@ -128,7 +137,8 @@ fn read_one(
     requires sound { IsSoundType (elem kind.now) }
     requires size { size ≡ size_of (elem kind.now) }
     requires place { place * size ≡ length out.old.items }
-    ensures reads { Appends (elem kind.now) [] (view tree.now) place out.old.items out.new.items result }
+    ensures reads { Appends (elem kind.now) []
+        (view tree.now) place out.old.items out.new.items result }
     ensures fits { IfOk result (λ _. Fits (elem kind.now) (view tree.now)) }
     ensures place { IfOk result (λ next. next * size ≡ length out.new.items) }
 {
@@ -154,9 +164,13 @@ pub fn write_nested(
 ) -> Result<Value, AllocError>
     requires sound { IsSoundType (elem kind.now) }
     requires encoded { AreEncoded (elem kind.now) (cell_count extents.now) bytes.now }
-    ensures tree { IfOk result (λ v. view v ≡ nested_decoded (elem kind.now) extents.now bytes.now) }
-    ensures reads_back { IfOk result (λ v. nested_from (elem kind.now) extents.now 0 (view v) ≡ Ok bytes.now) }
-    ensures inverse { (d : Data) → FitsNested (elem kind.now) extents.now d → nested_bytes (elem kind.now) extents.now d ≡ bytes.now → IfOk result (λ v. view v ≡ nested_normal (elem kind.now) extents.now d) }
+    ensures tree { IfOk result
+        (λ v. view v ≡ nested_decoded (elem kind.now) extents.now bytes.now) }
+    ensures reads_back { IfOk result
+        (λ v. nested_from (elem kind.now) extents.now 0 (view v) ≡ Ok bytes.now) }
+    ensures inverse { (d : Data) → FitsNested (elem kind.now) extents.now d
+        → nested_bytes (elem kind.now) extents.now d ≡ bytes.now
+        → IfOk result (λ v. view v ≡ nested_normal (elem kind.now) extents.now d) }
 {
     axes_tree(alloc, kind, extents.as_slice(), bytes)
 }
@@ -190,7 +204,10 @@ fn members_list(
 ) -> Result<Vec<Value>, AllocError>
     requires sound { IsSoundType (elem kind.now) }
     requires encoded { AreEncoded (elem kind.now) (count * cell_count extents.now) bytes.now }
-    ensures { IfOk result (λ list. map view list.items ≡ map (nested_decoded (elem kind.now) extents.now) (pieces count (cell_count extents.now * size_of (elem kind.now)) bytes.now)) }
+    ensures { IfOk result
+        (λ list. map view list.items
+        ≡ map (nested_decoded (elem kind.now) extents.now)
+        (pieces count (cell_count extents.now * size_of (elem kind.now)) bytes.now)) }
 {
     if let (ElemType::Int(int), true) = (kind, extents.is_empty()) {
         return ints_list(alloc, int, count, bytes);

@@ -32,8 +32,10 @@ pub fn read_value(
 ) -> Result<Vec<u8>, ValueFault>
     requires sound { IsSoundType (elem kind.now) }
     ensures spelled { IfOk result (λ v. IsValue (elem kind.now) shape.now (view tree.now) v.items) }
-    ensures only { (bs : List ℕ) → IsValue (elem kind.now) shape.now (view tree.now) bs → Gives (Fails ValueFault.NoMemory) (λ v. v.items) result (Ok bs) }
-    ensures first { Gives (Fails ValueFault.NoMemory) (λ v. v.items) result (value_from (elem kind.now) shape.now (view tree.now)) }
+    ensures only { (bs : List ℕ) → IsValue (elem kind.now) shape.now (view tree.now) bs
+        → Gives (Fails ValueFault.NoMemory) (λ v. v.items) result (Ok bs) }
+    ensures first { Gives (Fails ValueFault.NoMemory) (λ v. v.items) result
+        (value_from (elem kind.now) shape.now (view tree.now)) }
     ensures encoded { IfOk result (λ v. AreEncoded (elem kind.now) (count_of shape.now) v.items) }
 {
     value_bytes(alloc, kind, shape, tree)
@@ -46,7 +48,8 @@ fn value_bytes(
     tree: &Value,
 ) -> Result<Vec<u8>, ValueFault>
     requires sound { IsSoundType (elem kind.now) }
-    ensures gives { Gives (Fails ValueFault.NoMemory) (λ v. v.items) result (value_from (elem kind.now) shape.now (view tree.now)) }
+    ensures gives { Gives (Fails ValueFault.NoMemory) (λ v. v.items) result
+        (value_from (elem kind.now) shape.now (view tree.now)) }
     ensures spelled { IfOk result (λ v. IsValue (elem kind.now) shape.now (view tree.now) v.items) }
     ensures encoded { IfOk result (λ v. AreEncoded (elem kind.now) (count_of shape.now) v.items) }
 {
@@ -59,7 +62,8 @@ fn value_bytes(
 
 /// The value of a shape without a cell.
 fn null_bytes(alloc: Global, tree: &Value) -> Result<Vec<u8>, ValueFault>
-    ensures gives { Gives (Fails ValueFault.NoMemory) (λ v. v.items) result (null_from (view tree.now)) }
+    ensures gives { Gives (Fails ValueFault.NoMemory) (λ v. v.items) result
+        (null_from (view tree.now)) }
     ensures spelled { IfOk result (λ v. (view tree.now ≡ null) × (v.items ≡ [])) }
 {
     if tree.is_null() {
@@ -83,8 +87,10 @@ pub fn write_value(
     requires sound { IsSoundType (elem kind.now) }
     requires encoded { AreEncoded (elem kind.now) (count_of shape.now) bytes.now }
     ensures tree { IfOk result (λ v. view v ≡ value_tree (elem kind.now) shape.now bytes.now) }
-    ensures reads_back { IfOk result (λ v. value_from (elem kind.now) shape.now (view v) ≡ Ok bytes.now) }
-    ensures inverse { (d : Data) → IsValue (elem kind.now) shape.now d bytes.now → IfOk result (λ v. view v ≡ value_normal (elem kind.now) shape.now d) }
+    ensures reads_back { IfOk result
+        (λ v. value_from (elem kind.now) shape.now (view v) ≡ Ok bytes.now) }
+    ensures inverse { (d : Data) → IsValue (elem kind.now) shape.now d bytes.now
+        → IfOk result (λ v. view v ≡ value_normal (elem kind.now) shape.now d) }
 {
     bytes_tree(alloc, kind, shape, bytes)
 }
