@@ -4,7 +4,7 @@ pub mod Blocks
 pub mod Frames
 pub mod Gates
 pub mod Moments
-pub mod Numbers
+pub mod Reports
 pub mod Reading
 pub mod Records
 pub mod Refusals

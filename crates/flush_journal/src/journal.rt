@@ -4,7 +4,7 @@ ghost use Rattle.flush_journal.specs.Batches.{records, owed_size};
 ghost use Rattle.edge_traits.specs.Disks.{Only};
 ghost use Rattle.flush_journal.specs.Files.{Content, content, fresh};
 ghost use Rattle.flush_journal.specs.Gates.{GateStands};
-ghost use Rattle.flush_journal.specs.Numbers.{IsVersion1};
+ghost use Rattle.flush_journal.specs.Reports.{IsVersion1};
 ghost use Rattle.flush_journal.specs.Unchanged.{SameBytes, SameDisk};
 ghost use Rattle.flush_journal.specs.Records.{Record};
 ghost use Rattle.flush_journal.specs.Reading.{MayRefuseReading};
@@ -54,7 +54,7 @@ impl<D: Disk> Journal<D> {
     /// # Errors
     ///
     /// `Exists` where the disk begins with a journal's first bytes, else `JournalFull` where there is no room for a
-    /// header and a gate; `DiskFault` where the disk had a fault.
+    /// header and a gate; `DiskFault` where the disk had a fault. All but the last leave the disk as it was.
     pub fn create(mut disk: D, lanes: u32) -> Result<Journal<D>, JournalRefused<D>>
         requires some { 1 ≤ lanes }
         requires few { lanes ≤ 16 }
@@ -85,8 +85,8 @@ impl<D: Disk> Journal<D> {
         }
     }
 
-    /// Opens the journal that stands on a disk, and gives what it holds. It begins with a sync and writes nothing, so
-    /// after `Ok` whatever a crash leaves is what reads give.
+    /// Opens the journal that stands on a disk, and gives what it holds. It changes no byte, and no image is new. After
+    /// `Ok`, and after a refusal that is no fault, whatever a crash leaves is what reads give.
     ///
     /// # Errors
     ///

@@ -3,7 +3,7 @@ ghost use Rattle.std.specs.Prelude.{◌≡◌, ◌+◌, ◌<◌, ◌≤◌, leng
 ghost use Rattle.std.specs.FinMap as map;
 ghost use Rattle.flush_journal.specs.Files.{content, first_outside, header_ranges};
 ghost use Rattle.flush_journal.specs.Gates.{GateStands};
-ghost use Rattle.flush_journal.specs.Numbers.{IsVersion1};
+ghost use Rattle.flush_journal.specs.Reports.{IsVersion1};
 ghost use Rattle.flush_journal.specs.Readers.{file_of, end_of_file, GoesOn, MayFail};
 ghost use Rattle.flush_journal.specs.Reading.{GateIs, PayloadIs, content_of};
 

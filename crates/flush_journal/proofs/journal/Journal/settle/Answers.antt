@@ -7,7 +7,7 @@ use Rattle.flush_journal.specs.Batches.{records, owed_size}
 use Rattle.flush_journal.specs.Frames.{frame_of, need_of}
 use Rattle.flush_journal.specs.Gates.{Opened, Either, AllHave, OnlyHas, EndsShut, GateStands}
 use Rattle.flush_journal.specs.Moments.{Leaves}
-use Rattle.flush_journal.specs.Numbers.{IsVersion1}
+use Rattle.flush_journal.specs.Reports.{IsVersion1}
 use Rattle.flush_journal.specs.Refusals.{MayRefuse}
 use Rattle.flush_journal.proofs.ContentLemmas.{front_closed}
 use Rattle.flush_journal.proofs.JournalLemmas.{frame_ends, need_of-size, AreBatch}
