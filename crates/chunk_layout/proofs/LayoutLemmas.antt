@@ -12,7 +12,7 @@ use Rattle.std.proofs.lemmas.Option.{same_Some}
 use Rattle.serde_json.specs.Data.{Data, null, boolean, number, string, array, object}
 use Rattle.serde_json.specs.Find.{get, as_str, as_object}
 use Rattle.json_trees.specs.Trees.{all_in, whole_in, list_in, list_of, text_at}
-use Rattle.json_trees.proofs.TreeLemmas.{and_then_some, map_some, list_in_array, whole_in_number, AllZip-all_in, all_in-AllZip}
+use Rattle.json_trees.proofs.TreeLemmas.{and_then_some, map_some, list_in_array, whole_in_number, AllZip-all_in, all_in-AllZip, text_of}
 use Rattle.json_trees.proofs.TableLemmas.{same_bytes}
 use Rattle.json_trees.proofs.FaultLemmas.{chosen, test_ok}
 use Rattle.shapes.specs.declared.Shape.{Shape}
@@ -153,14 +153,6 @@ unfolding ranked
 ranked_read dims size ns h = rw (eq-eqb (length ns) (length dims) h.rank, dims_read 0 ns h.each_dim, big_read size ns h.bytes) refl
 
 -- ---- trees
-
-text_of : (d : Data) (word : List ℕ) → as_str d ≡ Some word → d ≡ string word
-text_of null word e = cc
-text_of (boolean b) word e = cc
-text_of (number n) word e = cc
-text_of (string s) word e = cc
-text_of (array ds) word e = cc
-text_of (object ms) word e = cc
 
 class_told : (d : Data) (word : List ℕ) → text_at (codes "class") d ≡ Some word → HasClass word d
 class_told d word e =

@@ -5,6 +5,7 @@ use Rattle.std.proofs.lemmas.Bool.{cond-true}
 use Rattle.std.proofs.lemmas.Bool.Decides.{nat_tests}
 use Rattle.std.proofs.lemmas.Nat.{be_bytes_4}
 use Rattle.std.proofs.lemmas.List.{get_or-take, take_at, drop_at, append-nil}
+use Rattle.flush_journal.proofs.ReadLemmas.{test_holds}
 use Rattle.flush_journal.specs.Records.{four_bytes}
 use Rattle.flush_journal.specs.Files.{magic, exactly, header_ranges, first_outside}
 use Rattle.flush_journal.specs.Blocks.{header_bytes, BeginsHeader}
@@ -14,9 +15,6 @@ Within : List (ℕ × ℕ) → List ℕ → Type 0
 Within [] bytes = Unit {0}
 Within (r ∷ rs) [] = ⊥
 Within (r ∷ rs) (b ∷ bytes) = (r.0 ≤ b) × (b ≤ r.1) × Within rs bytes
-
-test_true : (a b c : ℕ) → a ≤ b → b ≤ c → (nat_le a b && nat_le b c) ≡ true
-test_true a b c low high = grind (arith, nat_tests)
 
 and_parts : (p q : Bool) → (p && q) ≡ true → (p ≡ true) × (q ≡ true)
 and_parts true q e = (refl, e)
@@ -30,7 +28,7 @@ unfolding first_outside Within
 within_none at [] bytes h = refl
 within_none at (r ∷ rs) [] h = absurd h
 within_none at (r ∷ rs) (b ∷ bytes) h =
-    cond-true (nat_le r.0 b && nat_le b r.1) (first_outside (at + 1) rs bytes) (Some at) (test_true r.0 b r.1 h.0 h.1) ∙ within_none (at + 1) rs bytes h.2
+    cond-true (nat_le r.0 b && nat_le b r.1) (first_outside (at + 1) rs bytes) (Some at) (test_holds r.0 b r.1 h.0 h.1) ∙ within_none (at + 1) rs bytes h.2
 
 none_within : (at : ℕ) (rs : List (ℕ × ℕ)) (bytes : List ℕ) → first_outside at rs bytes ≡ None → Within rs bytes
 unfolding first_outside Within
@@ -71,7 +69,7 @@ some_within at (r ∷ rs) (b ∷ bytes) p e = by_test (some_within (at + 1) rs b
         }
     by_test further false is e =
         let same : at ≡ p = cc in
-        record { k = 0; place = omega arith; few = omega arith; before = tt; here = λ h. let no_ : true ≡ false = sym (test_true r.0 b r.1 h.0 h.1) ∙ is in absurd (cc) }
+        record { k = 0; place = omega arith; few = omega arith; before = tt; here = λ h. let no_ : true ≡ false = sym (test_holds r.0 b r.1 h.0 h.1) ∙ is in absurd (cc) }
 
 within_some : (at : ℕ) (rs : List (ℕ × ℕ)) (bytes : List ℕ) (k : ℕ) → k < length rs → Within (take k rs) bytes → (Within (take (suc k) rs) bytes → ⊥) → first_outside at rs bytes ≡ Some (at + k)
 unfolding first_outside Within
@@ -84,7 +82,7 @@ within_some at (r ∷ rs) (b ∷ bytes) zero few before here = by_test (nat_le r
     by_test true is = let both = and_parts (nat_le r.0 b) (nat_le b r.1) is in absurd (here (le_of r.0 b both.0, le_of b r.1 both.1, tt))
     by_test false is = ap (λ (n : ℕ). Some n) (let e : at ≡ at + 0 = omega arith in e)
 within_some at (r ∷ rs) (b ∷ bytes) (suc k) few before here =
-    cond-true (nat_le r.0 b && nat_le b r.1) (first_outside (at + 1) rs bytes) (Some at) (test_true r.0 b r.1 before.0 before.1)
+    cond-true (nat_le r.0 b && nat_le b r.1) (first_outside (at + 1) rs bytes) (Some at) (test_holds r.0 b r.1 before.0 before.1)
     ∙ within_some (at + 1) rs bytes k (omega arith) before.2 (λ h. here (before.0, before.1, h))
     ∙ ap (λ (n : ℕ). Some n) (let e : at + 1 + k ≡ at + suc k = omega arith in e)
 

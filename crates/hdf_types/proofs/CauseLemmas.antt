@@ -9,7 +9,7 @@ use Rattle.serde_json.specs.Find.{get, as_str}
 use Rattle.json_trees.specs.Trees.{whole_in, text_at}
 use Rattle.json_trees.specs.Faults.{◌>>=◌}
 use Rattle.json_trees.specs.Tables.{look_up}
-use Rattle.json_trees.proofs.TreeLemmas.{and_then_some, whole_in_number}
+use Rattle.json_trees.proofs.TreeLemmas.{and_then_some, both_true, text_of, whole_in_number}
 use Rattle.json_trees.proofs.TableLemmas.{same_bytes}
 use Rattle.json_trees.proofs.FaultLemmas.{chosen, ok_or_ok}
 use Rattle.hdf_types.specs.declared.IntType.{IntType}
@@ -25,7 +25,7 @@ use Rattle.hdf_types.specs.Faults.{Fault, fault}
 use Rattle.hdf_types.specs.Reading.{int_named, is_ieee, name_cause, int_or, named_at, based_at, integer_at, sets, pads, word_or, is_variable, is_good_length, sized_at, string_at, name_in, is_member, list_pass, members_in, class_names, cause_or, class_cause, classed_by, worded_by, node_by, compound_by, fields_at, node_at}
 use Rattle.hdf_types.specs.Types.{HasClass}
 use Rattle.hdf_types.specs.FirstFault.{NamesClass, IsSizedText, IsMember, IsCompound}
-use Rattle.hdf_types.proofs.TypeLemmas.{both_true, text_of, text_told, word_told, name_told, name_read, members_told}
+use Rattle.hdf_types.proofs.TypeLemmas.{text_told, word_told, name_told, name_read, members_told}
 
 pub bind_err : {A B E : Type 0} (r : Result A E) (f : A → Result B E) (e : E) → (r >>= f) ≡ Err e → (r ≡ Err e) ⊎ ((x : A) × (r ≡ Ok x) × (f x ≡ Err e))
 bind_err (Ok x) f e h = inr (x, refl, h)

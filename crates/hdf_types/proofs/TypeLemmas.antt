@@ -9,7 +9,7 @@ use Rattle.serde_json.specs.Find.{get, as_str}
 use Rattle.json_trees.specs.Trees.{list_of, list_in, whole_in, text_at}
 use Rattle.json_trees.specs.Faults.{◌>>=◌}
 use Rattle.json_trees.specs.Tables.{look_up}
-use Rattle.json_trees.proofs.TreeLemmas.{and_then_some, list_in_array, whole_in_number}
+use Rattle.json_trees.proofs.TreeLemmas.{and_then_some, list_in_array, whole_in_number, text_of, both_true}
 use Rattle.json_trees.proofs.TableLemmas.{same_bytes}
 use Rattle.json_trees.proofs.FaultLemmas.{bind_ok, chosen, ok_or_ok, test_ok}
 use Rattle.hdf_types.specs.declared.IntType.{IntType}
@@ -26,18 +26,6 @@ use Rattle.hdf_types.specs.declared.faults.TypeFault.{TypeFault}
 use Rattle.hdf_types.specs.Reading.{int_named, int_or, named_at, based_at, integer_at, sets, pads, word_or, is_variable, is_good_length, sized_at, string_at, is_good_name, name_in, list_pass, some_members, members_in, names_of, first_again, again_or, distinct_at, Member, named_member, member_at, add_member, each_at, listed_at, classed_by, worded_by, node_by, compound_by, fields_at, node_at, size_of, within_at, type_of}
 use Rattle.hdf_types.specs.Types.{HasClass, IsIntObject, SpellsWord, IsTextObject, IsDistinct, IsTypeOf, AreFields, IsType}
 use Rattle.hdf_types.proofs.NameLemmas.{distinct_told, distinct_read}
-
-pub both_true : (a b : Bool) → (a && b) ≡ true → (a ≡ true) × (b ≡ true)
-both_true true b e = (refl, e)
-both_true false b e = cc
-
-pub text_of : (d : Data) (word : List ℕ) → as_str d ≡ Some word → d ≡ string word
-text_of null word e = cc
-text_of (boolean b) word e = cc
-text_of (number n) word e = cc
-text_of (string s) word e = cc
-text_of (array ds) word e = cc
-text_of (object ms) word e = cc
 
 -- the text at a key
 pub text_told : (key : List ℕ) (d : Data) (word : List ℕ) → text_at key d ≡ Some word → get key d ≡ Some (string word)

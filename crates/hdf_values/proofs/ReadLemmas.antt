@@ -19,27 +19,6 @@ use Rattle.hdf_values.specs.Nested.{FitsNested, nested_bytes, each_nested, neste
 use Rattle.hdf_values.proofs.PieceLemmas.{none_left}
 use Rattle.hdf_values.proofs.NestedLemmas.{nested_read, first_piece}
 
--- ---- room for so many bytes
-
-capped : (t n r m : ℕ) → min (min (t * n) m * r) m ≡ min (t * (n * r)) m
-capped t n zero m = omega arith
-capped t n (suc r) m =
-    let whole = mul_assoc t n (suc r) in
-    elim (cases_lt m (t * n)) [
-      | inl high ↦
-          let top : min (t * n) m ≡ m = omega (arith, high) in
-          let full : m * 1 ≤ m * suc r = mul-le m 1 m (suc r) (omega arith) (omega arith) in
-          let more : (t * n) * 1 ≤ (t * n) * suc r = mul-le (t * n) 1 (t * n) (suc r) (omega arith) (omega arith) in
-          ap (λ x. min (x * suc r) m) top ∙ omega (arith, full, more, whole, high)
-      | inr low ↦
-          let plain : min (t * n) m ≡ t * n = omega (arith, low) in
-          ap (λ x. min (x * suc r) m) plain ∙ ap (λ x. min x m) whole
-    ]
-
--- the capped product, one extent further
-pub room_next : (t i m : ℕ) (ns : List ℕ) → i < length ns → min (min (t * get_or ns i 0) m * cell_count (drop (i + 1) ns)) m ≡ min (t * cell_count (drop i ns)) m
-room_next t i m ns h = capped t (get_or ns i 0) (cell_count (drop (i + 1) ns)) m ∙ ap (λ xs. min (t * cell_count xs) m) (sym (drop_more ns i 0 h))
-
 -- a place is at most the number of bytes before it
 pub place_within : (p k n : ℕ) → 1 ≤ k → p * k ≡ n → p ≤ n
 place_within p k n h e =

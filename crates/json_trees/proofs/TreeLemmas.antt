@@ -1,7 +1,8 @@
 -- The values of a list, seen as data, and lists read member by member.
-use Rattle.std.proofs.Common.{◌≡◌, ℕ, true, List, [], ◌∷◌, map, length, Option, Some, None, option_map, option_and_then, suc, subst, refl, ap}
+use Rattle.std.proofs.Common.{◌≡◌, ℕ, ◌&&◌, Bool, true, false, List, [], ◌∷◌, map, length, Option, Some, None, option_map, option_and_then, suc, subst, refl, ap}
 use Rattle.std.proofs.lemmas.Bool.{false≢true}
 use Rattle.serde_json.specs.Data.{Data, Items, null, boolean, number, string, array, object, unsigned, negative, float}
+use Rattle.serde_json.specs.Find.{as_str}
 use Rattle.serde_json.specs.View.{view, items_view}
 use Rattle.serde_json.specs.declared.value.Value.{Value}
 use Rattle.json_trees.specs.Trees.{list_of, list_in, whole_in, is_text, all_in}
@@ -73,3 +74,17 @@ length-AllZip R [] [] h = refl
 length-AllZip R [] (y ∷ ys) h = absurd h
 length-AllZip R (x ∷ xs) [] h = absurd h
 length-AllZip R (x ∷ xs) (y ∷ ys) h = ap suc (length-AllZip R xs ys h.1)
+
+-- a tree that is a text
+pub text_of : (d : Data) (word : List ℕ) → as_str d ≡ Some word → d ≡ string word
+text_of null word e = cc
+text_of (boolean b) word e = cc
+text_of (number n) word e = cc
+text_of (string s) word e = cc
+text_of (array ds) word e = cc
+text_of (object ms) word e = cc
+
+-- two tests that both pass
+pub both_true : (a b : Bool) → (a && b) ≡ true → (a ≡ true) × (b ≡ true)
+both_true true b e = (refl, e)
+both_true false b e = cc

@@ -42,7 +42,8 @@ id_in-bits id h =
     let serial = same_serial id.domain id.run id.serial h.run h.serial in
     λ i. record { kind = id.kind; domain = domain i; run = run i; serial = serial i }
 
-small_bits : (d r s : ℕ) → d < 2 ^ 48 → r < 2 ^ 22 → s < 2 ^ 40 → d * 2 ^ 80 + 8 * 2 ^ 76 + 2 * 2 ^ 62 + r * 2 ^ 40 + s < 256 ^ 16
+-- the bits fit 16 bytes
+pub small_bits : (d r s : ℕ) → d < 2 ^ 48 → r < 2 ^ 22 → s < 2 ^ 40 → d * 2 ^ 80 + 8 * 2 ^ 76 + 2 * 2 ^ 62 + r * 2 ^ 40 + s < 256 ^ 16
 small_bits d r s hd hr hs = omega arith
 
 -- the id in the bytes of an id's UUID has that UUID, whatever its kind

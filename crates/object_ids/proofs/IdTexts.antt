@@ -4,6 +4,7 @@ use Rattle.std.proofs.Math.Nat.{mod-eq_of_lt}
 use Rattle.std.specs.Ordering.{nat_cmp, ordering_then}
 use Rattle.std.specs.Cmp.Lexicographic.{slice_cmp}
 use Rattle.std.specs.Int.{to_be_bytes, w128}
+use Rattle.object_ids.proofs.IdBits.{small_bits}
 use Rattle.object_ids.specs.IdValues.{Id}
 use Rattle.object_ids.specs.IdOrder.{id_order, kind_rank}
 use Rattle.object_ids.specs.Ids.{text_of_id, prefix_of, bits_of}
@@ -39,9 +40,6 @@ cmp_numbers d r s e q t hr hs hq ht =
     ∙ cmp_parts (2 ^ 80) d e ((8 * 2 ^ 36 + 2 * 2 ^ 22 + r) * 2 ^ 40 + s) ((8 * 2 ^ 36 + 2 * 2 ^ 22 + q) * 2 ^ 40 + t) (omega arith) (omega arith)
     ∙ ap (ordering_then (nat_cmp d e)) (cmp_parts (2 ^ 40) (8 * 2 ^ 36 + 2 * 2 ^ 22 + r) (8 * 2 ^ 36 + 2 * 2 ^ 22 + q) s t hs ht
     ∙ ap (λ o. ordering_then o (nat_cmp s t)) (shift (8 * 2 ^ 36 + 2 * 2 ^ 22) r q))
-
-small_bits : (d r s : ℕ) → d < 2 ^ 48 → r < 2 ^ 22 → s < 2 ^ 40 → d * 2 ^ 80 + 8 * 2 ^ 76 + 2 * 2 ^ 62 + r * 2 ^ 40 + s < 256 ^ 16
-small_bits d r s hd hr hs = omega arith
 
 cmp_bits : (a b : Id) → InRange a → InRange b → slice_cmp nat_cmp (to_be_bytes w128 (bits_of a)) (to_be_bytes w128 (bits_of b)) ≡ nat_cmp (bits_of a) (bits_of b)
 cmp_bits a b ha hb = cmp_bytes 16 (bits_of a) (bits_of b)

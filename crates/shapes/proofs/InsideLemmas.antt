@@ -3,6 +3,7 @@ use Rattle.std.proofs.Common.{◌≡◌, ℕ, suc, ◌+◌, ◌<◌, ◌≤◌, 
 use Rattle.std.proofs.lemmas.Bool.Decides.{nat_tests}
 use Rattle.std.proofs.lemmas.Bool.{ltb-true, lt-ltb, cases_Bool}
 use Rattle.std.proofs.lemmas.List.{drop_more, drop_all}
+use Rattle.json_trees.proofs.TreeLemmas.{both_true}
 use Rattle.shapes.specs.Places.{IsInside, is_inside}
 use Rattle.shapes.specs.declared.Shape.{Shape}
 use Rattle.shapes.specs.declared.Shape.TheVariants.{Null, Scalar, Simple}
@@ -27,10 +28,6 @@ inside_ranked (x ∷ xs) (n ∷ ns) h = elim (cases_Bool (nat_lt x n)) [
   | inl low ↦ rw (low, inside_ranked xs ns (λ e. h (ap suc e)))
   | inr high ↦ rw high
 ]
-
-both_true : (a b : Bool) → (a && b) ≡ true → (a ≡ true) × (b ≡ true)
-both_true true b e = (refl, e)
-both_true false b e = cc
 
 pub inside_told : (xs ns : List ℕ) → is_inside xs ns ≡ true → IsInside xs ns
 inside_told [] [] e = tt

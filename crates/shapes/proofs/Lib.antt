@@ -5,3 +5,4 @@ pub mod ExtentLemmas
 pub mod ShapeLemmas
 pub mod InsideLemmas
 pub mod CellLemmas
+pub mod CapLemmas

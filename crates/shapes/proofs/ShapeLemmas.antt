@@ -9,7 +9,7 @@ use Rattle.serde_json.specs.Data.{Data, null, boolean, number, string, array, ob
 use Rattle.serde_json.specs.Find.{get, as_str}
 use Rattle.json_trees.specs.Trees.{list_of}
 use Rattle.std.specs.List.{AllZip}
-use Rattle.json_trees.proofs.TreeLemmas.{and_then_some, length-AllZip}
+use Rattle.json_trees.proofs.TreeLemmas.{and_then_some, length-AllZip, text_of, both_true}
 use Rattle.json_trees.proofs.TableLemmas.{same_bytes}
 use Rattle.json_trees.proofs.FaultLemmas.{chosen, test_ok}
 use Rattle.shapes.specs.declared.Shape.{Shape}
@@ -72,10 +72,6 @@ ok_fitted dims limits h k =
     let same = eq-eqb (length dims) (length limits) (sym (length-AllZip IsWithin dims limits h)) in
     rw (same, over_none 0 dims limits h, le-leb (room_of dims) MAX_CELLS k)
 
-both_true : (a b : Bool) → (a && b) ≡ true → (a ≡ true) × (b ≡ true)
-both_true true b e = (refl, e)
-both_true false b e = cc
-
 pub grid_ok : (dims limits : List ℕ) (s : Shape) → grid_of dims limits ≡ Ok s → (s ≡ Simple dims limits) × IsFitting dims limits
 unfolding grid_of
 grid_ok dims limits s e =
@@ -120,14 +116,6 @@ ok_simple dims maxdims None same h = ap (grid_of dims) (sym same) ∙ ok_grid di
 ok_simple dims maxdims (Some d) spells h = rw (limits_read d maxdims spells) (ok_grid dims maxdims h)
 
 -- ---- words
-
-text_of : (d : Data) (word : List ℕ) → as_str d ≡ Some word → d ≡ string word
-text_of null word e = cc
-text_of (boolean b) word e = cc
-text_of (number n) word e = cc
-text_of (string s) word e = cc
-text_of (array ds) word e = cc
-text_of (object ms) word e = cc
 
 no_word : (d : Data) (dims : List ℕ) → SpellsDims d dims → word_of d ≡ None
 no_word d dims (inl h) = ap word_of h.1

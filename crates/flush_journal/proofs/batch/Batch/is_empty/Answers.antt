@@ -1,12 +1,9 @@
 use Rattle.std.proofs.Common.{◌≡◌, ℕ, List, [], ◌∷◌, length, ap, sym, ◌∙◌, arith, refl}
 use Rattle.std.proofs.lemmas.Bool.Decides.{nat_tests}
 use Rattle.flush_journal.specs.Frames.{framed_records}
+use Rattle.flush_journal.proofs.PayloadLemmas.{no_length}
 use Rattle.flush_journal.proofs.BatchLemmas.{no_bytes, no_records}
 use Rattle.flush_journal.proofs.batch.Batch.is_empty.Goals as goal
-
-no_length : (l : List ℕ) → length l ≡ 0 → l ≡ []
-no_length [] e = refl
-no_length (b ∷ l) e = absurd (omega arith)
 
 pub returns : goal.returns
 returns c =
