@@ -1,11 +1,10 @@
 -- The last record of a key says what stands there.
-use Rattle.std.proofs.Common.{◌≡◌, ◌≢◌, ℕ, Bool, true, false, cond, List, [], ◌∷◌, ◌++◌, Option, Some, None, is_eq, refl, sym, ◌∙◌, ap}
+use Rattle.std.proofs.Common.{◌≡◌, ◌≢◌, ℕ, Bool, true, false, cond, List, [], ◌∷◌, ◌++◌, is_eq, refl, sym, ◌∙◌, ap}
 use Rattle.std.specs.Cmp.{Equal-is}
 use Rattle.std.specs.Cmp.Lexicographic.{nat_list_cmp_total}
 use Rattle.std.specs.FinMap as map
 use Rattle.std.specs.List.{AllByRecursion}
 use Rattle.std.proofs.lemmas.Cmp.{tied_itself}
-use Rattle.std.proofs.lemmas.Bool.{cases_Bool}
 use Rattle.text_maps.specs.Keyed.{text_order}
 use Rattle.text_maps.proofs.KeyedMaps.{exact_texts}
 use Rattle.flush_journal.specs.Records.{Record, Held, put_record, put_all, kept_body}
