@@ -31,3 +31,8 @@ pub fn whole_requests_are_served()
         → AllServed requests → length requests < BUDGET → spelled requests ≡ taken ++ left
         → IsTranscript tokens catalogue taken sent end → IsAtItsEnd (Some left) end → IsPeaceful end }
 {}
+
+/// A link makes at most 2^32 requests.
+pub fn limit_of_requests()
+    ensures { BUDGET ≡ 4_294_967_296 }
+{}
