@@ -14,7 +14,7 @@ fn keeps_the_last_value_of_each_text(rt: HostRuntime) -> Result<(), Fail> {
     assert_eq!(rt; map.get_joined("g:", "x").copied(), Some(4));
     assert_eq!(rt; map.get_joined("g", "x").copied(), None);
     if let Some(value) = map.get_mut("a") {
-        *value += 10;
+        *value = 12;
     }
     assert_eq!(rt; map.get("a").copied(), Some(12));
     for (after, next) in [
