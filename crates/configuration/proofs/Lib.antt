@@ -1,3 +1,4 @@
+pub mod NodeLemmas
 pub mod PeopleLemmas
 pub mod PlaceLemmas
 pub mod TableLemmas

@@ -57,7 +57,7 @@ folders_step c d es rest k place is put =
     ap (λ (x : Contents). with_nodes x (folder_nodes (keyed string_bytes rest))) put
     ∙ sym (ap (λ (l : List (String Global × Place)). with_nodes c (folder_nodes (keyed string_bytes l))) is)
 
-raised-next : (n : ℕ) → max n (n + 1) ≡ n + 1
+pub raised-next : (n : ℕ) → max n (n + 1) ≡ n + 1
 raised-next n = omega arith
 
 pub domains_step : (c d : Contents) (es rest : List (String Global × Place)) (k : String Global) (place : Place) → es ≡ (k, place) ∷ rest → d ≡ with_node c (string_bytes k) (domain_node c.next place)

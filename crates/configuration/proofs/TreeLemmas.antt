@@ -44,11 +44,11 @@ abbrev pub Among : List ℕ → Places → Type 0
 Among q [] = ⊥
 Among q (e ∷ es) = (q ≡ e.0) ⊎ Among q es
 
-each_at : (P : List ℕ → Type 0) (es : Places) (q : List ℕ) → Among q es → Each P es → P q
+pub each_at : (P : List ℕ → Type 0) (es : Places) (q : List ℕ) → Among q es → Each P es → P q
 each_at P [] q a h = absurd a
 each_at P (e ∷ es) q a h = ⊎_elim (λ same. subst P (sym same) h.0) (λ later. each_at P es q later h.1) a
 
-each_ne : (x : List ℕ) (es : Places) → (Among x es → ⊥) → Each (λ q. q ≢ x) es
+pub each_ne : (x : List ℕ) (es : Places) → (Among x es → ⊥) → Each (λ q. q ≢ x) es
 each_ne x [] none = tt
 each_ne x (e ∷ es) none = (λ same. none (inl (sym same)), each_ne x es (λ later. none (inr later)))
 
@@ -85,12 +85,12 @@ below_each x [] h = tt
 below_each x (e ∷ es) h =
     (is_less (text_order x e.0) (T_left (is_lt (text_order x e.0)) (below_all text_order x es) h), below_each x es (T_right (is_lt (text_order x e.0)) (below_all text_order x es) h))
 
-rising : (es : Places) → T (is_sorted text_order es) → Rising es
+pub rising : (es : Places) → T (is_sorted text_order es) → Rising es
 rising [] h = tt
 rising (e ∷ es) h =
     (below_each e.0 es (T_left (below_all text_order e.0 es) (is_sorted text_order es) h), rising es (T_right (below_all text_order e.0 es) (is_sorted text_order es) h))
 
-not_itself : (x q : List ℕ) → text_order x q ≡ Less → q ≢ x
+pub not_itself : (x q : List ℕ) → text_order x q ≡ Less → q ≢ x
 not_itself x q less same =
     let e : Less ≡ Equal = sym less ∙ ap (text_order x) same ∙ tied_itself nat_list_cmp_total x in
     cc
@@ -141,15 +141,15 @@ parent_below q canonical other = ⊎_elim (λ root. absurd (other root)) (λ lon
         (cases_eq k 0)
 
 -- what stands in a catalogue with one node more
-same_or_other : (q path : List ℕ) → (q ≡ path) ⊎ (q ≢ path)
+pub same_or_other : (q path : List ℕ) → (q ≡ path) ⊎ (q ≢ path)
 same_or_other q path = ⊎_elim (λ y. inl ((bytes_eq-Decides q path).0 y)) (λ n. inr (λ same. true≢false (sym ((bytes_eq-Decides q path).1 same) ∙ n))) (cases_Bool (bytes_eq q path))
 
-node_other : (c : Contents) (path : List ℕ) (node : Node) (q : List ℕ) → q ≢ path → get (with_node c path node).nodes q ≡ get c.nodes q
+pub node_other : (c : Contents) (path : List ℕ) (node : Node) (q : List ℕ) → q ≢ path → get (with_node c path node).nodes q ≡ get c.nodes q
 node_other c path node q other =
     get-insert nat_list_cmp_total c.nodes path node q
     ∙ cond-false _ _ _ (is_eq-slice_cmp q path ∙ false_from_ne_true _ (λ h. other ((bytes_eq-Decides q path).0 h)))
 
-node_here : (c : Contents) (path : List ℕ) (node : Node) → get (with_node c path node).nodes path ≡ Some node
+pub node_here : (c : Contents) (path : List ℕ) (node : Node) → get (with_node c path node).nodes path ≡ Some node
 node_here c path node =
     get-insert nat_list_cmp_total c.nodes path node path ∙ cond-true _ _ _ (is_eq-slice_cmp path path ∙ (bytes_eq-Decides path path).1 refl)
 
@@ -217,7 +217,7 @@ folders_there c (e ∷ es) q a = ⊎_elim
     (λ later. folders_there (with_node c e.0 (folder_node e.1)) es q later)
     a
 
-folders_other : (c : Contents) (es : Places) (q : List ℕ) → (Among q es → ⊥) → get (with_nodes c (folder_nodes es)).nodes q ≡ get c.nodes q
+pub folders_other : (c : Contents) (es : Places) (q : List ℕ) → (Among q es → ⊥) → get (with_nodes c (folder_nodes es)).nodes q ≡ get c.nodes q
 folders_other c [] q none = refl
 folders_other c (e ∷ es) q none =
     folders_other (with_node c e.0 (folder_node e.1)) es q (λ later. none (inr later)) ∙ node_other c e.0 (folder_node e.1) q (λ same. none (inl same))
@@ -227,7 +227,7 @@ len-folders c [] = omega arith
 len-folders c (e ∷ es) = omega (arith, len-folders (with_node c e.0 (folder_node e.1)) es, len-insert-le c.nodes e.0 (folder_node e.1))
 
 -- paths that a map has, and those among its entries
-any_from_among : (q : List ℕ) (es : Places) → Among q es → list_any (eq_by_cmp text_order q) (map (λ e. e.0) es) ≡ true
+pub any_from_among : (q : List ℕ) (es : Places) → Among q es → list_any (eq_by_cmp text_order q) (map (λ e. e.0) es) ≡ true
 any_from_among q [] a = absurd a
 any_from_among q (e ∷ es) a = ⊎_elim
     (λ same. ap (λ (b : Bool). b || list_any (eq_by_cmp text_order q) (map (λ x. x.0) es)) (is_eq-slice_cmp q e.0 ∙ (bytes_eq-Decides q e.0).1 same))
@@ -245,10 +245,10 @@ among_from_any q (e ∷ es) h = ⊎_elim
     (λ later. inr (among_from_any q es later))
     (or_cases (eq_by_cmp text_order q e.0) _ h)
 
-has_among : (m : FinMap text_order Place) (q : List ℕ) → contains_key m q ≡ true → Among q (entries m)
+pub has_among : (m : FinMap text_order Place) (q : List ℕ) → contains_key m q ≡ true → Among q (entries m)
 has_among m q h = among_from_any q (entries m) (sym (contains_key-keys m q) ∙ h)
 
-not_among : (m : FinMap text_order Place) (q : List ℕ) → contains_key m q ≡ false → Among q (entries m) → ⊥
+pub not_among : (m : FinMap text_order Place) (q : List ℕ) → contains_key m q ≡ false → Among q (entries m) → ⊥
 not_among m q h a = true≢false (sym (contains_key-keys m q ∙ any_from_among q (entries m) a) ∙ h)
 
 -- the facts of a tree
@@ -283,7 +283,7 @@ home_cases m q h = ⊎_elim
     (λ there. inr (has_among m (parent_of q) there))
     (or_cases (bytes_eq (parent_of q) root_path) (contains_key m (parent_of q)) h)
 
-nothing_at : (root : Place) (q : List ℕ) → q ≢ root_path → get (only_root (folder_node root)).nodes q ≡ None
+pub nothing_at : (root : Place) (q : List ℕ) → q ≢ root_path → get (only_root (folder_node root)).nodes q ≡ None
 nothing_at root q other =
     get-insert nat_list_cmp_total (empty {X = Node} {R = text_order}) root_path (folder_node root) q
     ∙ cond-false _ _ _ (is_eq-slice_cmp q root_path ∙ false_from_ne_true _ (λ h. other ((bytes_eq-Decides q root_path).0 h)))
