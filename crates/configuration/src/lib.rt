@@ -18,7 +18,7 @@ mod trees;
 
 pub use config::Config;
 pub use fault::ConfigFault;
-pub use laws::configured_catalogue;
+pub use laws::{configured_catalogue, limits_of_configurations};
 pub use limits::{MAX_GROUP_LEN, MAX_NAME_LEN, MAX_PLACES, MAX_TOKEN_LEN};
 pub use reading::read_config;
 
