@@ -21,11 +21,11 @@ use Rattle.domains.specs.Contents.{Contents, only_root, with_node}
 use Rattle.domains.specs.declared.classes.Node.{Node}
 use Rattle.domains.specs.declared.classes.NodeClass.TheVariants.{Domain}
 use Rattle.configuration.specs.ConfiguredNodes.{HasConfigured, IsFolderPath, MakeTree, Settings, rank_of, ranked_domain}
-use Rattle.configuration.specs.Trees.{catalogue_of, default_place, domain_node, domain_nodes, folder_node, folder_nodes, grown_from, has_home, is_tree, with_nodes}
+use Rattle.configuration.specs.Catalogues.{catalogue_of, default_place, domain_node, domain_nodes, folder_node, folder_nodes, grown_from, has_home, is_tree, with_nodes}
 use Rattle.configuration.specs.declared.limits.TheConstants.{MAX_PLACES}
 use Rattle.configuration.specs.declared.settings.Place.{Place}
 use Rattle.configuration.proofs.PlaceLemmas.{next-folders, raised-next}
-use Rattle.configuration.proofs.TreeLemmas.{Among, Each, Places, Rising, any_from_among, each_at, folders_other, has_among, node_here, node_other, not_among, nothing_at, not_itself, removed, rising, same_or_other, tree_facts}
+use Rattle.configuration.proofs.CatalogueLemmas.{Among, Each, Places, Rising, any_from_among, each_at, folders_other, has_among, node_here, node_other, not_among, nothing_at, not_itself, removed, rising, same_or_other, tree_facts}
 
 some_or_none : {A : Type 0} (o : Option A) → ((a : A) × (o ≡ Some a)) ⊎ (o ≡ None)
 some_or_none None = inr refl

@@ -13,7 +13,7 @@ use Rattle.object_ids.specs.Paths.{path_of, root_path}
 use Rattle.domains.specs.Contents.{Contents, only_root, with_node}
 use Rattle.domains.specs.declared.classes.Node.{Node}
 use Rattle.configuration.proofs.TableLemmas.{len-insert-le}
-use Rattle.configuration.specs.Trees.{ArePaths, domain_node, domain_nodes, folder_node, folder_nodes, with_nodes}
+use Rattle.configuration.specs.Catalogues.{ArePaths, domain_node, domain_nodes, folder_node, folder_nodes, with_nodes}
 use Rattle.configuration.specs.Places.{distinct_places}
 use Rattle.configuration.specs.Tables.{only_if, map_of}
 use Rattle.configuration.specs.declared.settings.Place.{Place}

@@ -10,7 +10,7 @@ use Rattle.domains.specs.Contents.{Contents}
 use Rattle.configuration.specs.People.{callers_in, groups_in, groups_with}
 use Rattle.configuration.specs.Places.{places_in}
 use Rattle.configuration.specs.Tables.{both, has_only, only_if, table_at}
-use Rattle.configuration.specs.Trees.{catalogue_of}
+use Rattle.configuration.specs.Catalogues.{catalogue_of}
 use Rattle.configuration.specs.declared.config.Config.{Config}
 
 abbrev pub is_config_key : List ℕ → Bool

@@ -4,7 +4,7 @@ ghost use Rattle.std.specs.Prelude.{◌≡◌, ◌↔◌, Some};
 ghost use Rattle.access_lists.specs.declared.list.TheConstants.{MAX_ENTRIES};
 ghost use Rattle.domains.specs.Contents.{Contents};
 ghost use Rattle.configuration.specs.ConfiguredNodes.{HasConfigured, MakeTree, Settings};
-ghost use Rattle.configuration.specs.Trees.{catalogue_of};
+ghost use Rattle.configuration.specs.Catalogues.{catalogue_of};
 ghost use Rattle.configuration.specs.declared.limits.TheConstants.{MAX_GROUP_LEN, MAX_NAME_LEN, MAX_PLACES, MAX_TOKEN_LEN};
 
 /// The limits of a configuration: bytes of the name of a user, an owner or an entry, of the name of

@@ -3,6 +3,7 @@
 //! A configuration is a TOML document with the tables `tokens`, `groups`, `folders` and `domains`.
 #![tactic(auto)]
 
+mod catalogue;
 mod config;
 mod fault;
 mod laws;
@@ -14,7 +15,6 @@ mod reading;
 mod rights;
 mod settings;
 mod tables;
-mod trees;
 
 pub use config::Config;
 pub use fault::ConfigFault;

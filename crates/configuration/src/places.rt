@@ -4,7 +4,7 @@ ghost use Rattle.object_ids.specs.Paths.{path_of, root_path};
 ghost use Rattle.toml.specs.View.{table_view};
 ghost use Rattle.text_maps.specs.Keyed.{keyed};
 ghost use Rattle.configuration.specs.Places.{places_in};
-ghost use Rattle.configuration.specs.Trees.{ArePaths};
+ghost use Rattle.configuration.specs.Catalogues.{ArePaths};
 
 use crate::fault::Refusal;
 use crate::owned::read_place;
@@ -33,7 +33,7 @@ impl Model for Places {
 
     ghost coded = { map.code (coded_list coded_ℕ) place.the_row.coded };
 
-    ghost use Rattle.configuration.specs.Trees.{ArePaths};
+    ghost use Rattle.configuration.specs.Catalogues.{ArePaths};
 
     ghost view = { λ a. map.from_entries (keyed string_bytes a.entries.entries) };
 

@@ -4,12 +4,12 @@ ghost use Rattle.configuration.specs.Configured.{catalogue_in, config_of, docume
 ghost use Rattle.configuration.specs.Places.{places_in};
 ghost use Rattle.configuration.specs.Tables.{has_only, table_at};
 
+use crate::catalogue::grow;
 use crate::config::Config;
 use crate::fault::{ConfigFault, Refusal};
 use crate::people::{read_groups, read_tokens};
 use crate::places::{Places, read_places};
 use crate::tables::table_at;
-use crate::trees::grow;
 use bearer_tokens::Tokens;
 use domains::Catalogue;
 use std::alloc::Global;

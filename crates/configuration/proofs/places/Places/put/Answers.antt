@@ -3,7 +3,7 @@ use Rattle.std.specs.FinMap.{FinMap, insert}
 use Rattle.text_maps.proofs.KeyedMaps.{insert-keyed}
 use Rattle.text_maps.specs.Keyed.{text_order, keyed}
 use Rattle.object_ids.specs.Paths.{path_of}
-use Rattle.configuration.specs.Trees.{ArePaths}
+use Rattle.configuration.specs.Catalogues.{ArePaths}
 use Rattle.configuration.proofs.PlaceLemmas.{ArePaths-insert}
 use Rattle.configuration.specs.declared.settings.Place.{Place}
 use Rattle.configuration.proofs.places.Places.put.Goals as goal

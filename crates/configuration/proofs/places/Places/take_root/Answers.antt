@@ -3,7 +3,7 @@ use Rattle.std.specs.FinMap.{FinMap, get, remove}
 use Rattle.text_maps.proofs.KeyedMaps.{get-keyed, remove-keyed}
 use Rattle.text_maps.specs.Keyed.{text_order, keyed}
 use Rattle.object_ids.specs.Paths.{root_path}
-use Rattle.configuration.specs.Trees.{ArePaths}
+use Rattle.configuration.specs.Catalogues.{ArePaths}
 use Rattle.configuration.specs.declared.settings.Place.{Place}
 use Rattle.configuration.proofs.PlaceLemmas.{ArePaths-remove}
 use Rattle.configuration.proofs.places.Places.take_root.Goals as goal

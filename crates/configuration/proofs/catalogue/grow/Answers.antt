@@ -5,12 +5,12 @@ use Rattle.std.proofs.lemmas.Bool.{cond-true}
 use Rattle.object_ids.specs.Paths.{root_path}
 use Rattle.domains.specs.Contents.{Contents, only_root}
 use Rattle.text_maps.specs.Keyed.{keyed, text_order}
-use Rattle.configuration.specs.Trees.{ArePaths, HavePlaces, default_place, domain_nodes, folder_node, folder_nodes, grown_from, is_tree, with_nodes}
+use Rattle.configuration.specs.Catalogues.{ArePaths, HavePlaces, default_place, domain_nodes, folder_node, folder_nodes, grown_from, is_tree, with_nodes}
 use Rattle.configuration.specs.declared.settings.Place.{Place}
 use Rattle.configuration.proofs.PlaceLemmas.{next-folders}
 use Rattle.configuration.proofs.TableLemmas.{passed_on}
-use Rattle.configuration.proofs.TreeLemmas.{few_domains, removed, tree_folders, tree_domains}
-use Rattle.configuration.proofs.trees.grow.Goals as goal
+use Rattle.configuration.proofs.CatalogueLemmas.{few_domains, removed, tree_folders, tree_domains}
+use Rattle.configuration.proofs.catalogue.grow.Goals as goal
 
 -- the catalogue of `/` alone, and with the other folders
 abbrev start_of : FinMap text_order Place → Contents

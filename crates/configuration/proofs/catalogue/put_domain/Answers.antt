@@ -1,7 +1,7 @@
 use Rattle.std.proofs.Common.{sym, subst}
 use Rattle.domains.specs.Contents.{IsNumberFree}
 use Rattle.domains.specs.declared.classes.NodeClass.{NodeClass}
-use Rattle.configuration.proofs.trees.put_domain.Goals as goal
+use Rattle.configuration.proofs.catalogue.put_domain.Goals as goal
 
 pub put_new-requires-clause-free : goal.put_new-requires-clause-free
 put_new-requires-clause-free c =

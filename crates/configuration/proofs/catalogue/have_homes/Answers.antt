@@ -1,9 +1,9 @@
 use Rattle.std.proofs.Common.{◌∙◌, ap, sym, string_bytes}
 use Rattle.std.specs.List.{list_all}
 use Rattle.std.specs.FinMap.{entries}
-use Rattle.configuration.specs.Trees.{has_home}
+use Rattle.configuration.specs.Catalogues.{has_home}
 use Rattle.text_maps.proofs.KeyedMaps.{entries-keyed}
-use Rattle.configuration.proofs.trees.have_homes.Goals as goal
+use Rattle.configuration.proofs.catalogue.have_homes.Goals as goal
 
 pub returns : goal.returns
 returns c =

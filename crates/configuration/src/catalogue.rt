@@ -4,7 +4,7 @@ ghost use Rattle.std.specs.FinMap as map;
 ghost use Rattle.object_ids.specs.Paths.{path_of, root_path};
 ghost use Rattle.text_maps.specs.Keyed.{keyed};
 ghost use Rattle.domains.specs.Contents.{HasRoot, IsNumberFree, IsPlace, NumberFits, only_root, with_node};
-ghost use Rattle.configuration.specs.Trees.{ArePaths, HavePlaces, catalogue_of, default_place, domain_node, domain_nodes, folder_node, folder_nodes, has_home, is_tree, root_of, with_nodes};
+ghost use Rattle.configuration.specs.Catalogues.{ArePaths, HavePlaces, catalogue_of, default_place, domain_node, domain_nodes, folder_node, folder_nodes, has_home, is_tree, root_of, with_nodes};
 
 use crate::fault::Refusal;
 use crate::limits::{MAX_NAME_LEN, MAX_PLACES};

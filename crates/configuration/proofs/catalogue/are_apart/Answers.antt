@@ -2,7 +2,7 @@ use Rattle.std.proofs.Common.{◌∙◌, ap, not, sym, string_bytes}
 use Rattle.std.specs.List.{list_all}
 use Rattle.std.specs.FinMap.{contains_key, entries}
 use Rattle.text_maps.proofs.KeyedMaps.{entries-keyed}
-use Rattle.configuration.proofs.trees.are_apart.Goals as goal
+use Rattle.configuration.proofs.catalogue.are_apart.Goals as goal
 
 pub returns : goal.returns
 returns c =

@@ -1,7 +1,7 @@
 use Rattle.std.proofs.Common.{◌≡◌, string_bytes}
 use Rattle.text_maps.specs.Keyed.{keyed}
-use Rattle.configuration.specs.Trees.{ArePaths, HavePlaces, folder_nodes, with_nodes}
-use Rattle.configuration.proofs.trees.put_folders.Given as goal
+use Rattle.configuration.specs.Catalogues.{ArePaths, HavePlaces, folder_nodes, with_nodes}
+use Rattle.configuration.proofs.catalogue.put_folders.Given as goal
 
 abbrev pub invariant-folders : goal.invariant-folders
 invariant-folders l =

@@ -1,7 +1,7 @@
 use Rattle.std.proofs.Common.{◌≡◌, ◌≤◌, ◌+◌, length, string_bytes}
 use Rattle.text_maps.specs.Keyed.{keyed}
-use Rattle.configuration.specs.Trees.{ArePaths, HavePlaces, domain_nodes, with_nodes}
-use Rattle.configuration.proofs.trees.put_domains.Given as goal
+use Rattle.configuration.specs.Catalogues.{ArePaths, HavePlaces, domain_nodes, with_nodes}
+use Rattle.configuration.proofs.catalogue.put_domains.Given as goal
 
 abbrev pub invariant-domains : goal.invariant-domains
 invariant-domains l =

@@ -4,9 +4,9 @@ use Rattle.object_ids.specs.Paths.{root_path}
 use Rattle.domains.specs.Contents.{Contents, with_node}
 use Rattle.domains.specs.declared.classes.Node.{Node}
 use Rattle.text_maps.specs.Keyed.{text_order}
-use Rattle.configuration.specs.Trees.{folder_node}
+use Rattle.configuration.specs.Catalogues.{folder_node}
 use Rattle.configuration.proofs.PlaceLemmas.{insert-insert, one_node}
-use Rattle.configuration.proofs.trees.plant_at.Goals as goal
+use Rattle.configuration.proofs.catalogue.plant_at.Goals as goal
 
 pub put_node-requires-clause-room : goal.put_node-requires-clause-room
 put_node-requires-clause-room c = subst (λ (d : Contents). len d.nodes < 65536) (sym c.in_ok-catalogue.ensures) (one_node _)

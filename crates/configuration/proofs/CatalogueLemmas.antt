@@ -18,7 +18,7 @@ use Rattle.text_maps.specs.Keyed.{text_order}
 use Rattle.domains.specs.Contents.{Contents, IsFolderAt, class_at, only_root, with_node}
 use Rattle.domains.specs.declared.classes.Node.{Node}
 use Rattle.domains.specs.declared.classes.NodeClass.TheVariants.{Folder}
-use Rattle.configuration.specs.Trees.{ArePaths, HavePlaces, domain_node, domain_nodes, folder_node, folder_nodes, has_home, is_tree, with_nodes}
+use Rattle.configuration.specs.Catalogues.{ArePaths, HavePlaces, domain_node, domain_nodes, folder_node, folder_nodes, has_home, is_tree, with_nodes}
 use Rattle.configuration.specs.declared.limits.TheConstants.{MAX_PLACES}
 use Rattle.configuration.specs.declared.settings.Place.{Place}
 use Rattle.configuration.proofs.TableLemmas.{len-insert-le}
