@@ -12,21 +12,21 @@ use Rattle.text_maps.specs.Keyed.{text_order}
 use Rattle.domains.specs.Contents.{Contents}
 use Rattle.domains.specs.declared.classes.Node.{Node}
 use Rattle.domains.specs.declared.classes.NodeClass.TheVariants.{Folder, Domain}
-use Rattle.configuration.specs.declared.settings.Place.{Place}
+use Rattle.configuration.specs.declared.setting.Setting.{Setting}
 
 abbrev pub Settings : Type 0
-Settings = FinMap text_order Place
+Settings = FinMap text_order Setting
 
 -- how many of the configured domains stand before a path, in byte order of paths
 abbrev pub rank_of : Settings → List ℕ → ℕ
 rank_of domains path = length (filter (λ other. is_lt (text_order other path)) (keys domains))
 
 -- the domain with this rank: its number is one more, and its root is the group of that number with run 0 and the rank as its serial
-abbrev pub ranked_domain : ℕ → Place → Node
-ranked_domain rank place = record {
+abbrev pub ranked_domain : ℕ → Setting → Node
+ranked_domain rank setting = record {
   class = Domain (rank + 1) (record { kind = Group; domain = rank + 1; run = 0; serial = rank });
-  owner = place.owner;
-  list = place.list;
+  owner = setting.owner;
+  list = setting.list;
 }
 
 -- a folder is configured at the path, or it is `/`
@@ -41,10 +41,10 @@ pub record MakeTree (folders domains : Settings) : Type 0 where
   pub few : len (remove folders root_path) + len domains ≤ 65535
 
 pub record HasConfigured (folders domains : Settings) (c : Contents) : Type 0 where
-  pub folder : (path : List ℕ) (place : Place) → get folders path ≡ Some place
-      → get c.nodes path ≡ Some (record { class = Folder; owner = place.owner; list = place.list })
-  pub domain : (path : List ℕ) (place : Place) → get domains path ≡ Some place
-      → get c.nodes path ≡ Some (ranked_domain (rank_of domains path) place)
+  pub folder : (path : List ℕ) (setting : Setting) → get folders path ≡ Some setting
+      → get c.nodes path ≡ Some (record { class = Folder; owner = setting.owner; list = setting.list })
+  pub domain : (path : List ℕ) (setting : Setting) → get domains path ≡ Some setting
+      → get c.nodes path ≡ Some (ranked_domain (rank_of domains path) setting)
   pub default_root : get folders root_path ≡ None
       → get c.nodes root_path ≡ Some (record { class = Folder; owner = codes "default"; list = empty })
   pub nothing_else : (path : List ℕ) → path ≢ root_path → get folders path ≡ None → get domains path ≡ None

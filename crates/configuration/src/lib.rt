@@ -10,16 +10,16 @@ mod laws;
 mod limits;
 mod owned;
 mod people;
-mod places;
 mod reading;
 mod rights;
+mod setting;
 mod settings;
 mod tables;
 
 pub use config::Config;
 pub use fault::ConfigFault;
 pub use laws::{configured_catalogue, limits_of_configurations};
-pub use limits::{MAX_GROUP_LEN, MAX_NAME_LEN, MAX_PLACES, MAX_TOKEN_LEN};
+pub use limits::{MAX_BELOW_ROOT, MAX_GROUP_LEN, MAX_NAME_LEN, MAX_TOKEN_LEN};
 pub use reading::read_config;
 
 #[cfg(test)]

@@ -5,4 +5,4 @@ use Rattle.text_maps.specs.Keyed.{keyed}
 use Rattle.configuration.proofs.catalogue.are_new.Given as goal
 
 abbrev pub invariant-paths : goal.invariant-paths
-invariant-paths l = list_all (λ e. not (contains_key l.folders e.0)) (keyed string_bytes l.path-iterator) ≡ list_all (λ e. not (contains_key l.folders e.0)) (keyed string_bytes l.places.entries)
+invariant-paths l = list_all (λ e. not (contains_key l.folders e.0)) (keyed string_bytes l.path-iterator) ≡ list_all (λ e. not (contains_key l.folders e.0)) (keyed string_bytes l.settings.entries)

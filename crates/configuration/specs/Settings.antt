@@ -13,7 +13,7 @@ use Rattle.access_lists.specs.declared.list.TheConstants.{MAX_ENTRIES}
 use Rattle.configuration.specs.Tables.{only_if, both, all_of, map_of, pairs_of, has_only, table_at}
 use Rattle.configuration.specs.People.{is_user}
 use Rattle.configuration.specs.declared.limits.TheConstants.{MAX_NAME_LEN}
-use Rattle.configuration.specs.declared.settings.Place.{Place}
+use Rattle.configuration.specs.declared.setting.Setting.{Setting}
 
 -- a user, or nobody in particular
 abbrev pub is_owner : List ℕ → Bool
@@ -54,23 +54,23 @@ entry_of e = only_if (is_name MAX_NAME_LEN e.0) (option_map (λ rights. (e.0, ri
 abbrev pub list_in : Members → Option (FinMap text_order Rights)
 list_in table = only_if (nat_le (length (pairs_of table)) MAX_ENTRIES) (option_map map_of (all_of entry_of (pairs_of table)))
 
-abbrev pub is_place_key : List ℕ → Bool
-is_place_key key = bytes_eq key (codes "owner") || bytes_eq key (codes "acls")
+abbrev pub is_setting_key : List ℕ → Bool
+is_setting_key key = bytes_eq key (codes "owner") || bytes_eq key (codes "acls")
 
-abbrev pub place_in : Members → Option Place
-place_in table =
-    only_if (has_only is_place_key table)
+abbrev pub setting_in : Members → Option Setting
+setting_in table =
+    only_if (has_only is_setting_key table)
     (option_map (λ p. record { owner = p.0; list = p.1 })
     (both (option_and_then owner_of (get_member (codes "owner") table)) (option_and_then list_in (table_at (codes "acls") table))))
 
 -- a path and what is configured there
-abbrev pub place_of : List ℕ × Data → Option (List ℕ × Place)
-place_of e = both (path_of e.0) (option_and_then place_in (as_table e.1))
+abbrev pub setting_of : List ℕ × Data → Option (List ℕ × Setting)
+setting_of e = both (path_of e.0) (option_and_then setting_in (as_table e.1))
 
--- the map of these places, where no path is named twice
-abbrev pub distinct_places : List (List ℕ × Place) → Option (FinMap text_order Place)
-distinct_places places = only_if (len (map_of places) == length places) (Some (map_of places))
+-- the map of these settings, where no path is named twice
+abbrev pub distinct_settings : List (List ℕ × Setting) → Option (FinMap text_order Setting)
+distinct_settings settings = only_if (len (map_of settings) == length settings) (Some (map_of settings))
 
--- the places of a table
-abbrev pub places_in : Members → Option (FinMap text_order Place)
-places_in table = option_and_then distinct_places (all_of place_of (pairs_of table))
+-- the settings of a table
+abbrev pub settings_in : Members → Option (FinMap text_order Setting)
+settings_in table = option_and_then distinct_settings (all_of setting_of (pairs_of table))
