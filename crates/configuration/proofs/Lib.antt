@@ -1,4 +1,5 @@
+pub mod CatalogueLemmas
+pub mod NodeLemmas
 pub mod PeopleLemmas
-pub mod PlaceLemmas
+pub mod SettingLemmas
 pub mod TableLemmas
-pub mod TreeLemmas

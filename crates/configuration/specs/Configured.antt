@@ -8,9 +8,9 @@ use Rattle.toml.specs.Parse.{parse_document}
 use Rattle.access_lists.specs.declared.people.Caller.{Caller}
 use Rattle.domains.specs.Contents.{Contents}
 use Rattle.configuration.specs.People.{callers_in, groups_in, groups_with}
-use Rattle.configuration.specs.Places.{places_in}
+use Rattle.configuration.specs.Settings.{settings_in}
 use Rattle.configuration.specs.Tables.{both, has_only, only_if, table_at}
-use Rattle.configuration.specs.Trees.{catalogue_of}
+use Rattle.configuration.specs.Catalogues.{catalogue_of}
 use Rattle.configuration.specs.declared.config.Config.{Config}
 
 abbrev pub is_config_key : List ℕ → Bool
@@ -26,7 +26,7 @@ tokens_in table =
 abbrev pub catalogue_in : Members → Option Contents
 catalogue_in table =
     option_and_then (λ p. catalogue_of p.0 p.1)
-    (both (option_and_then places_in (table_at (codes "folders") table)) (option_and_then places_in (table_at (codes "domains") table)))
+    (both (option_and_then settings_in (table_at (codes "folders") table)) (option_and_then settings_in (table_at (codes "domains") table)))
 
 -- the configuration of a table, or nothing where the table breaks a rule
 abbrev pub config_of : Members → Option Config

@@ -3,21 +3,23 @@
 //! A configuration is a TOML document with the tables `tokens`, `groups`, `folders` and `domains`.
 #![tactic(auto)]
 
+mod catalogue;
 mod config;
 mod fault;
+mod laws;
 mod limits;
 mod owned;
 mod people;
-mod places;
 mod reading;
 mod rights;
+mod setting;
 mod settings;
 mod tables;
-mod trees;
 
 pub use config::Config;
 pub use fault::ConfigFault;
-pub use limits::{MAX_GROUP_LEN, MAX_NAME_LEN, MAX_PLACES, MAX_TOKEN_LEN};
+pub use laws::{configured_catalogue, limits_of_configurations};
+pub use limits::{MAX_BELOW_ROOT, MAX_GROUP_LEN, MAX_NAME_LEN, MAX_TOKEN_LEN};
 pub use reading::read_config;
 
 #[cfg(test)]

@@ -8,4 +8,4 @@ pub const MAX_GROUP_LEN: usize = 253;
 pub const MAX_TOKEN_LEN: usize = 255;
 
 /// The most folders and domains beside `/`.
-pub const MAX_PLACES: usize = 65_535;
+pub const MAX_BELOW_ROOT: usize = 65_535;

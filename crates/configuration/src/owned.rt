@@ -2,14 +2,14 @@ ghost use Rattle.std.specs.Prelude.{◌≡◌, [], true, false, Some, None, IfOk
 ghost use Rattle.std.specs.Option.{option_and_then};
 ghost use Rattle.toml.specs.Data.{as_table, get_member};
 ghost use Rattle.toml.specs.View.{view, table_view};
-ghost use Rattle.configuration.specs.Places.{is_owner, is_place_key, list_in, owner_of, place_in};
+ghost use Rattle.configuration.specs.Settings.{is_owner, is_setting_key, list_in, owner_of, setting_in};
 ghost use Rattle.configuration.specs.Tables.{has_only, table_at};
 
 use crate::fault::Refusal;
 use crate::limits::MAX_NAME_LEN;
 use crate::people::{read_name, user_named};
 use crate::rights::read_list;
-use crate::settings::Place;
+use crate::setting::Setting;
 use crate::tables::table_at;
 use access_lists::AccessList;
 use object_ids::Name;
@@ -17,41 +17,41 @@ use std::alloc::Global;
 use toml::{Table, Value};
 
 /// What the value at a path configures.
-pub fn read_place(alloc: Global, value: &Value) -> Result<Place, Refusal>
-    ensures ok { IfOk result (λ place. option_and_then place_in (as_table (view value.now)) ≡ Some place) }
-    ensures bad { IsErrOf result Refusal.BadKey → option_and_then place_in (as_table (view value.now)) ≡ None }
+pub fn read_setting(alloc: Global, value: &Value) -> Result<Setting, Refusal>
+    ensures ok { IfOk result (λ setting. option_and_then setting_in (as_table (view value.now)) ≡ Some setting) }
+    ensures bad { IsErrOf result Refusal.BadKey → option_and_then setting_in (as_table (view value.now)) ≡ None }
 {
     match value.as_table() {
-        Some(table) => read_place_in(alloc, table),
+        Some(table) => read_setting_in(alloc, table),
         None => Err(Refusal::BadKey),
     }
 }
 
-fn read_place_in(alloc: Global, table: &Table) -> Result<Place, Refusal>
-    ensures ok { IfOk result (λ place. place_in (table_view table.now) ≡ Some place) }
-    ensures bad { IsErrOf result Refusal.BadKey → place_in (table_view table.now) ≡ None }
+fn read_setting_in(alloc: Global, table: &Table) -> Result<Setting, Refusal>
+    ensures ok { IfOk result (λ setting. setting_in (table_view table.now) ≡ Some setting) }
+    ensures bad { IsErrOf result Refusal.BadKey → setting_in (table_view table.now) ≡ None }
 {
-    if !has_place_keys(table) {
+    if !has_setting_keys(table) {
         return Err(Refusal::BadKey);
     }
     let owner = read_owner_at(alloc, table)?;
     let list = read_list_at(alloc, table)?;
-    Ok(Place { owner, list })
+    Ok(Setting { owner, list })
 }
 
-fn has_place_keys(table: &Table) -> bool
-    ensures { result ≡ has_only is_place_key (table_view table.now) }
+fn has_setting_keys(table: &Table) -> bool
+    ensures { result ≡ has_only is_setting_key (table_view table.now) }
 {
     'keys: for (key, _value) in table {
-        if !is_place_key(key.as_str()) {
+        if !is_setting_key(key.as_str()) {
             return false;
         }
     }
     true
 }
 
-fn is_place_key(key: &str) -> bool
-    ensures { result ≡ is_place_key key.now }
+fn is_setting_key(key: &str) -> bool
+    ensures { result ≡ is_setting_key key.now }
 {
     matches!(key, "owner" | "acls")
 }

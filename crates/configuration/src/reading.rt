@@ -1,15 +1,15 @@
 ghost use Rattle.std.specs.Prelude.{◌≡◌, [], true, false, Some, None, IfOk, IsErrOf, IsSomeAnd, codes, option_and_then};
 ghost use Rattle.toml.specs.View.{table_view};
 ghost use Rattle.configuration.specs.Configured.{catalogue_in, config_of, document_in, is_config_key, tokens_in};
-ghost use Rattle.configuration.specs.Places.{places_in};
+ghost use Rattle.configuration.specs.Settings.{settings_in};
 ghost use Rattle.configuration.specs.Tables.{has_only, table_at};
 
+use crate::catalogue::make_catalogue;
 use crate::config::Config;
 use crate::fault::{ConfigFault, Refusal};
 use crate::people::{read_groups, read_tokens};
-use crate::places::{Places, read_places};
+use crate::settings::{Settings, read_settings};
 use crate::tables::table_at;
-use crate::trees::grow;
 use bearer_tokens::Tokens;
 use domains::Catalogue;
 use std::alloc::Global;
@@ -109,17 +109,17 @@ fn read_catalogue_in(alloc: Global, table: &Table) -> Result<Catalogue, Refusal>
     ensures ok { IfOk result (λ catalogue. catalogue_in (table_view table.now) ≡ Some catalogue) }
     ensures bad { IsErrOf result Refusal.BadKey → catalogue_in (table_view table.now) ≡ None }
 {
-    let folders = read_places_at(alloc, table, "folders")?;
-    let domains = read_places_at(alloc, table, "domains")?;
-    grow(alloc, folders, domains)
+    let folders = read_settings_at(alloc, table, "folders")?;
+    let domains = read_settings_at(alloc, table, "domains")?;
+    make_catalogue(alloc, folders, domains)
 }
 
-fn read_places_at(alloc: Global, table: &Table, key: &str) -> Result<Places, Refusal>
-    ensures ok { IfOk result (λ places. option_and_then places_in (table_at key.now (table_view table.now)) ≡ Some places) }
-    ensures bad { IsErrOf result Refusal.BadKey → option_and_then places_in (table_at key.now (table_view table.now)) ≡ None }
+fn read_settings_at(alloc: Global, table: &Table, key: &str) -> Result<Settings, Refusal>
+    ensures ok { IfOk result (λ settings. option_and_then settings_in (table_at key.now (table_view table.now)) ≡ Some settings) }
+    ensures bad { IsErrOf result Refusal.BadKey → option_and_then settings_in (table_at key.now (table_view table.now)) ≡ None }
 {
     match table_at(table, key, &Table::new(alloc)) {
-        Some(places) => read_places(alloc, places),
+        Some(settings) => read_settings(alloc, settings),
         None => Err(Refusal::BadKey),
     }
 }

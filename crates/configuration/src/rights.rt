@@ -2,7 +2,7 @@ ghost use Rattle.std.specs.Prelude.{◌≡◌, ◌<◌, OnOk, true, false, Some,
 ghost use Rattle.std.specs.FinMap as map;
 ghost use Rattle.std.specs.List.{list_all};
 ghost use Rattle.toml.specs.View.{view, table_view};
-ghost use Rattle.configuration.specs.Places.{entry_of, flag_at, is_right_key, is_right_pair, list_in, rights_in, rights_of};
+ghost use Rattle.configuration.specs.Settings.{entry_of, flag_at, is_right_key, is_right_pair, list_in, rights_in, rights_of};
 ghost use Rattle.configuration.specs.Tables.{only_if, pairs_of};
 
 use crate::fault::Refusal;

@@ -167,7 +167,7 @@ fn groups_have_users(rt: HostRuntime) {
 }
 
 #[test]
-fn places_have_owners(rt: HostRuntime) {
+fn folders_and_domains_have_owners(rt: HostRuntime) {
     let alloc = rt.alloc();
     for (text, wanted) in [
         ("folders.'/a' = { owner = 'u' }", "ok"),

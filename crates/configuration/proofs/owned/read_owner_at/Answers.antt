@@ -3,7 +3,7 @@ use Rattle.std.specs.Prelude.{None, Some, codes}
 use Rattle.std.specs.Option.{option_and_then}
 use Rattle.std.proofs.lemmas.Result.{IfOk-weaker}
 use Rattle.toml.proofs.Views.{table_get}
-use Rattle.configuration.specs.Places.{owner_of}
+use Rattle.configuration.specs.Settings.{owner_of}
 use Rattle.configuration.proofs.owned.read_owner_at.Goals as goal
 
 pub returns-in-Some-clause-ok : goal.returns-in-Some-clause-ok

@@ -1,6 +1,6 @@
 use Rattle.std.proofs.Common.{◌≡◌}
 use Rattle.std.specs.List.{list_all}
-use Rattle.configuration.specs.Places.{is_right_pair}
+use Rattle.configuration.specs.Settings.{is_right_pair}
 use Rattle.configuration.proofs.TableLemmas.{rest_of}
 use Rattle.configuration.proofs.rights.has_right_pairs.Given as goal
 

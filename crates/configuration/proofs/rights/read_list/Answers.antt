@@ -6,7 +6,7 @@ use Rattle.std.proofs.lemmas.Map.Iter.{rest_more, rest_all}
 use Rattle.text_maps.specs.Keyed.{text_order}
 use Rattle.access_lists.specs.declared.rights.Rights.{Rights}
 use Rattle.toml.specs.View.{view}
-use Rattle.configuration.specs.Places.{entry_of}
+use Rattle.configuration.specs.Settings.{entry_of}
 use Rattle.configuration.specs.Tables.{all_of, with_entries}
 use Rattle.configuration.proofs.TableLemmas.{Entry, rest_of, length-rest_of, len-insert-le, walk_step}
 use Rattle.configuration.proofs.rights.read_list.Goals as goal
