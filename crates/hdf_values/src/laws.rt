@@ -1,10 +1,13 @@
 //! Laws about values and their bytes.
 
-ghost use Rattle.std.specs.Prelude.{◌≡◌, ◌↔◌, ◌<◌, ◌≤◌, ℕ, ◌+◌, ◌*◌, List, [], ◌++◌, Some, Ok, Err, length, slice_index_or, codes};
+ghost use Rattle.std.specs.Prelude.{◌≡◌, ◌↔◌, ◌⊎◌, ◌<◌, ◌≤◌, ℕ, ◌+◌, ◌*◌, List, [], ◌∷◌, ◌++◌, Some, Ok, Err, length, slice_index_or, codes};
 ghost use Rattle.std.specs.List.{AllByRecursion, flat_map};
 ghost use Rattle.serde_json.specs.Data.{Data, null};
 ghost use Rattle.serde_json.specs.Find.{get};
+ghost use Rattle.json_trees.specs.Trees.{list_in};
+ghost use Rattle.hdf_types.specs.declared.types.ElemType.{ElemType};
 ghost use Rattle.hdf_types.specs.Elems.{Elem};
+ghost use Rattle.hdf_types.specs.Views.{elem};
 ghost use Rattle.hdf_types.specs.Reading.{size_of};
 ghost use Rattle.hdf_types.specs.Types.{IsSoundType};
 ghost use Rattle.hdf_types.specs.Printed.{type_tree};
@@ -15,12 +18,14 @@ ghost use Rattle.shapes.specs.Printed.{shape_tree};
 ghost use Rattle.shapes.specs.Places.{IsInside, cell_count, place};
 ghost use Rattle.hdf_values.specs.Elements.{Fits, bytes_of, normal, decoded, encoded, zero_of, IsEncoded};
 ghost use Rattle.hdf_values.specs.Nested.{FitsNested, elements, tree_at, nested_bytes, nested_normal, nested_decoded, nested_from, AreEncoded, piece_at, pieces_at, with_pieces};
-ghost use Rattle.hdf_values.specs.Lowest.{HasFault, IsLowest, IsFirstFault};
+ghost use Rattle.hdf_values.specs.Lowest.{HasFault, IsLowest, IsFirstFault, IsFaultBehind};
 ghost use Rattle.hdf_values.specs.Shaped.{IsValue, value_from, value_tree};
-ghost use Rattle.hdf_values.specs.Attributes.{Content, IsAttribute, IsSoundAttribute, attribute_of};
+ghost use Rattle.hdf_values.specs.Attributes.{Content, content, IsAttribute, IsSoundAttribute, attribute_of};
 ghost use Rattle.hdf_values.specs.declared.faults.Misfit.{Misfit};
 ghost use Rattle.hdf_values.specs.declared.faults.ValueFault.{ValueFault};
+ghost use Rattle.hdf_values.specs.declared.attributes.Attribute.{Attribute};
 ghost use Rattle.hdf_values.specs.declared.attributes.AttributeFault.{AttributeFault};
+ghost use Rattle.hdf_values.specs.declared.TheConstants.{MAX_ATTRIBUTE, MAX_AHEAD};
 
 /// What a value is written as has the size of its type, and reads back as the value without the
 /// filling of its texts, which has the same bytes. 0 and the empty text are values.
@@ -65,6 +70,34 @@ pub fn encoded_elements()
         → Fits e (decoded e bs) × (bytes_of e (decoded e bs) ≡ bs) }
 {}
 
+/// The limits, as numbers.
+pub fn limits_of_values()
+    ensures attribute { MAX_ATTRIBUTE ≡ 65_536 }
+    ensures ahead { MAX_AHEAD ≡ 16_777_216 }
+{}
+
+/// In a join of lists of one length each piece is one of them, and bytes with these pieces are the
+/// join.
+pub fn pieces_of_joins<A>()
+    ensures joined { (f : A → List ℕ) (xs : List A) (none : A) (k i : ℕ)
+        → AllByRecursion (λ x. length (f x) ≡ k) xs → i < length xs
+        → piece_at k i (flat_map f xs) ≡ f (slice_index_or xs i none) }
+    ensures whole { (f : A → List ℕ) (xs : List A) (none : A) (k : ℕ) (bs : List ℕ)
+        → length bs ≡ length xs * k
+        → ((i : ℕ) → i < length xs → piece_at k i bs ≡ f (slice_index_or xs i none))
+        → bs ≡ flat_map f xs }
+{}
+
+/// Where some pieces were replaced, the new ones stand there, and all others as before.
+pub fn pieces_replaced()
+    ensures inside { (k i m j : ℕ) (xs bs : List ℕ) → length xs ≡ m * k → i * k ≤ length bs
+        → j < m → piece_at k (i + j) (with_pieces k i xs bs) ≡ piece_at k j xs }
+    ensures outside { (k i m j : ℕ) (xs bs : List ℕ) → length xs ≡ m * k → i * k ≤ length bs
+        → (j < i) ⊎ (i + m ≤ j) → piece_at k j (with_pieces k i xs bs) ≡ piece_at k j bs }
+    ensures long { (k i : ℕ) (xs bs : List ℕ) → i * k + length xs ≤ length bs
+        → length (with_pieces k i xs bs) ≡ length bs }
+{}
+
 /// A tree is a value of a type and a shape, or it has a first fault, and never both.
 pub fn shaped_or_fault()
     ensures value { (e : Elem) (s : Shape) (d : Data) (bs : List ℕ) → IsValue e s d bs
@@ -102,15 +135,19 @@ pub fn lowest_fault_is_told()
     ensures none { (e : Elem) (d : Data) (m : Misfit) → Fits e d → ¬ HasFault e d m }
 {}
 
-/// The fault that is told of nested values is that of a list or an element, and stands at its
-/// place, and all elements before it are there without a fault.
+/// The fault that is told of nested values is the first: that of a list comes before those of its
+/// members, and of the members the first that has one decides. It stands at its place, and all
+/// elements before it are there without a fault.
 pub fn first_fault_is_told()
-    ensures { (e : Elem) (dims : List ℕ) (p : ℕ) (d : Data) (f : ValueFault)
-        → nested_from e dims p d ≡ Err f → IsFirstFault e dims p d f }
+    ensures first { (e : Elem) (dims : List ℕ) (p : ℕ) (d : Data) (f : ValueFault)
+        → ((nested_from e dims p d ≡ Err f) ↔ IsFirstFault e dims p d f) }
+    ensures behind { (e : Elem) (dims : List ℕ) (p : ℕ) (d : Data) (f : ValueFault)
+        → IsFirstFault e dims p d f → IsFaultBehind e dims p d f }
 {}
 
 /// In the tree that bytes stand for the element at coordinates, which is found by going down the
-/// lists, is the one that the bytes at its place stand for.
+/// lists, is the one that the bytes at its place stand for. Over one axis this is a list of the
+/// elements in order, and such a list is written as their bytes in order.
 pub fn values_in_rows()
     ensures nested { (e : Elem) (dims coords bs : List ℕ) → AreEncoded e (cell_count dims) bs
         → IsInside coords dims
@@ -120,6 +157,15 @@ pub fn values_in_rows()
         → LiesIn at s
         → tree_at at (value_tree e s bs)
         ≡ Some (decoded e (piece_at (size_of e) (place at (dims_of s)) bs)) }
+    ensures points { (e : Elem) (n : ℕ) (bs : List ℕ)
+        → (ds : List Data) × (list_in (nested_decoded e (n ∷ []) bs) ≡ Some ds) × (length ds ≡ n)
+        × ((i : ℕ) → i < n
+        → slice_index_or ds i null ≡ decoded e (piece_at (size_of e) i bs)) }
+    ensures read { (e : Elem) (n i : ℕ) (d : Data) (ds : List Data) → IsSoundType e
+        → FitsNested e (n ∷ []) d → list_in d ≡ Some ds → i < n
+        → Fits e (slice_index_or ds i null)
+        × (piece_at (size_of e) i (nested_bytes e (n ∷ []) d)
+        ≡ bytes_of e (slice_index_or ds i null)) }
 {}
 
 /// A tree with the printed type, shape and value of an attribute at their keys spells the attribute
@@ -130,6 +176,12 @@ pub fn printed_attributes_read_back()
         → get (codes "shape") d ≡ Some (shape_tree c.shape form)
         → get (codes "value") d ≡ Some (value_tree c.kind c.shape c.bytes)
         → attribute_of d ≡ Ok c }
+{}
+
+/// Types with the same plain data are the same, and so are attributes with the same content.
+pub fn contents_tell_apart()
+    ensures types { (a b : ElemType) → elem a ≡ elem b → a ≡ b }
+    ensures attributes { (a b : Attribute) → content a ≡ content b → a ≡ b }
 {}
 
 /// A tree spells one attribute, or it has a first fault, and never both.
