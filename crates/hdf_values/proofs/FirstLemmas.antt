@@ -88,7 +88,7 @@ all_read read c p (d ∷ ds) bs e j h = both_read read c p d ds bs (read p d) (e
 -- ---- the tests of an axis
 
 -- a list of as many members, which are read
-counted_ok : (n p : ℕ) (read : List Data → Result (List ℕ) ValueFault) (o : Option (List Data)) (bs : List ℕ) → counted n p read o ≡ Ok bs → (ds : List Data) × (o ≡ Some ds) × (length ds ≡ n) × (read ds ≡ Ok bs)
+pub counted_ok : (n p : ℕ) (read : List Data → Result (List ℕ) ValueFault) (o : Option (List Data)) (bs : List ℕ) → counted n p read o ≡ Ok bs → (ds : List Data) × (o ≡ Some ds) × (length ds ≡ n) × (read ds ≡ Ok bs)
 counted_ok n p read None bs e = absurd cc
 counted_ok n p read (Some ds) bs e = elim (cases_Bool (nat_eq (length ds) n)) [
   | inl q ↦ (ds, refl, eqb-true (length ds) n q, sym (ap (λ b. if b then read ds else Err (WrongCount n (length ds))) q) ∙ e)
@@ -107,7 +107,7 @@ step_in xs x d y e found h = (h.0, rw found h.1, h.2)
 
 -- ---- what is read has no fault
 
-placed_ok : (p : ℕ) (r : Result (List ℕ) Misfit) (bs : List ℕ) → placed p r ≡ Ok bs → r ≡ Ok bs
+pub placed_ok : (p : ℕ) (r : Result (List ℕ) Misfit) (bs : List ℕ) → placed p r ≡ Ok bs → r ≡ Ok bs
 placed_ok p (Ok xs) bs e = cc
 placed_ok p (Err m) bs e = absurd cc
 

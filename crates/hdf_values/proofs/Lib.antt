@@ -15,5 +15,6 @@ pub mod LowestLemmas
 pub mod FirstLemmas
 pub mod ExactLemmas
 pub mod ShapedLemmas
+pub mod ExactlyLemmas
 pub mod AttributeLemmas
 pub mod ContentLemmas

@@ -16,6 +16,7 @@ ghost use Rattle.shapes.specs.declared.printing.Form.{Form};
 ghost use Rattle.shapes.specs.Shapes.{LiesIn, count_of, dims_of};
 ghost use Rattle.shapes.specs.Printed.{shape_tree};
 ghost use Rattle.shapes.specs.Places.{IsInside, cell_count, place};
+ghost use Rattle.hdf_values.specs.Texts.{AreTexts};
 ghost use Rattle.hdf_values.specs.Elements.{Fits, bytes_of, normal, decoded, encoded, zero_of, IsEncoded};
 ghost use Rattle.hdf_values.specs.Nested.{FitsNested, elements, tree_at, nested_bytes, nested_normal, nested_decoded, nested_from, AreEncoded, piece_at, pieces_at, with_pieces};
 ghost use Rattle.hdf_values.specs.Lowest.{HasFault, IsLowest, IsFirstFault, IsFaultBehind};
@@ -39,10 +40,14 @@ pub fn values_read_back()
     ensures zero { (e : Elem) → IsSoundType e → Fits e (zero_of e) }
 {}
 
-/// A tree is a value of a type, or it has a fault, and never both.
+/// A tree is a value of a type, or it has a fault, and never both. A value's texts are UTF-8, which
+/// no fault tells: each tree that a [`serde_json::Value`] stands for has only such texts, and of
+/// plain data the last clause asks for them.
 pub fn value_or_fault()
     ensures value { (e : Elem) (d : Data) → Fits e d → encoded e d ≡ Ok (bytes_of e d) }
     ensures fault { (e : Elem) (d : Data) (m : Misfit) → encoded e d ≡ Err m → Fits e d → ⊥ }
+    ensures texts { (e : Elem) (d : Data) (bs : List ℕ) → AreTexts d
+        → ((encoded e d ≡ Ok bs) ↔ (Fits e d × (bs ≡ bytes_of e d))) }
 {}
 
 /// Bytes are those of so many elements where they have the length and each piece is an element. So
@@ -98,12 +103,15 @@ pub fn pieces_replaced()
         → length (with_pieces k i xs bs) ≡ length bs }
 {}
 
-/// A tree is a value of a type and a shape, or it has a first fault, and never both.
+/// A tree is a value of a type and a shape, or it has a first fault, and never both; the last
+/// clause speaks of trees whose texts are UTF-8, as those of each [`serde_json::Value`] are.
 pub fn shaped_or_fault()
     ensures value { (e : Elem) (s : Shape) (d : Data) (bs : List ℕ) → IsValue e s d bs
         → value_from e s d ≡ Ok bs }
     ensures fault { (e : Elem) (s : Shape) (d : Data) (bs : List ℕ) (f : ValueFault)
         → value_from e s d ≡ Err f → IsValue e s d bs → ⊥ }
+    ensures texts { (e : Elem) (s : Shape) (d : Data) (bs : List ℕ) → AreTexts d
+        → ((value_from e s d ≡ Ok bs) ↔ IsValue e s d bs) }
 {}
 
 /// A tree nests by extents, or it has a first fault, and never both; what it is written as reads
@@ -114,6 +122,9 @@ pub fn nested_or_fault()
         → nested_from e dims p d ≡ Ok (nested_bytes e dims d) }
     ensures fault { (e : Elem) (dims : List ℕ) (p : ℕ) (d : Data) (f : ValueFault)
         → nested_from e dims p d ≡ Err f → FitsNested e dims d → ⊥ }
+    ensures texts { (e : Elem) (dims : List ℕ) (p : ℕ) (d : Data) (bs : List ℕ) → AreTexts d
+        → ((nested_from e dims p d ≡ Ok bs)
+        ↔ (FitsNested e dims d × (bs ≡ nested_bytes e dims d))) }
     ensures back { (e : Elem) (dims : List ℕ) (d : Data) → IsSoundType e → FitsNested e dims d
         → nested_decoded e dims (nested_bytes e dims d) ≡ nested_normal e dims d }
     ensures fits { (e : Elem) (dims bs : List ℕ) → IsSoundType e → AreEncoded e (cell_count dims) bs
