@@ -15,6 +15,7 @@ pub mod LowestLemmas
 pub mod FirstLemmas
 pub mod ExactLemmas
 pub mod ShapedLemmas
+pub mod TreeTextLemmas
 pub mod ExactlyLemmas
 pub mod AttributeLemmas
 pub mod ContentLemmas

@@ -4,6 +4,8 @@ ghost use Rattle.std.specs.Prelude.{◌≡◌, ◌↔◌, ◌⊎◌, ◌<◌, �
 ghost use Rattle.std.specs.List.{AllByRecursion, flat_map};
 ghost use Rattle.serde_json.specs.Data.{Data, null};
 ghost use Rattle.serde_json.specs.Find.{get};
+ghost use Rattle.serde_json.specs.View.{view};
+ghost use Rattle.serde_json.specs.declared.value.Value.{Value};
 ghost use Rattle.json_trees.specs.Trees.{list_in};
 ghost use Rattle.hdf_types.specs.declared.types.ElemType.{ElemType};
 ghost use Rattle.hdf_types.specs.Elems.{Elem};
@@ -40,14 +42,14 @@ pub fn values_read_back()
     ensures zero { (e : Elem) → IsSoundType e → Fits e (zero_of e) }
 {}
 
-/// A tree is a value of a type, or it has a fault, and never both. A value's texts are UTF-8, which
-/// no fault tells: each tree that a [`serde_json::Value`] stands for has only such texts, and of
-/// plain data the last clause asks for them.
+/// A tree whose texts are UTF-8 is a value of a type, or it has a fault, and never both; those of
+/// each [`serde_json::Value`] are. Data with another text is no value, and no fault speaks of that.
 pub fn value_or_fault()
     ensures value { (e : Elem) (d : Data) → Fits e d → encoded e d ≡ Ok (bytes_of e d) }
     ensures fault { (e : Elem) (d : Data) (m : Misfit) → encoded e d ≡ Err m → Fits e d → ⊥ }
     ensures texts { (e : Elem) (d : Data) (bs : List ℕ) → AreTexts d
         → ((encoded e d ≡ Ok bs) ↔ (Fits e d × (bs ≡ bytes_of e d))) }
+    ensures trees { (v : Value) → AreTexts (view v) }
 {}
 
 /// Bytes are those of so many elements where they have the length and each piece is an element. So
@@ -103,8 +105,8 @@ pub fn pieces_replaced()
         → length (with_pieces k i xs bs) ≡ length bs }
 {}
 
-/// A tree is a value of a type and a shape, or it has a first fault, and never both; the last
-/// clause speaks of trees whose texts are UTF-8, as those of each [`serde_json::Value`] are.
+/// A tree whose texts are UTF-8 is a value of a type and a shape, or it has a first fault, and
+/// never both.
 pub fn shaped_or_fault()
     ensures value { (e : Elem) (s : Shape) (d : Data) (bs : List ℕ) → IsValue e s d bs
         → value_from e s d ≡ Ok bs }
@@ -114,9 +116,9 @@ pub fn shaped_or_fault()
         → ((value_from e s d ≡ Ok bs) ↔ IsValue e s d bs) }
 {}
 
-/// A tree nests by extents, or it has a first fault, and never both; what it is written as reads
-/// back. The element at coordinates, which is found by going down the lists, stands at their place
-/// in row-major order, among the elements and among the bytes.
+/// A tree whose texts are UTF-8 nests by extents, or it has a first fault, and never both; what it
+/// is written as reads back. The element at coordinates, which is found by going down the lists,
+/// stands at their place in row-major order, among the elements and among the bytes.
 pub fn nested_or_fault()
     ensures value { (e : Elem) (dims : List ℕ) (p : ℕ) (d : Data) → FitsNested e dims d
         → nested_from e dims p d ≡ Ok (nested_bytes e dims d) }
