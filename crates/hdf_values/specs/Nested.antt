@@ -95,7 +95,7 @@ abbrev pub counted : ℕ → ℕ → (List Data → Result (List ℕ) ValueFault
 counted n p read None = Err (NotOfType p)
 counted n p read (Some ds) = if nat_eq (length ds) n then read ds else Err (WrongCount n (length ds))
 
--- the bytes of a tree whose first element has place `p`, or its first fault
+-- the bytes of a tree whose first element has place `p`, or its first fault, where its texts are UTF-8
 abbrev pub nested_from : Elem → List ℕ → ℕ → Data → Result (List ℕ) ValueFault
 nested_from e [] p d = placed p (encoded e d)
 nested_from e (n ∷ ns) p d = counted n p (each_nested (nested_from e ns) (cell_count ns) p) (list_in d)

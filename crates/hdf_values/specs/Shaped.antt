@@ -38,7 +38,7 @@ null_from (string s) = Err (NotOfType 0)
 null_from (array ds) = Err (NotOfType 0)
 null_from (object ms) = Err (NotOfType 0)
 
--- the bytes of a tree, or its first fault
+-- the bytes of a tree, or its first fault, where its texts are UTF-8
 abbrev pub value_from : Elem → Shape → Data → Result (List ℕ) ValueFault
 value_from e Null d = null_from d
 value_from e Scalar d = placed 0 (encoded e d)

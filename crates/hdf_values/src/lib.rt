@@ -22,8 +22,9 @@ pub use attributes::{Attribute, AttributeFault, Bytes, content_json, read_attrib
 pub use elements::{decode, encode, is_encoded, zero};
 pub use faults::{Misfit, ValueFault};
 pub use laws::{
-    attribute_or_fault, encoded_elements, first_fault_is_told, lowest_fault_is_told,
-    nested_or_fault, printed_attributes_read_back, shaped_or_fault, value_or_fault, values_in_rows,
+    attribute_or_fault, contents_tell_apart, encoded_elements, first_fault_is_told,
+    limits_of_values, lowest_fault_is_told, nested_or_fault, pieces_of_joins, pieces_replaced,
+    printed_attributes_read_back, shaped_or_fault, value_or_fault, values_in_rows,
     values_read_back,
 };
 pub use nested::{read_nested, write_nested};

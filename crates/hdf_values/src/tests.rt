@@ -316,3 +316,10 @@ fn an_attribute_has_65_536_bytes_at_most(rt: HostRuntime) -> Result<(), AllocErr
     }
     Ok(())
 }
+
+#[test]
+fn pieces_of_joins_are_told_at_a_type(_rt: HostRuntime) -> Result<(), AllocError> {
+    pieces_of_joins::<u64>();
+    pieces_of_joins::<Vec<u64>>();
+    Ok(())
+}

@@ -1,5 +1,8 @@
-use Rattle.hdf_values.proofs.FirstLemmas.{first_fault}
+use Rattle.hdf_values.proofs.ExactLemmas.{first_where, first_behind}
 use Rattle.hdf_values.proofs.laws.first_fault_is_told.Goals as goal
 
-pub returns : goal.returns
-returns c = first_fault
+pub returns-clause-first : goal.returns-clause-first
+returns-clause-first c = first_where
+
+pub returns-clause-behind : goal.returns-clause-behind
+returns-clause-behind c = first_behind
