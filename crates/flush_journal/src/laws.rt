@@ -14,10 +14,11 @@ pub fn payload_is_encoding()
 
 /// A file has a content exactly where it is a header, whole blocks, a gate that isn't open and anything behind
 /// it, which make this content; and it is no journal exactly where one of these is missing, at the place of the
-/// first that is.
+/// first that is. What is so laid out is read so, whatever numbers stand for its bytes.
 pub fn journal_or_fault()
     ensures journal { (bytes : List ℕ) (c : Content) → AreBytes bytes
         → ((content bytes ≡ Ok c) ↔ IsJournal bytes c) }
+    ensures read { (bytes : List ℕ) (c : Content) → IsJournal bytes c → content bytes ≡ Ok c }
     ensures fault { (bytes : List ℕ) (at : ℕ) → AreBytes bytes
         → ((content bytes ≡ Err at) ↔ IsFault bytes at) }
 {}

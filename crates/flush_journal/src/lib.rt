@@ -15,7 +15,7 @@ mod recovered;
 mod report;
 mod why;
 
-pub use batch::Batch;
+pub use batch::{Batch, record_size};
 pub use journal::Journal;
 pub use laws::{journal_or_fault, last_record_wins, payload_is_encoding};
 pub use recovered::{Body, Recovered};
