@@ -3,6 +3,7 @@ ghost use Rattle.std.specs.Prelude.{◌≡◌, ◌≢◌, ◌↔◌, ℕ, List, 
 ghost use Rattle.std.specs.FinMap as map;
 ghost use Rattle.flush_journal.specs.Records.{Record, IsRecord, AreBytes, Held, kept_body, records_of, encoded_all, put_all};
 ghost use Rattle.flush_journal.specs.Files.{Content, content};
+ghost use Rattle.flush_journal.specs.Standing.{with_batch, HasEither, HoldsEither};
 ghost use Rattle.flush_journal.specs.Blocks.{IsJournal, IsFault};
 
 /// A payload is some records exactly where it is their encoding, and a payload can have each of them.
@@ -31,4 +32,11 @@ pub fn last_record_wins()
         → map.get (put_all (front ++ (key, body) ∷ back) m) key ≡ kept_body body }
     ensures none { (m : Held) (records : List Record) (key : List ℕ)
         → All (λ r. r.0 ≢ key) records → map.get (put_all records m) key ≡ map.get m key }
+{}
+
+/// A file that has the content of before, or that with a batch, holds the map of before, or that with the batch's
+/// records put in.
+pub fn content_tells_map()
+    ensures { (c : Content) (rs : List Record) (bytes : List ℕ) → HasEither c (with_batch c rs) bytes
+        → HoldsEither c.held (put_all rs c.held) bytes }
 {}

@@ -17,7 +17,7 @@ mod why;
 
 pub use batch::{Batch, record_size};
 pub use journal::Journal;
-pub use laws::{journal_or_fault, last_record_wins, payload_is_encoding};
+pub use laws::{content_tells_map, journal_or_fault, last_record_wins, payload_is_encoding};
 pub use recovered::{Body, Recovered};
 pub use report::Report;
 pub use why::{JournalRefused, Why};
