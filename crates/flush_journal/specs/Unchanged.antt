@@ -3,11 +3,14 @@ use Rattle.std.specs.Prelude.{◌≡◌, ◌⊎◌, ℕ, ◌≤◌, List}
 use Rattle.edge_traits.specs.declared.disk.Disk.{Ghosts}
 use Rattle.edge_traits.specs.Disks.{Torn, LeavesNoMore, After, Follows}
 
--- of every disk: its room and what lies beside it; and its count of faults didn't fall
+-- of every disk: its room and what lies beside it; and its count of faults didn't fall. Where it tells its bytes, time didn't go back,
+-- and a crash since an earlier moment might have left nothing new beside it.
 pub record SameDisk {D : Type 0} (met : Ghosts D) (old new : D) : Type 0 where
   pub most : met.most new ≡ met.most old
   pub beside : met.beside new ≡ met.beside old
   pub faults : met.faults old ≤ met.faults new
+  pub goes_on : met.honest → met.moment old ≤ met.moment new
+  pub around : met.honest → (t : ℕ) (o : met.Others) → t ≤ met.moment old → met.beside_since new t o → met.beside_since old t o
 
 -- of a disk that tells its bytes: what reads give; time didn't go back, and no image is new, be it of a crash now or of one since
 -- an earlier moment

@@ -1,5 +1,6 @@
-//! A journal of batches of records on a disk. After `append` answers Ok, whatever a crash leaves holds the batch; and
-//! at each moment before, what a crash leaves holds what was held, with the whole batch or without it.
+//! A journal of batches of records on a disk. On a disk that keeps its rule, whatever a crash leaves after `append` has
+//! answered Ok holds the batch; and whatever one leaves at any moment since the call began has what stood there before,
+//! with the whole batch or without it.
 #![tactic(auto)]
 
 mod batch;
