@@ -63,7 +63,7 @@ impl Batch {
         ensures reserved { record_size (key.now, body.now) ≤ spare self.old → IsOk result }
         ensures spare { OnOk result
             (spare self.old ≤ spare self.new + record_size (key.now, body.now)) }
-        ensures keeps { OnErr result (spare self.old ≤ spare self.new) }
+        ensures keeps { OnErr result (spare self.new ≡ spare self.old) }
     {
         reserve_frame(&mut self.frame, record_size(key.len(), body.len()))?;
         add_record(&mut self.frame, key, body);
@@ -95,6 +95,7 @@ fn reserve_frame(frame: &mut Vec<u8>, bytes: usize) -> Result<(), AllocError>
     ensures items { frame.new.items ≡ frame.old.items }
     ensures ok { OnOk result (max 9 (vec_len frame.new) + bytes ≤ vec_capacity frame.new) }
     ensures capacity { vec_capacity frame.old ≤ vec_capacity frame.new }
+    ensures err { OnErr result (vec_capacity frame.new ≡ vec_capacity frame.old) }
     ensures succeeds { bytes < 2 ^ 63 → max 9 (vec_len frame.old) + bytes ≤ vec_capacity frame.old
         → IsOk result }
 {
