@@ -39,6 +39,9 @@ pub trait Disk {
     /// the disk changes it.
     ghost beside: { Self → Others };
 
+    /// What a crash at that moment or later might have left beside the disk.
+    ghost beside_since: { Self → ℕ → Others → Type 0 };
+
     /// The length of what reads give.
     ///
     /// # Errors
@@ -53,6 +56,8 @@ pub trait Disk {
             (left_since self.old) (left_since self.new) (images self.new) }
         ensures most { most self.new ≡ most self.old }
         ensures beside { beside self.new ≡ beside self.old }
+        ensures around { honest → (t : ℕ) (o : Others) → t ≤ moment self.old
+            → beside_since self.new t o → beside_since self.old t o }
         ensures cause { HasCause (faults self.old) (faults self.new) result };
 
     /// The greatest length, which never changes.
@@ -73,6 +78,8 @@ pub trait Disk {
             (left_since self.old) (left_since self.new) (images self.new) }
         ensures most { most self.new ≡ most self.old }
         ensures beside { beside self.new ≡ beside self.old }
+        ensures around { honest → (t : ℕ) (o : Others) → t ≤ moment self.old
+            → beside_since self.new t o → beside_since self.old t o }
         ensures cause { HasCause (faults self.old) (faults self.new) result };
 
     /// Writes over what stands there, and past the end.
@@ -90,6 +97,8 @@ pub trait Disk {
             (left_since self.old) (left_since self.new) (images self.old) }
         ensures most { most self.new ≡ most self.old }
         ensures beside { beside self.new ≡ beside self.old }
+        ensures around { honest → (t : ℕ) (o : Others) → t ≤ moment self.old
+            → beside_since self.new t o → beside_since self.old t o }
         ensures cause { HasCause (faults self.old) (faults self.new) result };
 
     /// After `Ok` a crash leaves what reads give.
@@ -105,7 +114,12 @@ pub trait Disk {
             (left_since self.old) (left_since self.new) (images self.new) }
         ensures most { most self.new ≡ most self.old }
         ensures beside { beside self.new ≡ beside self.old }
+        ensures around { honest → (t : ℕ) (o : Others) → t ≤ moment self.old
+            → beside_since self.new t o → beside_since self.old t o }
         ensures cause { HasCause (faults self.old) (faults self.new) result };
+
+    /// What reads give is no longer than the greatest length.
+    ghost fits: { (disk : Self) → honest → length (reads disk) ≤ most disk };
 
     /// A crash may leave what reads give.
     ghost reads_left: { (disk : Self) → honest → images disk (reads disk) };

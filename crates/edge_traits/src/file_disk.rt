@@ -47,6 +47,8 @@ impl Disk for FileDisk {
 
     ghost beside = { λ _. tt };
 
+    ghost beside_since = { λ _ _ _. Unit {0} };
+
     fn length(&mut self) -> Result<u64, Failed> {
         match self.file.metadata() {
             Ok(metadata) => Ok(metadata.len()),
@@ -98,6 +100,8 @@ impl Disk for FileDisk {
         }
         Ok(())
     }
+
+    ghost fits = { λ _ told. absurd told };
 
     ghost reads_left = { λ _ told. absurd told };
 

@@ -219,6 +219,8 @@ impl Disk for MemDisk {
 
     ghost beside = { λ _. tt };
 
+    ghost beside_since = { λ _ _ _. Unit {0} };
+
     fn length(&mut self) -> Result<u64, Failed>
         ensures length { IfOk result (λ n. n ≡ length (⟦<MemDisk as Disk>⟧.reads self.old)) }
         ensures within { IfOk result (λ n. n ≤ ⟦<MemDisk as Disk>⟧.most self.old) }
@@ -360,6 +362,8 @@ impl Disk for MemDisk {
         self.synced = self.calls.len();
         Ok(())
     }
+
+    ghost fits = { λ d _. d.within };
 
     ghost reads_left = { λ d _. done_is_torn (length d.bytes.items) (drop d.synced d.calls.items)
         d.base.items d.bytes.items d.done d.unsynced };

@@ -1,4 +1,5 @@
-ghost use Rattle.std.specs.Prelude.{◌≡◌, ℕ, List, [], IsErr, refl};
+ghost use Rattle.std.specs.Prelude.{◌≡◌, ◌≤◌, ℕ, List, [], length, IsErr, refl};
+ghost use Rattle.std.proofs.Common.{arith};
 ghost use Rattle.edge_traits.specs.Causes.{Rose};
 
 use crate::faults::FaultCount;
@@ -40,6 +41,8 @@ impl Disk for NoDisk {
 
     ghost beside = { λ _. tt };
 
+    ghost beside_since = { λ _ _ _. Unit {0} };
+
     fn length(&mut self) -> Result<u64, Failed>
         ensures fails { IsErr result }
         ensures counts { Rose (⟦<NoDisk as Disk>⟧.faults self.old) (⟦<NoDisk as Disk>⟧.faults self.new) }
@@ -75,6 +78,8 @@ impl Disk for NoDisk {
         self.count.rise();
         Err(Failed)
     }
+
+    ghost fits = { λ _ _. omega arith };
 
     ghost reads_left = { λ _ _. refl };
 

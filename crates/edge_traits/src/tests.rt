@@ -1,5 +1,7 @@
 use super::*;
 use std::alloc::{AllocError, Global};
+use std::fs;
+use std::fs::File;
 use std::process::Abort;
 use std::test::Fail;
 
@@ -193,5 +195,38 @@ fn a_crash_keeps_the_first_bytes_written(rt: HostRuntime) -> Result<(), Fail> {
     }
     let empty = MemDisk::new(alloc, Vec::new(alloc), 16, Vec::new(alloc))?;
     assert_eq!(rt; empty.crash(0)?.bytes(), b"".as_slice());
+    Ok(())
+}
+
+// Reads at a place into a buffer of four bytes, and compares what came.
+fn expect_read_at<D: Disk>(rt: &impl Abort, disk: &mut D, at: u64, wanted: &[u8]) {
+    let mut buf = [0; 4];
+    let read = disk.read_at(at, &mut buf);
+    assert_eq!(rt; read, Ok(wanted.len()));
+    if let Ok(count) = read {
+        assert!(rt; &buf[..count] == wanted);
+    }
+}
+
+#[test]
+fn a_disk_over_a_file_reads_and_writes_at_each_place(rt: HostRuntime) -> Result<(), Fail> {
+    fs::create_dir(&rt, "edge_traits_test")?;
+    let path = "edge_traits_test/disk";
+    let mut disk = FileDisk::new(File::create_new(&rt, path)?);
+    assert_eq!(rt; disk.write_at(0, b"abcdef"), Ok(()));
+    assert_eq!(rt; disk.write_at(3, b"D"), Ok(()));
+    assert_eq!(rt; disk.sync(), Ok(()));
+    assert_eq!(rt; disk.length(), Ok(6));
+    for (at, want) in [
+        (0, b"abcD".as_slice()),
+        (1, b"bcDe".as_slice()),
+        (3, b"Def".as_slice()),
+        (6, b"".as_slice()),
+        (9, b"".as_slice()),
+    ] {
+        expect_read_at(&rt, &mut disk, at, want);
+    }
+    fs::remove_file(&rt, path)?;
+    fs::remove_dir(&rt, "edge_traits_test")?;
     Ok(())
 }

@@ -5,7 +5,7 @@ use Rattle.flush_journal.specs.Records.{Record, Held, records_of, encoded_all, p
 use Rattle.flush_journal.specs.Files.{Content, content}
 use Rattle.flush_journal.specs.Frames.{frame_of, need_of}
 use Rattle.flush_journal.specs.Gates.{Shut, Opened, Either, OnlyHas, EndsShut}
-use Rattle.flush_journal.specs.Standing.{with_batch, HoldsEither}
+use Rattle.flush_journal.specs.Standing.{with_batch, HasEither, HoldsEither}
 use Rattle.flush_journal.proofs.ContentLemmas.{content_found, IsFront, front_of, content-shut, content-opened, held-content}
 use Rattle.flush_journal.proofs.BatchLemmas.{length-framed, ends_shut}
 
@@ -70,6 +70,11 @@ module _ (front : List ℕ) (c : Content) (is : IsFront front c) (rs : List Reco
   pub opened_content : (bytes : List ℕ) → Opened front (frame_of rs) bytes → content bytes ≡ Ok (with_batch c rs)
   opened_content bytes opened = ap content opened.1 ∙ opened_case rs are opened.0
 
-  pub either_held : (bytes : List ℕ) → Either front (frame_of rs) bytes → HoldsEither c.held (put_all rs c.held) bytes
-  either_held bytes (inl shut) = inl (held-content bytes c (shut_content bytes shut))
-  either_held bytes (inr opened) = inr (held-content bytes (with_batch c rs) (opened_content bytes opened) ∙ ap (λ (m : Held). Some m) (with_batch-held c rs))
+  pub either_content : (bytes : List ℕ) → Either front (frame_of rs) bytes → HasEither c (with_batch c rs) bytes
+  either_content bytes (inl shut) = inl (shut_content bytes shut)
+  either_content bytes (inr opened) = inr (opened_content bytes opened)
+
+-- the content tells the map
+pub either_held : (c : Content) (rs : List Record) (bytes : List ℕ) → HasEither c (with_batch c rs) bytes → HoldsEither c.held (put_all rs c.held) bytes
+either_held c rs bytes (inl is) = inl (held-content bytes c is)
+either_held c rs bytes (inr is) = inr (held-content bytes (with_batch c rs) is ∙ ap (λ (m : Held). Some m) (with_batch-held c rs))

@@ -5,14 +5,14 @@ use Rattle.edge_traits.specs.declared.disk.Disk.{Ghosts}
 use Rattle.flush_journal.specs.declared.journal.Journal.{Journal}
 use Rattle.flush_journal.specs.declared.batch.Batch.{Batch}
 use Rattle.flush_journal.specs.Batches.{records, owed_size}
-use Rattle.flush_journal.specs.Records.{Record, records_of, encoded_all, put_all}
+use Rattle.flush_journal.specs.Records.{Record, records_of, encoded_all}
 use Rattle.flush_journal.specs.Files.{Content}
 use Rattle.flush_journal.specs.Frames.{frame_of}
 use Rattle.flush_journal.specs.Gates.{Opened, Either, AllHave, OnlyHas}
 use Rattle.flush_journal.specs.Moments.{Leaves}
-use Rattle.flush_journal.specs.Standing.{pending_of, with_batch, Numbers, IsSettled, IsOwed, HoldsEither}
+use Rattle.flush_journal.specs.Standing.{pending_of, with_batch, Numbers, IsSettled, IsOwed, HasEither}
 use Rattle.flush_journal.proofs.ContentLemmas.{IsFront, content-shut}
-use Rattle.flush_journal.proofs.JournalLemmas.{AreBatch, opened_content, either_held, with_batch-version, with_batch-lanes, with_batch-batches, with_batch-end}
+use Rattle.flush_journal.proofs.JournalLemmas.{AreBatch, opened_content, either_content, with_batch-version, with_batch-lanes, with_batch-batches, with_batch-end}
 use Rattle.flush_journal.proofs.Moments.{weaker}
 
 pub is_false : {P : Type 0} (b : Bool) → (IsTrue b ↔ P) → b ≡ false → P → ⊥
@@ -31,8 +31,8 @@ module _ {D : Type 0} {met : Ghosts D} (j : Journal D met) (c : Content) (rs : L
     pending = pending;
     some = are.some;
     numbers = numbers;
-    now = either_held front c is rs are (met.reads j.disk) has.now;
-    each = λ i left. either_held front c is rs are i (has.each i left);
+    now = either_content front c is rs are (met.reads j.disk) has.now;
+    each = λ i left. either_content front c is rs are i (has.each i left);
     cut = record { front = front; closed = content-shut front c is 0 [] (omega arith); place = is.place; now = has.now; each = has.each };
   }
 
@@ -50,8 +50,8 @@ module _ {D : Type 0} {met : Ghosts D} (j : Journal D met) (c : Content) (rs : L
     only = has.only;
   }
 
-  pub leaves_either : (old new : D) → Leaves met old new (Either front (frame_of rs)) → Leaves met old new (HoldsEither c.held (put_all rs c.held))
-  leaves_either old new l = weaker met old new (Either front (frame_of rs)) (HoldsEither c.held (put_all rs c.held)) (either_held front c is rs are) l
+  pub leaves_either : (old new : D) → Leaves met old new (Either front (frame_of rs)) → Leaves met old new (HasEither c (with_batch c rs))
+  leaves_either old new l = weaker met old new (Either front (frame_of rs)) (HasEither c (with_batch c rs)) (either_content front c is rs are) l
 
 -- the batch that is pending has some record
 pub some_pending : (p : Option Batch) (b : Batch) → option_map records p ≢ Some [] → p ≡ Some b → records b ≢ []

@@ -5,6 +5,7 @@ pub mod GateLemmas
 pub mod Moments
 pub mod Results
 pub mod Unchanged
+pub mod Fronts
 pub mod EndGates
 pub mod BatchLemmas
 pub mod JournalLemmas

@@ -2,7 +2,7 @@
 use Rattle.std.specs.Prelude.{◌≡◌, ◌≢◌, ◌⊎◌, ℕ, List, [], ◌∷◌, ◌++◌, length, Option, Some, None, option_map, Ok}
 use Rattle.edge_traits.specs.declared.disk.Disk.{Ghosts}
 use Rattle.edge_traits.specs.Disks.{Only}
-use Rattle.flush_journal.specs.Records.{Record, Held, encoded_all, put_all}
+use Rattle.flush_journal.specs.Records.{Record, Held, encoded_all}
 use Rattle.flush_journal.specs.Frames.{frame_of}
 use Rattle.flush_journal.specs.Gates.{Either}
 use Rattle.flush_journal.specs.Files.{Content, content, held, grown}
@@ -44,6 +44,10 @@ pub record IsSettled {D : Type 0} {met : Ghosts D} (j : Journal D met) (c : Cont
   pub file : content (met.reads (disk_of j)) ≡ Ok c
   pub only : Only (met.reads (disk_of j)) (met.images (disk_of j))
 
+-- a file has the one content or the other
+abbrev pub HasEither : Content → Content → List ℕ → Type 0
+HasEither c d bytes = (content bytes ≡ Ok c) ⊎ (content bytes ≡ Ok d)
+
 -- a file holds the one map or the other
 abbrev pub HoldsEither : Held → Held → List ℕ → Type 0
 HoldsEither m n bytes = (held bytes ≡ Some m) ⊎ (held bytes ≡ Some n)
@@ -56,12 +60,12 @@ pub record IsCut (reads : List ℕ) (images : List ℕ → Type 0) (c : Content)
   pub now : Either front (frame_of rs) reads
   pub each : (i : List ℕ) → images i → Either front (frame_of rs) i
 
--- These records are pending. What reads give, and each image, holds the map of before, or that with the records put in; `cut` is
--- what the next try goes on from.
+-- These records are pending. What reads give, and each image, has the content of before, or that with the batch of the records; `cut`
+-- is what the next try goes on from.
 pub record IsOwed {D : Type 0} {met : Ghosts D} (j : Journal D met) (c : Content) (rs : List Record) : Type 0 where
   pub pending : pending_of j ≡ Some rs
   pub some : rs ≢ []
   pub numbers : Numbers j c
-  pub now : HoldsEither c.held (put_all rs c.held) (met.reads (disk_of j))
-  pub each : (i : List ℕ) → met.images (disk_of j) i → HoldsEither c.held (put_all rs c.held) i
+  pub now : HasEither c (with_batch c rs) (met.reads (disk_of j))
+  pub each : (i : List ℕ) → met.images (disk_of j) i → HasEither c (with_batch c rs) i
   pub cut : IsCut (met.reads (disk_of j)) (met.images (disk_of j)) c rs

@@ -1,12 +1,12 @@
 -- What a try to write a batch does: an append, or a later one.
 use Rattle.std.specs.Prelude.{◌≡◌, ◌+◌, ◌<◌, List, length, Some, None, Result, Err, OnOk, OnErr}
 use Rattle.edge_traits.specs.declared.disk.Disk.{Ghosts}
-use Rattle.flush_journal.specs.Records.{Record, put_all}
+use Rattle.flush_journal.specs.Records.{Record}
 use Rattle.flush_journal.specs.Files.{Content}
 use Rattle.flush_journal.specs.Frames.{frame_of, need_of}
 use Rattle.flush_journal.specs.Moments.{Leaves}
 use Rattle.flush_journal.specs.Refusals.{Answers}
-use Rattle.flush_journal.specs.Standing.{disk_of, numbers_of, end_of, pending_of, with_batch, IsSettled, IsOwed, HoldsEither}
+use Rattle.flush_journal.specs.Standing.{disk_of, numbers_of, end_of, pending_of, with_batch, IsSettled, IsOwed, HasEither}
 use Rattle.flush_journal.specs.declared.journal.Journal.{Journal}
 use Rattle.flush_journal.specs.declared.report.Report.{Report}
 use Rattle.flush_journal.specs.declared.why.Why.{Why}
@@ -28,8 +28,8 @@ pub record Tries {D : Type 0} {met : Ghosts D} (old new : Journal D met) (rs : L
   pub untouched : met.most (disk_of old) < end_of old + need_of rs → disk_of new ≡ disk_of old
 
 -- With a disk that tells its bytes, where the file had this content: after Ok it has the batch too, and each image is it; after a
--- refusal the batch is owed; and at each moment of the call an image holds the map of before, or that with the records put in.
+-- refusal the batch is owed; and at each moment of the call an image has the content of before, or that with the batch.
 pub record Writes {D : Type 0} {met : Ghosts D} (old new : Journal D met) (c : Content) (rs : List Record) (result : Result (Unit {0}) Why) : Type 0 where
   pub ok : OnOk result (IsSettled new (with_batch c rs))
   pub err : OnErr result (IsOwed new c rs)
-  pub moments : Leaves met (disk_of old) (disk_of new) (HoldsEither c.held (put_all rs c.held))
+  pub moments : Leaves met (disk_of old) (disk_of new) (HasEither c (with_batch c rs))

@@ -1,12 +1,9 @@
 // Records that are to be written in one piece.
-ghost use Rattle.std.specs.Prelude.{◌≡◌, ◌+◌, ◌-◌, ◌^◌, ◌<◌, ◌≤◌, ◌↔◌, [], ◌∷◌, ◌++◌, length, drop, max, vec_len, vec_capacity, IsTrue, IsOk, OnOk, OnErr, Some};
+ghost use Rattle.std.specs.Prelude.{◌≡◌, ℕ, ◌+◌, ◌-◌, ◌^◌, ◌<◌, ◌≤◌, ◌↔◌, [], ◌∷◌, ◌++◌, length, drop, max, vec_len, vec_capacity, IsTrue, IsOk, OnOk, OnErr, Some};
 ghost use Rattle.flush_journal.specs.Frames.{frame_of, framed, framed_records, payload_of, record_size};
-ghost use Rattle.flush_journal.specs.Records.{encoded, encoded_all, records_of};
+ghost use Rattle.flush_journal.specs.Records.{Record, encoded, encoded_all, records_of};
 
 use std::alloc::{AllocError, Global};
-
-// How many bytes a record has beside its key and its body.
-const RECORD_BESIDE: usize = 8;
 
 // How many bytes stand in front of a payload: its length.
 const FRONT: usize = 8;
@@ -41,15 +38,22 @@ impl Batch {
         self.frame.as_slice().is_empty()
     }
 
-    /// Takes room for this many more bytes of records. A record takes eight bytes beside its key and its body.
+    /// Takes room for this many more bytes of records, of which each takes its `record_size`. An error doesn't come
+    /// where there is that room, and no room is lost.
     pub fn reserve(&mut self, bytes: usize) -> Result<(), AllocError>
         ensures ok { OnOk result (bytes ≤ spare self.new) }
         ensures records { records self.new ≡ records self.old }
+        ensures keeps { spare self.old ≤ spare self.new }
+        ensures reserved { bytes ≤ spare self.old → IsOk result }
     {
+        if bytes == 0 {
+            return Ok(());
+        }
         reserve_frame(&mut self.frame, bytes)
     }
 
-    /// Adds a record. An error leaves the records as they were, and doesn't come where room was taken before.
+    /// Adds a record. An error leaves the records and the room as they were, and doesn't come where room was taken
+    /// before.
     pub fn push(&mut self, key: &[u8], body: &[u8]) -> Result<(), AllocError>
         requires some_key { 0 < length key.now }
         requires short_key { length key.now < 65536 }
@@ -59,8 +63,9 @@ impl Batch {
         ensures reserved { record_size (key.now, body.now) ≤ spare self.old → IsOk result }
         ensures spare { OnOk result
             (spare self.old ≤ spare self.new + record_size (key.now, body.now)) }
+        ensures keeps { OnErr result (spare self.new ≡ spare self.old) }
     {
-        reserve_frame(&mut self.frame, RECORD_BESIDE + key.len() + body.len())?;
+        reserve_frame(&mut self.frame, record_size(key.len(), body.len()))?;
         add_record(&mut self.frame, key, body);
         Ok(())
     }
@@ -75,11 +80,22 @@ impl Batch {
     }
 }
 
+/// How many bytes of a batch a record takes, by the lengths of its key and its body.
+pub fn record_size(key_length: usize, body_length: usize) -> usize
+    requires { 8 + key_length + body_length < 2 ^ 64 }
+    ensures number { result ≡ 8 + key_length + body_length }
+    ensures record { (r : Record) → length r.0 ≡ key_length → length r.1 ≡ body_length
+        → result ≡ record_size r }
+{
+    8 + key_length + body_length
+}
+
 // Takes room in a frame for so many more bytes of payload.
 fn reserve_frame(frame: &mut Vec<u8>, bytes: usize) -> Result<(), AllocError>
     ensures items { frame.new.items ≡ frame.old.items }
     ensures ok { OnOk result (max 9 (vec_len frame.new) + bytes ≤ vec_capacity frame.new) }
     ensures capacity { vec_capacity frame.old ≤ vec_capacity frame.new }
+    ensures err { OnErr result (vec_capacity frame.new ≡ vec_capacity frame.old) }
     ensures succeeds { bytes < 2 ^ 63 → max 9 (vec_len frame.old) + bytes ≤ vec_capacity frame.old
         → IsOk result }
 {

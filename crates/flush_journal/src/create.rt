@@ -1,9 +1,9 @@
 // A journal's first bytes, written.
-ghost use Rattle.std.specs.Prelude.{◌≡◌, ◌≢◌, ◌+◌, ◌<◌, ◌≤◌, ◌↔◌, ◌++◌, take, drop, IfOk, IfErr, OnOk, Ok, IsTrue};
+ghost use Rattle.std.specs.Prelude.{◌≡◌, ◌≢◌, ◌+◌, ◌<◌, ◌≤◌, ◌↔◌, ◌++◌, take, drop, IfOk, IfErr, OnOk, OnErr, Ok, IsTrue};
 ghost use Rattle.edge_traits.specs.Disks.{Only};
 ghost use Rattle.flush_journal.specs.Files.{magic, content, fresh};
 ghost use Rattle.flush_journal.specs.Gates.{GateStands};
-ghost use Rattle.flush_journal.specs.Unchanged.{SameBytes, SameDisk};
+ghost use Rattle.flush_journal.specs.Unchanged.{SameBytes, SameDisk, TornFront};
 ghost use Rattle.flush_journal.specs.Refusals.{new_file, NoMagic, MayRefuseCreate};
 
 use crate::Why;
@@ -35,6 +35,9 @@ pub fn write_new<D: Disk>(disk: &mut D, lanes: u32) -> Result<(), Why>
     ensures same { SameDisk D.Disk disk.old disk.new }
     ensures refused { D.honest → IfErr result (λ why. why ≢ Why.DiskFault
         → SameBytes D.Disk disk.old disk.new) }
+    ensures found { D.honest → take 8 (D.reads disk.old) ≡ magic
+        → OnErr result (SameBytes D.Disk disk.old disk.new) }
+    ensures front { D.honest → TornFront D.Disk 17 disk.old disk.new }
     ensures room { OnOk result (17 ≤ D.most disk.old) }
     ensures none { OnOk result (NoMagic D.honest (D.reads disk.old)) }
     ensures why { IfErr result (MayRefuseCreate D.honest (D.reads disk.old) (D.most disk.old)

@@ -1,11 +1,11 @@
 // A journal over a disk.
-ghost use Rattle.std.specs.Prelude.{◌≡◌, ◌≢◌, ◌+◌, ◌^◌, ◌<◌, ◌≤◌, ◌↔◌, [], IsTrue, OnOk, OnErr, IfOk, IfErr, MatchResult, None, Some, Ok, Err, Result, List, option_map};
+ghost use Rattle.std.specs.Prelude.{◌≡◌, ◌≢◌, ◌+◌, ◌^◌, ◌<◌, ◌≤◌, ◌↔◌, [], take, IsTrue, OnOk, OnErr, IfOk, IfErr, MatchResult, None, Some, Ok, Err, Result, List, option_map};
 ghost use Rattle.flush_journal.specs.Batches.{records, owed_size};
 ghost use Rattle.edge_traits.specs.Disks.{Only};
-ghost use Rattle.flush_journal.specs.Files.{Content, content, fresh};
+ghost use Rattle.flush_journal.specs.Files.{Content, content, fresh, magic};
 ghost use Rattle.flush_journal.specs.Gates.{GateStands};
 ghost use Rattle.flush_journal.specs.Reports.{IsVersion1};
-ghost use Rattle.flush_journal.specs.Unchanged.{SameBytes, SameDisk};
+ghost use Rattle.flush_journal.specs.Unchanged.{SameBytes, SameDisk, TornFront};
 ghost use Rattle.flush_journal.specs.Records.{Record};
 ghost use Rattle.flush_journal.specs.Reading.{MayRefuseReading};
 ghost use Rattle.flush_journal.specs.Refusals.{NoMagic, MayRefuseCreate};
@@ -54,7 +54,8 @@ impl<D: Disk> Journal<D> {
     /// # Errors
     ///
     /// `Exists` where the disk begins with a journal's first bytes, else `JournalFull` where there is no room for a
-    /// header and a gate; `DiskFault` where the disk had a fault. All but the last leave the disk as it was.
+    /// header and a gate; `DiskFault` where the disk had a fault. All but the last leave the disk as it was, and where
+    /// it begins with a journal's first bytes each does. Never more than the first 17 bytes are touched.
     pub fn create(mut disk: D, lanes: u32) -> Result<Journal<D>, JournalRefused<D>>
         requires some { 1 ≤ lanes }
         requires few { lanes ≤ 16 }
@@ -67,6 +68,10 @@ impl<D: Disk> Journal<D> {
             (λ r. SameDisk D.Disk disk r.disk) }
         ensures refused { D.honest → IfErr result (λ r. r.why ≢ Why.DiskFault
             → SameBytes D.Disk disk r.disk) }
+        ensures found { D.honest → take 8 (D.reads disk) ≡ magic
+            → IfErr result (λ r. SameBytes D.Disk disk r.disk) }
+        ensures front { D.honest → MatchResult result (λ j. TornFront D.Disk 17 disk (disk_of j))
+            (λ r. TornFront D.Disk 17 disk r.disk) }
         ensures why { IfErr result (λ r. MayRefuseCreate D.honest (D.reads disk) (D.most disk)
             (D.faults disk) (D.faults r.disk) r.why) }
     {

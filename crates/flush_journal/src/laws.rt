@@ -3,6 +3,7 @@ ghost use Rattle.std.specs.Prelude.{◌≡◌, ◌≢◌, ◌↔◌, ℕ, List, 
 ghost use Rattle.std.specs.FinMap as map;
 ghost use Rattle.flush_journal.specs.Records.{Record, IsRecord, AreBytes, Held, kept_body, records_of, encoded_all, put_all};
 ghost use Rattle.flush_journal.specs.Files.{Content, content};
+ghost use Rattle.flush_journal.specs.Standing.{with_batch, HasEither, HoldsEither};
 ghost use Rattle.flush_journal.specs.Blocks.{IsJournal, IsFault};
 
 /// A payload is some records exactly where it is their encoding, and a payload can have each of them.
@@ -14,10 +15,11 @@ pub fn payload_is_encoding()
 
 /// A file has a content exactly where it is a header, whole blocks, a gate that isn't open and anything behind
 /// it, which make this content; and it is no journal exactly where one of these is missing, at the place of the
-/// first that is.
+/// first that is. What is so laid out is read so, whatever numbers stand for its bytes.
 pub fn journal_or_fault()
     ensures journal { (bytes : List ℕ) (c : Content) → AreBytes bytes
         → ((content bytes ≡ Ok c) ↔ IsJournal bytes c) }
+    ensures read { (bytes : List ℕ) (c : Content) → IsJournal bytes c → content bytes ≡ Ok c }
     ensures fault { (bytes : List ℕ) (at : ℕ) → AreBytes bytes
         → ((content bytes ≡ Err at) ↔ IsFault bytes at) }
 {}
@@ -30,4 +32,11 @@ pub fn last_record_wins()
         → map.get (put_all (front ++ (key, body) ∷ back) m) key ≡ kept_body body }
     ensures none { (m : Held) (records : List Record) (key : List ℕ)
         → All (λ r. r.0 ≢ key) records → map.get (put_all records m) key ≡ map.get m key }
+{}
+
+/// A file that has the content of before, or that with a batch, holds the map of before, or that with the batch's
+/// records put in.
+pub fn content_tells_map()
+    ensures { (c : Content) (rs : List Record) (bytes : List ℕ) → HasEither c (with_batch c rs) bytes
+        → HoldsEither c.held (put_all rs c.held) bytes }
 {}

@@ -1,5 +1,6 @@
-//! A journal of batches of records on a disk. After `append` answers Ok, whatever a crash leaves holds the batch; and
-//! at each moment before, what a crash leaves holds what was held, with the whole batch or without it.
+//! A journal of batches of records on a disk. On a disk that keeps its rule, whatever a crash leaves after `append` has
+//! answered Ok holds the batch; and whatever one leaves at any moment since the call began has what stood there before,
+//! with the whole batch or without it.
 #![tactic(auto)]
 
 mod batch;
@@ -15,9 +16,9 @@ mod recovered;
 mod report;
 mod why;
 
-pub use batch::Batch;
+pub use batch::{Batch, record_size};
 pub use journal::Journal;
-pub use laws::{journal_or_fault, last_record_wins, payload_is_encoding};
+pub use laws::{content_tells_map, journal_or_fault, last_record_wins, payload_is_encoding};
 pub use recovered::{Body, Recovered};
 pub use report::Report;
 pub use why::{JournalRefused, Why};

@@ -3,7 +3,7 @@ ghost use Rattle.std.specs.Prelude.{◌≡◌, OnOk, option_map, MatchOption, If
 ghost use Rattle.std.specs.FinMap as map;
 ghost use Rattle.std.specs.Option.{option_copied};
 ghost use Rattle.text_maps.specs.Keyed.{keyed};
-ghost use Rattle.text_maps.specs.Nexts.{IsNext};
+ghost use Rattle.text_maps.specs.Nexts.{IsNext, IsKeyStep};
 ghost use Rattle.flush_journal.specs.Records.{IsRecord, AreKept, put_record, put_all, records_of};
 
 use crate::records::first_record;
@@ -98,7 +98,8 @@ impl Recovered {
     /// The least key of the map, or the least one behind a key. Where the map has that key, it is found in
     /// order; else each key before it is looked at.
     pub fn next_key(&self, after: Option<&[u8]>) -> Option<&[u8]>
-        ensures { IsNext self.now (option_copied after.entry) (option_copied result) }
+        ensures least { IsNext self.now (option_copied after.entry) (option_copied result) }
+        ensures step { IsKeyStep self.now (option_copied after.entry) (option_copied result) }
     {
         let (key, _) = self.records.next_key(after)?;
         Some(key)
@@ -111,7 +112,7 @@ impl Recovered {
         self.records.as_tree()
     }
 
-    /// Takes a key and its body out of the map, and gives the body.
+    /// Takes a key and its body out of the map, and gives the body. Who walks over the map asks for the next key first.
     pub fn take(&mut self, key: &[u8]) -> Option<Vec<u8>>
         ensures body { option_map (λ v. v.items) result ≡ map.get self.old key.now }
         ensures rest { self.new ≡ map.remove self.old key.now }

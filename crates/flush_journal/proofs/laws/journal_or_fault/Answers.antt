@@ -7,3 +7,6 @@ returns-clause-journal c = λ bytes content h. (journal_of bytes content (bytes_
 
 pub returns-clause-fault : goal.returns-clause-fault
 returns-clause-fault c = λ bytes at h. (fault_of bytes at (bytes_each bytes h), fault_read bytes at (bytes_each bytes h))
+
+pub returns-clause-read : goal.returns-clause-read
+returns-clause-read c = journal_read
