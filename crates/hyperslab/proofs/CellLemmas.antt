@@ -110,15 +110,18 @@ point_once (n ∷ ks) (m ∷ ls) (x ∷ xs) h k l e =
 pub cell_selected : (s : Slab) (k : ℕ) → IsSlab s → k < cell_count (extents s) → is_at (axes_of s) (cell_at s k) ≡ true
 cell_selected s k h l = point_at (digits_by (extents s) k) (axes_of s) h.sound (digits_in (extents s) k l).0
 
+digits_back : (ks ms : List ℕ) → IsInside ks ms → digits_by ms (place ks ms) ≡ ks
+digits_back ks ms h =
+    let lies = digits_in ms (place ks ms) (place_below ks ms h) in
+    place_once (digits_by ms (place ks ms)) ks ms lies.0 h lies.1
+
+pub cell_placed : (s : Slab) (ks : List ℕ) → IsSlab s → IsInside ks (extents s) → cell_at s (place ks (extents s)) ≡ point ks (axes_of s)
+cell_placed s ks h inside = ap (λ ns. point ns (axes_of s)) (digits_back ks (extents s) inside)
+
 pub cell_each : (s : Slab) (at : List ℕ) → IsSlab s → is_at (axes_of s) at ≡ true → (k : ℕ) × (k < cell_count (extents s)) × (cell_at s k ≡ at)
 cell_each s at h e =
     let found = at_point (axes_of s) at h.sound e in
-    let ms = extents s in
-    let k = place found.0 ms in
-    let low = place_below found.0 ms found.1 in
-    let lies = digits_in ms k low in
-    let same = place_once (digits_by ms k) found.0 ms lies.0 found.1 lies.1 in
-    (k, low, ap (λ ks. point ks (axes_of s)) same ∙ found.2)
+    (place found.0 (extents s), place_below found.0 (extents s) found.1, cell_placed s found.0 h found.1 ∙ found.2)
 
 pub cell_once : (s : Slab) (k l : ℕ) → IsSlab s → k < cell_count (extents s) → l < cell_count (extents s) → cell_at s k ≡ cell_at s l → k ≡ l
 cell_once s k l h low_k low_l e =

@@ -13,3 +13,5 @@ pub mod AlikeLemmas
 pub mod WrittenLemmas
 pub mod OutcomeLemmas
 pub mod GivenLemmas
+pub mod ShortSteps
+pub mod WholeLemmas
