@@ -3,34 +3,17 @@ use Rattle.std.proofs.Common.{◌≡◌, ℕ, suc, ◌+◌, ◌*◌, ◌-◌, �
 use Rattle.std.specs.List.{AllZip}
 use Rattle.std.proofs.lemmas.Nat.{mul-le, le-div, div_below, mod_below, div-add-mod', mod-mul-add}
 use Rattle.std.proofs.lemmas.Bool.{cases_lt, lt-ltb, le-leb, eq-eqb, leb-true, ltb-true, eqb-true, and_parts, and_from}
-use Rattle.shapes.specs.Places.{cell_count, IsInside, place}
+use Rattle.shapes.specs.Places.{cell_count, IsInside, digits_by, place}
 use Rattle.std.proofs.lemmas.List.Elements.{All-filter}
 use Rattle.shapes.specs.Shapes.{LiesIn, cells_of}
-use Rattle.shapes.proofs.CellLemmas.{cells_inside as cells_lie}
+use Rattle.shapes.proofs.CellLemmas.{digits_in, cells_inside as cells_lie}
 use Rattle.shapes.specs.declared.Shape.{Shape}
 use Rattle.shapes.specs.declared.Shape.TheVariants.{Null, Scalar, Simple}
 use Rattle.shapes.proofs.PlaceLemmas.{place_below, place_once}
 use Rattle.hyperslab.specs.declared.Slab.{Slab}
-use Rattle.hyperslab.specs.Selected.{Axis, AreAxes, IsSlab, FitsIn, SlabIn, AreApart, axes_of, is_on, is_at, extent, extents, point, selected, slab_cells, digits_by, cell_at}
+use Rattle.hyperslab.specs.Selected.{Axis, AreAxes, IsSlab, FitsIn, SlabIn, AreApart, axes_of, is_on, is_at, extent, extents, point, selected, slab_cells, cell_at}
 use Rattle.hyperslab.proofs.AxisLemmas.{axis_with, extent_some}
 use Rattle.hyperslab.proofs.SelectLemmas.{selected_at, selected_count, point_below}
-
--- ---- the digits of a number
-
-some_cells : (m c j : ℕ) → j < m * c → 0 < c
-some_cells m c j h = elim (cases_lt 0 c) [
-  | inl some ↦ some
-  | inr none ↦
-      let zero_c : c ≡ 0 = omega arith in
-      absurd (omega (arith, h, ap (λ x. m * x) zero_c))
-]
-
-pub digits_in : (ms : List ℕ) (j : ℕ) → j < cell_count ms → IsInside (digits_by ms j) ms × (place (digits_by ms j) ms ≡ j)
-digits_in [] j h = (tt, omega arith)
-digits_in (m ∷ ms) j h =
-    let some = some_cells m (cell_count ms) j h in
-    let rest = digits_in ms (j % cell_count ms) (mod_below j (cell_count ms) some) in
-    ((div_below j (cell_count ms) m some h, rest.0), rw rest.1 (div-add-mod' j (cell_count ms)))
 
 -- ---- steps and numbers of an axis
 

@@ -1,5 +1,4 @@
 pub mod AxisLemmas
-pub mod ListLemmas
 pub mod SelectLemmas
 pub mod DigitLemmas
 pub mod RunLemmas
