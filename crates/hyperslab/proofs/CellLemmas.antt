@@ -1,7 +1,7 @@
 -- The selected cells by number, and each of them once.
 use Rattle.std.proofs.Common.{◌≡◌, ℕ, suc, ◌+◌, ◌*◌, ◌-◌, ◌/◌, ◌%◌, ◌<◌, ◌≤◌, ◌&&◌, true, List, [], ◌∷◌, All, length, get_or, map, inl, inr, nat_eq, nat_lt, nat_le, refl, sym, ap, ◌∙◌, arith}
 use Rattle.std.specs.List.{AllZip}
-use Rattle.std.proofs.lemmas.Nat.{mul-le, le-div, div_below, mod_below, div-add-mod', mod-mul-add}
+use Rattle.std.proofs.lemmas.Nat.{mul-le, le-div, div-add-mod', mod-mul-add}
 use Rattle.std.proofs.lemmas.Bool.{cases_lt, lt-ltb, le-leb, eq-eqb, leb-true, ltb-true, eqb-true, and_parts, and_from}
 use Rattle.shapes.specs.Places.{cell_count, IsInside, digits_by, place}
 use Rattle.std.proofs.lemmas.List.Elements.{All-filter}

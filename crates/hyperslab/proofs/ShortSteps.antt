@@ -1,9 +1,8 @@
 -- The steps of a selection that was read have at most 10 digits.
-use Rattle.std.proofs.Common.{◌≡◌, ℕ, suc, ◌+◌, ◌*◌, ◌-◌, ◌^◌, ◌<◌, ◌≤◌, ◌&&◌, List, [], ◌∷◌, ◌++◌, All, length, replicate, Option, Some, None, Result, Ok, Err, inl, inr, nat_eq, refl, sym, ap, subst, ◌∙◌, arith, mul_assoc}
+use Rattle.std.proofs.Common.{◌≡◌, ℕ, ◌+◌, ◌*◌, ◌-◌, ◌^◌, ◌<◌, ◌≤◌, List, [], ◌∷◌, ◌++◌, All, length, replicate, Option, Some, None, Ok, Err, inl, inr, nat_eq, refl, sym, ap, subst, ◌∙◌, arith, mul_assoc}
 use Rattle.std.specs.Prelude.{IfOk}
 use Rattle.std.specs.List.{AllZip}
-use Rattle.std.proofs.lemmas.Nat.{mul-le}
-use Rattle.std.proofs.lemmas.List.Elements.{All-nil, All-cons, All-push, All-replicate, All-weaker}
+use Rattle.std.proofs.lemmas.List.Elements.{All-nil, All-cons, All-replicate, All-weaker}
 use Rattle.json_trees.proofs.FaultLemmas.{chosen}
 use Rattle.serde_json.specs.Data.{Data}
 use Rattle.shapes.specs.declared.Shape.{Shape}
@@ -12,11 +11,9 @@ use Rattle.shapes.specs.declared.TheConstants.{MAX_EXTENT}
 use Rattle.shapes.specs.Shapes.{dims_of}
 use Rattle.shapes.proofs.ShapeLemmas.{small_dims}
 use Rattle.hyperslab.specs.declared.Slab.{Slab}
-use Rattle.hyperslab.specs.declared.SlabFault.{SlabFault}
 use Rattle.hyperslab.specs.declared.SlabFault.TheVariants.{Rank}
-use Rattle.hyperslab.specs.declared.TheConstants.{MAX_DIGITS}
 use Rattle.hyperslab.specs.declared.reading.Part.{Part}
-use Rattle.hyperslab.specs.Judged.{bounded, judged, all_of, whole_of, judged_lists, lists_slab, lists_in, is_scalar, is_absent}
+use Rattle.hyperslab.specs.Judged.{bounded, judged, all_of, whole_of, judged_lists, lists_in}
 use Rattle.hyperslab.specs.Outcomes.{StandsFor}
 use Rattle.hyperslab.specs.Steps.{ten_to, text_slab}
 use Rattle.hyperslab.specs.Grammar.{AreDigits, spelled, IsNumeral, IsPart, IsSelection, steps_of, slab_in, parts_slab}
