@@ -4,10 +4,11 @@ use Rattle.std.proofs.lemmas.Nat.{div-add-mod', div-mul-add, mod-mul-add, div_be
 use Rattle.std.proofs.lemmas.List.{drop_more, drop_all, append_assoc, append-nil, length-map, get_or-map}
 use Rattle.std.proofs.lemmas.List.Elements.{All-head, All-tail, All-get_or}
 use Rattle.shapes.specs.declared.TheConstants.{MAX_EXTENT}
-use Rattle.shapes.specs.Places.{cell_count, IsInside, place, coordinates}
+use Rattle.shapes.specs.Places.{cell_count, IsInside, place, coordinates, digits_by}
 use Rattle.shapes.proofs.PlaceLemmas.{place_below, place_once, horner_bound, horner_end, step_next as step_next_dim, step_above}
+use Rattle.shapes.proofs.CellLemmas.{digits_in}
 use Rattle.shapes.proofs.GridLemmas.{length-coordinates, coordinates-place}
-use Rattle.chunk_layout.specs.Chunks.{IsChunkDim, quotients, remainders, offset_of, corner, added, digits, cell_at, chunk_cells}
+use Rattle.chunk_layout.specs.Chunks.{IsChunkDim, quotients, remainders, offset_of, corner, added, cell_at, chunk_cells}
 
 pub dim_at : (ns : List ℕ) (i : ℕ) → All IsChunkDim ns → i < length ns → 1 ≤ get_or ns i 0
 dim_at [] i h k = absurd (omega arith)
@@ -84,15 +85,6 @@ one_cell_there ns xs ys h e f q o =
 
 -- ---- the cell at a place of a chunk
 
-digits_placed : (ns : List ℕ) (k : ℕ) → All IsChunkDim ns → k < cell_count ns → IsInside (digits k ns) ns × (place (digits k ns) ns ≡ k)
-digits_placed [] k h l = (tt, omega arith)
-digits_placed (n ∷ ns) k h l =
-    let tail = All-tail IsChunkDim n ns h in
-    let some : 0 < cell_count ns = omega (arith, one_cell ns tail) in
-    let rest = digits_placed ns (k % cell_count ns) tail (mod_below k (cell_count ns) some) in
-    let high : k / cell_count ns < n = div_below k (cell_count ns) n some l in
-    ((high, rest.0), rw rest.1 (div-add-mod' k (cell_count ns)))
-
 -- the cell of a chunk with these coordinates inside it
 parts_again : (ns qs rs : List ℕ) → length qs ≡ length ns → IsInside rs ns → (quotients (added (corner qs ns) rs) ns ≡ qs) × (remainders (added (corner qs ns) rs) ns ≡ rs)
 parts_again [] [] [] e h = (refl, refl)
@@ -111,12 +103,12 @@ cell_rank (n ∷ ns) [] k e = absurd (omega (arith, e))
 cell_rank (n ∷ ns) (q ∷ qs) k e = ap suc (cell_rank ns qs (k % cell_count ns) (omega (arith, e)))
 
 pub cell_chunk : (ns qs : List ℕ) (k : ℕ) → All IsChunkDim ns → length qs ≡ length ns → k < cell_count ns → quotients (cell_at qs k ns) ns ≡ qs
-cell_chunk ns qs k h e l = (parts_again ns qs (digits k ns) e (digits_placed ns k h l).0).0
+cell_chunk ns qs k h e l = (parts_again ns qs (digits_by ns k) e (digits_in ns k l).0).0
 
 pub cell_offset : (ns qs : List ℕ) (k : ℕ) → All IsChunkDim ns → length qs ≡ length ns → k < cell_count ns → offset_of (cell_at qs k ns) ns ≡ k
 cell_offset ns qs k h e l =
-    let placed = digits_placed ns k h l in
-    ap (λ rs. place rs ns) (parts_again ns qs (digits k ns) e placed.0).1 ∙ placed.1
+    let placed = digits_in ns k l in
+    ap (λ rs. place rs ns) (parts_again ns qs (digits_by ns k) e placed.0).1 ∙ placed.1
 
 length-quotients : (xs ns : List ℕ) → length xs ≡ length ns → length (quotients xs ns) ≡ length ns
 length-quotients [] [] e = refl
@@ -138,10 +130,10 @@ chunk_count ns qs = length-map (coordinates ns) (λ inner. added (corner qs ns) 
 
 pub chunk_listed : (ns qs : List ℕ) (k : ℕ) → All IsChunkDim ns → k < cell_count ns → get_or (chunk_cells qs ns) k [] ≡ cell_at qs k ns
 chunk_listed ns qs k h l =
-    let placed = digits_placed ns k h l in
+    let placed = digits_in ns k l in
     let f = λ (inner : List ℕ). added (corner qs ns) inner in
     let low : k < length (coordinates ns) = rw (length-coordinates ns) l in
-    get_or-map f (coordinates ns) k [] [] low ∙ ap f (ap (λ j. get_or (coordinates ns) j []) (sym placed.1) ∙ coordinates-place (digits k ns) ns placed.0)
+    get_or-map f (coordinates ns) k [] [] low ∙ ap f (ap (λ j. get_or (coordinates ns) j []) (sym placed.1) ∙ coordinates-place (digits_by ns k) ns placed.0)
 
 -- ---- one step towards the cell
 

@@ -1,9 +1,7 @@
 -- Capped products.
-use Rattle.std.proofs.Common.{◌≡◌, ℕ, zero, suc, ◌+◌, ◌*◌, ◌-◌, ◌^◌, ◌<◌, ◌≤◌, ◌&&◌, min, List, length, drop, get_or, inl, inr, nat_lt, sym, ap, ◌∙◌, arith, mul_assoc}
-use Rattle.std.proofs.lemmas.Bool.{cases_lt}
+use Rattle.std.proofs.Common.{◌≡◌, ℕ, ◌*◌, ◌-◌, ◌^◌, ◌≤◌, ◌&&◌, min, List, length, drop, nat_lt, ap, ◌∙◌, arith}
 use Rattle.std.proofs.lemmas.Bool.Decides.{nat_tests}
-use Rattle.std.proofs.lemmas.List.{drop_more, drop_all}
-use Rattle.std.proofs.lemmas.Nat.{mul-le}
+use Rattle.std.proofs.lemmas.List.{drop_all}
 use Rattle.shapes.specs.Places.{cell_count}
 use Rattle.chunk_layout.specs.declared.TheConstants.{MAX_CHUNK_BYTES}
 

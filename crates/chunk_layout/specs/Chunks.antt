@@ -1,6 +1,6 @@
 -- A grid that is cut into chunks of one size: the chunk of a cell, and its place there.
 use Rattle.std.specs.Prelude.{ℕ, ◌+◌, ◌*◌, ◌/◌, ◌%◌, ◌≤◌, List, [], ◌∷◌, All, length, map}
-use Rattle.shapes.specs.Places.{cell_count, place, coordinates}
+use Rattle.shapes.specs.Places.{cell_count, place, coordinates, digits_by}
 use Rattle.shapes.specs.declared.TheConstants.{MAX_RANK, MAX_EXTENT}
 use Rattle.chunk_layout.specs.declared.TheConstants.{MAX_CHUNK_BYTES}
 
@@ -42,14 +42,9 @@ added [] ys = []
 added (x ∷ xs) [] = []
 added (x ∷ xs) (y ∷ ys) = (x + y) ∷ added xs ys
 
--- the coordinates at a row-major place: its digits, each axis's being below its dim
-abbrev pub digits : ℕ → List ℕ → List ℕ
-digits k [] = []
-digits k (n ∷ ns) = k / cell_count ns ∷ digits (k % cell_count ns) ns
-
--- the cell at a place of a chunk
+-- the cell at a place of a chunk, whose digits are its coordinates there
 abbrev pub cell_at : List ℕ → ℕ → List ℕ → List ℕ
-cell_at index offset chunk = added (corner index chunk) (digits offset chunk)
+cell_at index offset chunk = added (corner index chunk) (digits_by chunk offset)
 
 -- the cells of a chunk in row-major order, those outside the array too
 abbrev pub chunk_cells : List ℕ → List ℕ → List (List ℕ)

@@ -7,6 +7,7 @@ ghost use Rattle.serde_json.specs.Find.{get};
 ghost use Rattle.json_trees.specs.Trees.{all_in, whole_in, text_at};
 ghost use Rattle.json_trees.specs.Shown.{shown};
 ghost use Rattle.shapes.specs.Shapes.{IsSound, dims_of};
+ghost use Rattle.shapes.specs.declared.Shape.{Shape};
 ghost use Rattle.shapes.specs.declared.TheConstants.{MAX_RANK};
 ghost use Rattle.chunk_layout.specs.Chunks.{IsChunk};
 ghost use Rattle.chunk_layout.specs.Defaults.{IsDefault};
@@ -44,7 +45,8 @@ pub fn read_layout(properties: &Value, shape: &Shape, size: u32) -> Result<Layou
     first_of(properties, shape, size)
 }
 
-/// Properties ask for one chunk, or leave it open, or have a fault, and never two of these.
+/// Properties ask for one chunk, or leave it open, or have a fault, and never two of these. What
+/// fits an array is a chunk.
 pub fn layout_or_fault()
     ensures chunk { (d : Data) (dims chunk : List ℕ) (size : ℕ)
         → ((IsObject d × AsksChunk d chunk × Fits size dims chunk)
@@ -55,6 +57,8 @@ pub fn layout_or_fault()
         → IsDefault size dims xs → IsDefault size dims ys → xs ≡ ys }
     ensures fault { (d : Data) (dims chunk : List ℕ) (size : ℕ) (fault : LayoutFault)
         → asked_of d dims size ≡ Err fault → SpellsChunk d dims size chunk → ⊥ }
+    ensures fits { (s : Shape) (size : ℕ) (chunk : List ℕ) → IsSound s → 1 ≤ size
+        → Fits size (dims_of s) chunk → IsChunk chunk }
 {}
 
 fn first_of(properties: &Value, shape: &Shape, size: u32) -> Result<Layout, LayoutFault>

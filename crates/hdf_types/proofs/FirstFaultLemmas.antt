@@ -288,3 +288,13 @@ first_fault_told d p c h = elim (bind_err (node_at MAX_NESTING [] d) within_at (
       let large = too_large e.0 p c e.2 in
       inr (large.0, large.1, (e.0, kind.0, kind.1, large.2))
 ]
+
+-- ---- a fault stands no deeper than compounds nest
+
+fault_depth : (path : List ℕ) (l : ℕ) (d : Data) (c : Cause) → IsFault l d path c → length path ≤ l
+fault_depth [] l d c h = omega arith
+fault_depth (k ∷ path) l d c h = omega (arith, h.1.1, fault_depth path (l - 1) h.4.0 c h.4.2)
+
+pub first_fault_depth : (d : Data) (path : List ℕ) (c : Cause) → IsFirstFault d path c → length path ≤ 4
+first_fault_depth d path c (inl h) = fault_depth path 4 d c h
+first_fault_depth d path c (inr h) = omega (arith, ap length h.0)

@@ -1,5 +1,5 @@
 -- What a tree spells is a type within all limits.
-use Rattle.std.proofs.Common.{◌≡◌, ℕ, List, [], ◌∷◌, inl, inr, Option, Some, Bool, true, false, cond, Result, Ok, Err, refl, subst}
+use Rattle.std.proofs.Common.{◌≡◌, ℕ, ◌≤◌, List, [], ◌∷◌, inl, inr, Option, Some, Bool, true, false, cond, Result, Ok, Err, refl, subst, arith}
 use Rattle.std.specs.Prelude.{IfOk}
 use Rattle.std.specs.List.{AllByRecursion}
 use Rattle.std.specs.Str.{bytes_eq}
@@ -10,7 +10,7 @@ use Rattle.hdf_types.specs.declared.types.ElemType.{ElemType}
 use Rattle.hdf_types.specs.declared.faults.TypeFault.{TypeFault}
 use Rattle.hdf_types.specs.Elems.{Elem, int, text, compound, FieldList, no_fields, field}
 use Rattle.hdf_types.specs.Views.{elem}
-use Rattle.hdf_types.specs.Reading.{int_names, int_named}
+use Rattle.hdf_types.specs.Reading.{int_names, int_named, int_size, size_of}
 use Rattle.hdf_types.specs.Types.{IsWidth, IsTypeOf, AreFields, IsType, IsFormed, AreFormed, IsSoundType}
 
 found_or : {A : Type 0} (b : Bool) (x y : A) (rest : Option A) (P : A → Type 0) → cond b (Some x) rest ≡ Some y → P x → (rest ≡ Some y → P y) → P y
@@ -46,3 +46,17 @@ sound_type d e h = record { formed = formed e d h.0; nested = h.1; small = h.2 }
 pub gives_sound : (r : Result ElemType TypeFault) (d : Data) → IfOk r (λ e. IsType d (elem e)) → IfOk r (λ e. IsSoundType (elem e))
 gives_sound (Ok e) d h = sound_type d (elem e) h
 gives_sound (Err f) d h = tt
+
+-- ---- an element has a byte
+
+some_width : (bits : ℕ) → IsWidth bits → 1 ≤ int_size bits
+some_width bits (inl e) = omega arith
+some_width bits (inr (inl e)) = omega arith
+some_width bits (inr (inr (inl e))) = omega arith
+some_width bits (inr (inr (inr e))) = omega arith
+
+pub some_size : (e : Elem) → IsFormed e → 1 ≤ size_of e
+some_size (int t) h = some_width t.bits h
+some_size (text t) h = h.0
+some_size (compound no_fields) h = absurd (omega (arith, h.0))
+some_size (compound (field n e rest)) h = omega (arith, some_size e h.3.2)

@@ -4,7 +4,13 @@
 //! The forms are those of the HDF5/JSON specification and the HDF REST API, "Type".
 #![tactic(auto)]
 
-ghost use Rattle.std.specs.Prelude.{◌≡◌};
+ghost use Rattle.std.specs.Prelude.{◌≡◌, ◌≤◌, ℕ, List, length};
+ghost use Rattle.serde_json.specs.Data.{Data};
+ghost use Rattle.hdf_types.specs.Elems.{Elem};
+ghost use Rattle.hdf_types.specs.FirstFault.{IsFirstFault};
+ghost use Rattle.hdf_types.specs.Reading.{size_of};
+ghost use Rattle.hdf_types.specs.Types.{IsSoundType};
+ghost use Rattle.hdf_types.specs.declared.faults.Cause.{Cause};
 
 use short_lists::ShortList;
 
@@ -38,13 +44,17 @@ pub const MAX_NAME: usize = 255;
 /// The largest element, in bytes.
 pub const MAX_SIZE: u64 = 1_048_576;
 
-/// The limits, as numbers.
+/// The limits, as numbers. An element takes at least one byte, and a first fault stands inside at
+/// most 4 compounds.
 pub fn limits()
     ensures nesting { MAX_NESTING ≡ 4 }
     ensures fields { MAX_FIELDS ≡ 64 }
     ensures text { MAX_TEXT ≡ 65_535 }
     ensures name { MAX_NAME ≡ 255 }
     ensures size { MAX_SIZE ≡ 1_048_576 }
+    ensures some_byte { (e : Elem) → IsSoundType e → 1 ≤ size_of e }
+    ensures path { (d : Data) (path : List ℕ) (cause : Cause) → IsFirstFault d path cause
+        → length path ≤ 4 }
 {}
 
 /// The place of a type in a type: a field's index for each compound around it.

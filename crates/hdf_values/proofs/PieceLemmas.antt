@@ -6,27 +6,14 @@ use Rattle.std.specs.Prelude.{◌==◌}
 use Rattle.std.proofs.lemmas.Bool.{cases_lt, false≢true}
 use Rattle.std.proofs.lemmas.Nat.{mul-le}
 use Rattle.std.proofs.lemmas.List.{length-append, length-drop, length-take-le, take-append-le, drop-append-le, take-append-drop, take_all, drop-drop}
-use Rattle.hdf_types.specs.Elems.{Elem, int, text, compound, no_fields, field}
-use Rattle.hdf_types.specs.Reading.{size_of, int_size}
-use Rattle.hdf_types.specs.Types.{IsSoundType, IsFormed, IsWidth}
+use Rattle.hdf_types.specs.Elems.{Elem}
+use Rattle.hdf_types.specs.Reading.{size_of}
+use Rattle.hdf_types.specs.Types.{IsSoundType, IsFormed}
+pub use Rattle.hdf_types.proofs.SoundLemmas.{some_size}
 use Rattle.hdf_values.specs.Elements.{Fits, bytes_of, normal, decoded, IsEncoded}
 use Rattle.hdf_values.specs.Nested.{pieces, piece_at, pieces_at, with_pieces, AreEncoded, IsFirstUnencoded}
 use Rattle.hdf_values.proofs.ElementLemmas.{decoded-bytes_of, normal_fits, bytes_of-normal}
 use Rattle.hdf_values.proofs.EncodedLemmas.{length-encoded}
-
--- ---- an element has a byte
-
-some_width : (bits : ℕ) → IsWidth bits → 1 ≤ int_size bits
-some_width bits (inl e) = omega arith
-some_width bits (inr (inl e)) = omega arith
-some_width bits (inr (inr (inl e))) = omega arith
-some_width bits (inr (inr (inr e))) = omega arith
-
-pub some_size : (e : Elem) → IsFormed e → 1 ≤ size_of e
-some_size (int t) h = some_width t.bits h
-some_size (text t) h = h.0
-some_size (compound no_fields) h = absurd (omega (arith, h.0))
-some_size (compound (field n e rest)) h = omega (arith, some_size e h.3.2)
 
 -- ---- what holds of all
 

@@ -97,7 +97,7 @@ extent_some a b c h = rw (lt-ltb a b h) refl
 pub extent_none : (a b c : ℕ) → b ≤ a → extent (axis_with a b c) ≡ 0
 extent_none a b c h = rw (le-ltb a b h) refl
 
-extent_all : (n : ℕ) → extent (axis_with 0 n 1) ≡ n
+pub extent_all : (n : ℕ) → extent (axis_with 0 n 1) ≡ n
 extent_all zero = refl
 extent_all (suc n) = extent_some 0 (suc n) 1 (omega arith) ∙ omega arith
 

@@ -1,36 +1,19 @@
 -- The selected cells by number, and each of them once.
 use Rattle.std.proofs.Common.{◌≡◌, ℕ, suc, ◌+◌, ◌*◌, ◌-◌, ◌/◌, ◌%◌, ◌<◌, ◌≤◌, ◌&&◌, true, List, [], ◌∷◌, All, length, get_or, map, inl, inr, nat_eq, nat_lt, nat_le, refl, sym, ap, ◌∙◌, arith}
 use Rattle.std.specs.List.{AllZip}
-use Rattle.std.proofs.lemmas.Nat.{mul-le, le-div, div_below, mod_below, div-add-mod', mod-mul-add}
+use Rattle.std.proofs.lemmas.Nat.{mul-le, le-div, div-add-mod', mod-mul-add}
 use Rattle.std.proofs.lemmas.Bool.{cases_lt, lt-ltb, le-leb, eq-eqb, leb-true, ltb-true, eqb-true, and_parts, and_from}
-use Rattle.shapes.specs.Places.{cell_count, IsInside, place}
+use Rattle.shapes.specs.Places.{cell_count, IsInside, digits_by, place}
 use Rattle.std.proofs.lemmas.List.Elements.{All-filter}
 use Rattle.shapes.specs.Shapes.{LiesIn, cells_of}
-use Rattle.shapes.proofs.CellLemmas.{cells_inside as cells_lie}
+use Rattle.shapes.proofs.CellLemmas.{digits_in, cells_inside as cells_lie}
 use Rattle.shapes.specs.declared.Shape.{Shape}
 use Rattle.shapes.specs.declared.Shape.TheVariants.{Null, Scalar, Simple}
 use Rattle.shapes.proofs.PlaceLemmas.{place_below, place_once}
 use Rattle.hyperslab.specs.declared.Slab.{Slab}
-use Rattle.hyperslab.specs.Selected.{Axis, AreAxes, IsSlab, FitsIn, SlabIn, AreApart, axes_of, is_on, is_at, extent, extents, point, selected, slab_cells, digits_by, cell_at}
+use Rattle.hyperslab.specs.Selected.{Axis, AreAxes, IsSlab, FitsIn, SlabIn, AreApart, axes_of, is_on, is_at, extent, extents, point, selected, slab_cells, cell_at}
 use Rattle.hyperslab.proofs.AxisLemmas.{axis_with, extent_some}
 use Rattle.hyperslab.proofs.SelectLemmas.{selected_at, selected_count, point_below}
-
--- ---- the digits of a number
-
-some_cells : (m c j : ℕ) → j < m * c → 0 < c
-some_cells m c j h = elim (cases_lt 0 c) [
-  | inl some ↦ some
-  | inr none ↦
-      let zero_c : c ≡ 0 = omega arith in
-      absurd (omega (arith, h, ap (λ x. m * x) zero_c))
-]
-
-pub digits_in : (ms : List ℕ) (j : ℕ) → j < cell_count ms → IsInside (digits_by ms j) ms × (place (digits_by ms j) ms ≡ j)
-digits_in [] j h = (tt, omega arith)
-digits_in (m ∷ ms) j h =
-    let some = some_cells m (cell_count ms) j h in
-    let rest = digits_in ms (j % cell_count ms) (mod_below j (cell_count ms) some) in
-    ((div_below j (cell_count ms) m some h, rest.0), rw rest.1 (div-add-mod' j (cell_count ms)))
 
 -- ---- steps and numbers of an axis
 
@@ -110,15 +93,18 @@ point_once (n ∷ ks) (m ∷ ls) (x ∷ xs) h k l e =
 pub cell_selected : (s : Slab) (k : ℕ) → IsSlab s → k < cell_count (extents s) → is_at (axes_of s) (cell_at s k) ≡ true
 cell_selected s k h l = point_at (digits_by (extents s) k) (axes_of s) h.sound (digits_in (extents s) k l).0
 
+digits_back : (ks ms : List ℕ) → IsInside ks ms → digits_by ms (place ks ms) ≡ ks
+digits_back ks ms h =
+    let lies = digits_in ms (place ks ms) (place_below ks ms h) in
+    place_once (digits_by ms (place ks ms)) ks ms lies.0 h lies.1
+
+pub cell_placed : (s : Slab) (ks : List ℕ) → IsSlab s → IsInside ks (extents s) → cell_at s (place ks (extents s)) ≡ point ks (axes_of s)
+cell_placed s ks h inside = ap (λ ns. point ns (axes_of s)) (digits_back ks (extents s) inside)
+
 pub cell_each : (s : Slab) (at : List ℕ) → IsSlab s → is_at (axes_of s) at ≡ true → (k : ℕ) × (k < cell_count (extents s)) × (cell_at s k ≡ at)
 cell_each s at h e =
     let found = at_point (axes_of s) at h.sound e in
-    let ms = extents s in
-    let k = place found.0 ms in
-    let low = place_below found.0 ms found.1 in
-    let lies = digits_in ms k low in
-    let same = place_once (digits_by ms k) found.0 ms lies.0 found.1 lies.1 in
-    (k, low, ap (λ ks. point ks (axes_of s)) same ∙ found.2)
+    (place found.0 (extents s), place_below found.0 (extents s) found.1, cell_placed s found.0 h found.1 ∙ found.2)
 
 pub cell_once : (s : Slab) (k l : ℕ) → IsSlab s → k < cell_count (extents s) → l < cell_count (extents s) → cell_at s k ≡ cell_at s l → k ≡ l
 cell_once s k l h low_k low_l e =

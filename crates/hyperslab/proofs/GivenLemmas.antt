@@ -32,7 +32,7 @@ lists_some dims start stop step s h =
 same_lists : (a b c : List ℕ) (s : Slab) → with_step a b c ≡ s → (a ≡ s.start) × (b ≡ s.stop) × (c ≡ s.step)
 same_lists a b c s e = (ap (λ (t : Slab). t.start) e, ap (λ (t : Slab). t.stop) e, ap (λ (t : Slab). t.step) e)
 
-some_lists : (dims : List ℕ) (start stop step : Option Data) (s : Slab) → lists_in dims start stop step ≡ Some s → AreLists dims start stop step s
+pub some_lists : (dims : List ℕ) (start stop step : Option Data) (s : Slab) → lists_in dims start stop step ≡ Some s → AreLists dims start stop step s
 some_lists dims start stop step s e =
     let zeros = replicate (length dims) 0 in
     let ones = replicate (length dims) 1 in

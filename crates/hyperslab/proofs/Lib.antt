@@ -1,5 +1,4 @@
 pub mod AxisLemmas
-pub mod ListLemmas
 pub mod SelectLemmas
 pub mod DigitLemmas
 pub mod RunLemmas
@@ -13,3 +12,5 @@ pub mod AlikeLemmas
 pub mod WrittenLemmas
 pub mod OutcomeLemmas
 pub mod GivenLemmas
+pub mod ShortSteps
+pub mod WholeLemmas

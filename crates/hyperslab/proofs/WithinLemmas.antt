@@ -27,7 +27,7 @@ judged_ok (Simple dims limits) s t e =
     let found = (judged_outcome (Simple dims limits) s (Ok t)).0 e in
     subst P found.0 (whole_fits dims s found.1)
 
-if_ok : {A E : Type 0} (r : Result A E) (P : A → Type 0) → ((x : A) → r ≡ Ok x → P x) → IfOk r P
+pub if_ok : {A E : Type 0} (r : Result A E) (P : A → Type 0) → ((x : A) → r ≡ Ok x → P x) → IfOk r P
 if_ok (Ok x) P h = h x refl
 if_ok (Err e) P h = tt
 
@@ -36,11 +36,11 @@ judged_within shape s = if_ok (judged shape s) (λ t. SlabIn t shape) (λ t e. j
 
 -- ---- all cells
 
-all_fits : (dims : List ℕ) → FitsIn (all_of dims) dims
+pub all_fits : (dims : List ℕ) → FitsIn (all_of dims) dims
 all_fits [] = tt
 all_fits (n ∷ ns) = (omega arith, all_fits ns)
 
-bounded_ok : (s t : Slab) → bounded s ≡ Ok t → s ≡ t
+pub bounded_ok : (s t : Slab) → bounded s ≡ Ok t → s ≡ t
 bounded_ok s t e =
     let few = test_ok (nat_le (room_of (extents s)) MAX_SELECTED) (Ok s) (TooMany (room_of (extents s))) t e in
     cc

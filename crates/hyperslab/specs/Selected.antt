@@ -1,7 +1,7 @@
 -- Which cells a selection selects.
 use Rattle.std.specs.Prelude.{◌≡◌, ℕ, ◌+◌, ◌-◌, ◌*◌, ◌/◌, ◌%◌, ◌<◌, ◌≤◌, ◌⊎◌, ◌&&◌, Bool, true, false, List, [], ◌∷◌, map, length, slice_index_or, nat_le, nat_lt, nat_eq, if◌then◌else◌}
 use Rattle.std.specs.List.{filter, AllZip}
-use Rattle.shapes.specs.Places.{cell_count, coordinates, room_of, run_from}
+use Rattle.shapes.specs.Places.{cell_count, coordinates, digits_by, room_of, run_from}
 use Rattle.shapes.specs.declared.Shape.{Shape}
 use Rattle.shapes.specs.declared.Shape.TheVariants.{Null, Scalar, Simple}
 use Rattle.shapes.specs.declared.TheConstants.{MAX_RANK, MAX_EXTENT}
@@ -100,11 +100,6 @@ abbrev pub IsAlike : Axis → Axis → Type 0
 IsAlike x y = (x.lo ≡ y.lo) × (x.hi ≡ y.hi) × ((x.by ≡ y.by) ⊎ ((x.hi - x.lo ≤ x.by) × (x.hi - x.lo ≤ y.by)))
 
 -- ---- one cell by its number
-
--- the digits of a number, of which each counts as many cells as the axes after it have
-abbrev pub digits_by : List ℕ → ℕ → List ℕ
-digits_by [] k = []
-digits_by (n ∷ ns) k = k / cell_count ns ∷ digits_by ns (k % cell_count ns)
 
 -- the selected cell number `k`, from 0: its digits are the steps from the starts
 abbrev pub cell_at : Slab → ℕ → List ℕ

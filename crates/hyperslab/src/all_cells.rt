@@ -1,8 +1,9 @@
 //! The selection of every cell of a shape.
 
-ghost use Rattle.std.specs.Prelude.{◌≡◌, [], ◌∷◌, IfOk};
-ghost use Rattle.shapes.specs.Shapes.{IsSound};
-ghost use Rattle.hyperslab.specs.Selected.{IsSlab, SlabIn};
+ghost use Rattle.std.specs.Prelude.{◌≡◌, ◌<◌, ◌^◌, ℕ, List, [], ◌∷◌, All, IfOk};
+ghost use Rattle.shapes.specs.Shapes.{IsSound, cells_of};
+ghost use Rattle.shapes.specs.declared.Shape.TheVariants.{Simple};
+ghost use Rattle.hyperslab.specs.Selected.{IsSlab, SlabIn, extents, slab_cells};
 ghost use Rattle.hyperslab.specs.Judged.{whole_of, all_of};
 
 use crate::judging::bounded;
@@ -17,8 +18,12 @@ use shapes::{Dims, Shape};
 /// [`SlabFault::TooMany`], where the shape has too many cells.
 pub fn whole(shape: &Shape) -> Result<Slab, SlabFault>
     requires { IsSound shape.now }
+    ensures all { IfOk result (λ s. slab_cells s shape.now ≡ cells_of shape.now) }
+    ensures extents { (dims limits : List ℕ) → shape.now ≡ Simple dims limits
+        → IfOk result (λ s. extents s ≡ dims) }
     ensures first { result ≡ whole_of shape.now }
     ensures within { IfOk result (λ s. SlabIn s shape.now) }
+    ensures steps { IfOk result (λ s. All (λ c. c < 10 ^ 10) s.step) }
     ensures sound { IfOk result IsSlab }
 {
     match shape {

@@ -1,6 +1,6 @@
 //! Selections by lists of numbers.
 
-ghost use Rattle.std.specs.Prelude.{◌≡◌, ◌⊎◌, ℕ, List, [], Option, None, Ok, Err, IfOk};
+ghost use Rattle.std.specs.Prelude.{◌≡◌, ◌<◌, ◌^◌, ◌⊎◌, ℕ, List, [], All, Option, None, Ok, Err, IfOk};
 ghost use Rattle.json_trees.specs.Shown.{shown};
 ghost use Rattle.shapes.specs.Shapes.{IsSound, dims_of};
 ghost use Rattle.serde_json.specs.Data.{Data};
@@ -34,6 +34,7 @@ pub fn from_lists(
     ensures first { result
         ≡ lists_slab shape.now (shown start.entry) (shown stop.entry) (shown step.entry) }
     ensures within { IfOk result (λ s. SlabIn s shape.now) }
+    ensures steps { IfOk result (λ s. All (λ c. c < 10 ^ 10) s.step) }
     ensures sound { IfOk result IsSlab }
 {
     if is_scalar(shape) && is_absent(start) && is_absent(stop) && is_absent(step) {

@@ -5,6 +5,7 @@ ghost use Rattle.shapes.specs.Shapes.{IsSound, dims_of};
 ghost use Rattle.shapes.specs.declared.TheConstants.{MAX_RANK};
 ghost use Rattle.hyperslab.specs.Selected.{IsRanked, IsSlab, SlabIn};
 ghost use Rattle.hyperslab.specs.Grammar.{IsSelection, IsFirstBad, parts_slab};
+ghost use Rattle.shapes.specs.declared.Shape.{Shape};
 ghost use Rattle.shapes.specs.declared.Shape.TheVariants.{Simple};
 ghost use Rattle.hyperslab.specs.Written.{written};
 ghost use Rattle.hyperslab.specs.declared.Slab.{Slab};
@@ -87,13 +88,19 @@ pub fn read_select(text: &str, shape: &Shape) -> Result<Slab, SlabFault>
     ensures one_of { ((parts : List Part) × IsSelection text.now parts)
         ⊎ ((byte : ℕ) × IsFirstBad text.now byte) }
     ensures within { IfOk result (λ s. SlabIn s shape.now) }
+    ensures steps { IfOk result (λ s. All (λ c. c < 10 ^ 10) s.step) }
     ensures sound { IfOk result IsSlab }
 {
     first_of(text, shape)
 }
 
-/// A text has one reading or one first bad byte, and never both.
+/// A text has one reading or one first bad byte, and never both; which of them decides what is told
+/// of it and a shape.
 pub fn reading_or_fault()
+    ensures spelled { (text : List ℕ) (shape : Shape) (ps : List Part) → IsSelection text ps
+        → text_slab text shape ≡ parts_slab ps shape }
+    ensures bad { (text : List ℕ) (shape : Shape) (b : ℕ) → IsFirstBad text b
+        → text_slab text shape ≡ Err (Syntax b) }
     ensures one_reading { (text : List ℕ) (ps qs : List Part) → IsSelection text ps
         → IsSelection text qs → ps ≡ qs }
     ensures one_byte { (text : List ℕ) (b c : ℕ) → IsFirstBad text b → IsFirstBad text c → b ≡ c }

@@ -1,5 +1,5 @@
 -- The tests in order find the points that the grammar relates to the tree, and no other.
-use Rattle.std.proofs.Common.{◌≡◌, ℕ, suc, ◌+◌, ◌<◌, ◌≤◌, false, cond, inl, inr, List, [], ◌∷◌, ◌++◌, length, All, Option, Some, None, Result, Ok, Err, IfOk, IfSome, nat_lt, nat_eq, refl, sym, ap, subst, ◌∙◌, arith, add-one}
+use Rattle.std.proofs.Common.{◌≡◌, ℕ, suc, ◌+◌, ◌<◌, ◌≤◌, false, cond, inl, inr, List, [], ◌∷◌, ◌++◌, length, All, Option, Some, None, Result, Ok, Err, IfOk, nat_lt, nat_eq, refl, sym, ap, subst, ◌∙◌, arith, add-one}
 use Rattle.std.specs.List.{AllZip}
 use Rattle.std.proofs.lemmas.Bool.{eqb-true, false≢true, eq-eqb}
 use Rattle.std.proofs.lemmas.Bool.Decides.{nat_tests}
@@ -21,16 +21,6 @@ use Rattle.point_select.specs.declared.PointFault.TheVariants.{Syntax, TooMany, 
 use Rattle.point_select.specs.Points.{IsPoint, SpellsPoints, IsBadPoint, IsFirstBad}
 use Rattle.shapes.proofs.InsideLemmas.{inside_told, inside_read}
 use Rattle.point_select.specs.Faults.{coords_in, point_at, point_of, followed, points_from, points_in, counted_points, points_of, GivesPoints}
-
--- ---- coordinates
-
-read_at : (r o : Option (List ℕ)) (d : Data) → coords_in d ≡ o → IfSome r (IsDims d) → ((ns : List ℕ) → IsDims d ns → r ≡ Some ns) → r ≡ o
-read_at r (Some ns) d e told only = only ns (dims_alone_told d ns e)
-read_at None None d e told only = refl
-read_at (Some ns) None d e told only = sym (dims_alone_read d ns told) ∙ e
-
-pub coords_read : (r : Option (List ℕ)) (d : Data) → IfSome r (IsDims d) → ((ns : List ℕ) → IsDims d ns → r ≡ Some ns) → r ≡ coords_in d
-coords_read r d told only = read_at r (coords_in d) d refl told only
 
 -- ---- one point
 

@@ -1,5 +1,5 @@
 -- The cells of a shape by their places, and the order of both.
-use Rattle.std.proofs.Common.{◌≡◌, ℕ, zero, suc, ◌+◌, ◌*◌, ◌/◌, ◌%◌, ◌^◌, ◌<◌, ◌≤◌, All, List, [], ◌∷◌, length, refl, sym, ap, subst, ◌∙◌, arith}
+use Rattle.std.proofs.Common.{◌≡◌, ℕ, ◌+◌, ◌*◌, ◌/◌, ◌%◌, ◌^◌, ◌<◌, ◌≤◌, All, List, [], ◌∷◌, length, refl, sym, ap, subst, ◌∙◌, arith}
 use Rattle.std.specs.declared.cmp.Ordering.{Ordering}
 use Rattle.std.specs.declared.cmp.Ordering.TheVariants.{Less, Equal, Greater}
 use Rattle.std.specs.Ordering.{MatchOrdering, nat_cmp, ordering_then}
@@ -11,32 +11,30 @@ use Rattle.json_trees.proofs.TreeLemmas.{length-AllZip}
 use Rattle.short_lists.specs.Order.{list_order}
 use Rattle.shapes.specs.declared.Shape.{Shape}
 use Rattle.shapes.specs.declared.Shape.TheVariants.{Null, Scalar, Simple}
-use Rattle.shapes.specs.Places.{cell_count, IsInside, place, coords_of}
+use Rattle.shapes.specs.Places.{cell_count, IsInside, place, coords_of, digits_by}
 use Rattle.shapes.specs.Shapes.{IsSound, LiesIn, cells_of, cell_of, count_of, dims_of}
-use Rattle.shapes.proofs.PlaceLemmas.{cell_count-room, place_below}
+use Rattle.shapes.proofs.PlaceLemmas.{cell_count-room, place_below, some_factor}
 use Rattle.shapes.proofs.GridLemmas.{length-coordinates, coordinates-place}
 
 -- ---- each place below the count is that of some coordinates
 
-some_factor : (n c r : ℕ) → r < n * c → 0 < c
-some_factor n zero r h = absurd (omega arith)
-some_factor n (suc c) r h = omega arith
-
-some_place : (dims : List ℕ) (k : ℕ) → k < cell_count dims → (at : List ℕ) × IsInside at dims × (place at dims ≡ k)
-some_place [] k h = ([], tt, omega arith)
-some_place (n ∷ ns) k h =
-    let c = cell_count ns in
-    let more : 0 < cell_count ns = some_factor n (cell_count ns) k h in
-    let rest = some_place ns (k % c) (mod_below k c more) in
+pub digits_in : (dims : List ℕ) (k : ℕ) → k < cell_count dims → IsInside (digits_by dims k) dims × (place (digits_by dims k) dims ≡ k)
+digits_in [] k h = (tt, omega arith)
+digits_in (n ∷ ns) k h =
+    let more : 0 < cell_count ns = (some_factor n (cell_count ns) k h).1 in
+    let rest = digits_in ns (k % cell_count ns) (mod_below k (cell_count ns) more) in
     let low : k / cell_count ns < n = div_below k (cell_count ns) n more h in
-    (k / c ∷ rest.0, (low, rest.1), ap (λ m. k / c * c + m) rest.2 ∙ div-add-mod' k c)
+    ((low, rest.0), rw rest.1 (div-add-mod' k (cell_count ns)))
+
+pub digits-coords : (dims : List ℕ) (k : ℕ) → k < cell_count dims → digits_by dims k ≡ coords_of dims k
+digits-coords dims k h =
+    let lies = digits_in dims k h in
+    sym (ap (λ j. coords_of dims j) (sym lies.1) ∙ coordinates-place (digits_by dims k) dims lies.0)
 
 place_found : (dims : List ℕ) (k : ℕ) → k < cell_count dims → IsInside (coords_of dims k) dims × (place (coords_of dims k) dims ≡ k)
 place_found dims k h =
-    let found = some_place dims k h in
-    let here : coords_of dims k ≡ found.0 = ap (λ j. coords_of dims j) (sym found.2) ∙ coordinates-place found.0 dims found.1 in
     let P = λ (at : List ℕ). IsInside at dims × (place at dims ≡ k) in
-    subst P (sym here) (found.1, found.2)
+    subst P (digits-coords dims k h) (digits_in dims k h)
 
 pub coords_inside : (dims : List ℕ) (k : ℕ) → k < cell_count dims → IsInside (coords_of dims k) dims
 coords_inside dims k h = (place_found dims k h).0

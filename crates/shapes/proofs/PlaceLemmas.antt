@@ -70,7 +70,7 @@ horner_end t i at dims p h k e =
 abbrev pub GoesOn : List ℕ → List ℕ → ℕ → ℕ → ℕ → Type 0
 GoesOn dims coords i rest p = (ys : List ℕ) → IsInside ys (drop i dims) → place ys (drop i dims) ≡ rest → IsInside (coords ++ ys) dims × (place (coords ++ ys) dims ≡ p)
 
-some_factor : (n c r : ℕ) → r < n * c → (0 < n) × (0 < c)
+pub some_factor : (n c r : ℕ) → r < n * c → (0 < n) × (0 < c)
 some_factor zero c r h = absurd (omega arith)
 some_factor (suc n) zero r h = absurd (omega arith)
 some_factor (suc n) (suc c) r h = (omega arith, omega arith)

@@ -1,5 +1,5 @@
 -- The tests in order find the shape that the grammar relates to the trees, and no other.
-use Rattle.std.proofs.Common.{◌≡◌, ℕ, zero, suc, ◌≤◌, ◌&&◌, inl, inr, Bool, true, false, List, [], ◌∷◌, map, length, All, Option, Some, None, option_and_then, MatchOption, Result, Ok, Err, IfOk, IfSome, nat_le, nat_eq, codes, refl, sym, ap, subst, ◌∙◌, arith}
+use Rattle.std.proofs.Common.{◌≡◌, ℕ, zero, suc, ◌≤◌, ◌&&◌, inl, inr, true, false, List, [], ◌∷◌, map, length, All, Option, Some, None, option_and_then, MatchOption, Result, Ok, Err, IfOk, IfSome, nat_le, nat_eq, codes, refl, sym, ap, subst, ◌∙◌, arith}
 use Rattle.std.specs.Str.{bytes_eq}
 use Rattle.std.proofs.lemmas.Bool.{leb-true, le-leb, eqb-true, eq-eqb}
 use Rattle.std.proofs.lemmas.List.Elements.{All-nil, All-cons, All-head, All-tail}

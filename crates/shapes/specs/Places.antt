@@ -1,5 +1,5 @@
 -- The cells of a grid in row-major order: the last axis is the fastest.
-use Rattle.std.specs.Prelude.{ℕ, zero, suc, ◌+◌, ◌*◌, ◌<◌, ◌&&◌, Bool, true, false, nat_lt, max, List, [], ◌∷◌, map, length, slice_index, slice_index_or}
+use Rattle.std.specs.Prelude.{ℕ, zero, suc, ◌+◌, ◌*◌, ◌/◌, ◌%◌, ◌<◌, ◌&&◌, Bool, true, false, nat_lt, max, List, [], ◌∷◌, map, length, slice_index, slice_index_or}
 use Rattle.std.specs.List.{flat_map}
 use Rattle.std.specs.List.{AllZip}
 
@@ -57,3 +57,8 @@ coordinates dims = grid (map (λ n. run_from 0 n) dims)
 -- the coordinates at a place
 abbrev pub coords_of : List ℕ → ℕ → List ℕ
 coords_of dims k = slice_index_or (coordinates dims) k []
+
+-- the digits of a number, of which each counts as many cells as the axes after it have
+abbrev pub digits_by : List ℕ → ℕ → List ℕ
+digits_by [] k = []
+digits_by (n ∷ ns) k = k / cell_count ns ∷ digits_by ns (k % cell_count ns)

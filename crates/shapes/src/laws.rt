@@ -3,7 +3,7 @@
 ghost use Rattle.std.specs.Prelude.{◌≡◌, ◌≤◌, ◌<◌, ◌-◌, ◌^◌, ◌↔◌, ℕ, List, All, length, true};
 ghost use Rattle.std.specs.Ordering.{nat_cmp};
 ghost use Rattle.short_lists.specs.Order.{list_order};
-ghost use Rattle.shapes.specs.Places.{IsInside, is_inside, place};
+ghost use Rattle.shapes.specs.Places.{IsInside, is_inside, cell_count, coords_of, digits_by, place};
 ghost use Rattle.shapes.specs.Shapes.{IsSound, LiesIn, lies_in, cells_of, cell_of, count_of, dims_of};
 ghost use Rattle.shapes.specs.declared.Shape.{Shape};
 ghost use Rattle.shapes.specs.declared.TheConstants.{MAX_RANK, MAX_EXTENT, MAX_CELLS};
@@ -28,13 +28,15 @@ pub fn cells_are_inside()
 {}
 
 /// Places and cells of a shape are each other's inverse, and the order of cells is that of their
-/// places.
+/// places. The coordinates at a place are its digits.
 pub fn places_number_the_cells()
     ensures place { (s : Shape) (k : ℕ) → k < count_of s
         → place (cell_of s k) (dims_of s) ≡ k }
     ensures cell { (s : Shape) (at : List ℕ) → LiesIn at s
         → cell_of s (place at (dims_of s)) ≡ at }
     ensures below { (s : Shape) (at : List ℕ) → LiesIn at s → place at (dims_of s) < count_of s }
+    ensures digits { (dims : List ℕ) (k : ℕ) → k < cell_count dims
+        → digits_by dims k ≡ coords_of dims k }
     ensures ordered { (s : Shape) (a b : List ℕ) → LiesIn a s → LiesIn b s
         → nat_cmp (place a (dims_of s)) (place b (dims_of s)) ≡ list_order a b }
 {}

@@ -273,6 +273,7 @@ fn room(dims: &[u64]) -> u64
 pub fn read_dims(tree: &Value) -> Option<Dims>
     ensures spelled { IfSome result (IsDims (view tree.now)) }
     ensures only { (ns : List ℕ) → IsDims (view tree.now) ns → result ≡ Some ns }
+    ensures first { result ≡ option_and_then few_of (dims_in (view tree.now)) }
     ensures small { IfSome result (All (λ n. n ≤ MAX_EXTENT)) }
 {
     few_dims(tree)

@@ -1,7 +1,7 @@
 //! Short lists of whole numbers that are copied as a number is, and that contracts see as lists.
 #![tactic(auto)]
 
-ghost use Rattle.std.specs.Prelude.{◌≡◌, ◌<◌, ◌≤◌, ◌↔◌, ℕ, List, [], ◌∷◌, ◌++◌, length, slice_index, slice_set, take, replicate, IsTrue, IsSome, IfSome};
+ghost use Rattle.std.specs.Prelude.{◌≡◌, ◌<◌, ◌≤◌, ◌↔◌, ℕ, List, [], ◌∷◌, ◌++◌, length, slice_index, slice_set, take, replicate, true, IsTrue, IsSome, IfSome};
 ghost use Rattle.std.specs.Str.{bytes_eq};
 ghost use Rattle.std.proofs.Common.{rules, refl};
 ghost use Rattle.std.specs.Cmp.{IsTotalOrder, partial_order_from_agreeing_total};
@@ -186,10 +186,12 @@ impl<const N: usize> PartialOrd for ShortList<N> {
 }
 
 /// The order of the lists: it is total, tells any two lists apart, puts shorter lists first, and
-/// of lists of one length decides by the first number in which they differ.
+/// of lists of one length decides by the first number in which they differ. `==` tells the same
+/// lists apart.
 pub fn ordered_by_length_then_numbers()
     ensures total { IsTotalOrder list_order }
     ensures ties { (xs ys : List ℕ) → ((list_order xs ys ≡ Equal) ↔ (xs ≡ ys)) }
+    ensures equal { (xs ys : List ℕ) → ((bytes_eq xs ys ≡ true) ↔ (xs ≡ ys)) }
     ensures shorter { (xs ys : List ℕ) → length xs < length ys → list_order xs ys ≡ Less }
     ensures first { (front xs ys : List ℕ) (m n : ℕ) → length xs ≡ length ys → m < n
         → list_order (front ++ m ∷ xs) (front ++ n ∷ ys) ≡ Less }

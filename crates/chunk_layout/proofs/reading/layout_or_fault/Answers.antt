@@ -1,7 +1,7 @@
 -- The relation and the tests in order say the same.
 use Rattle.std.proofs.Common.{Some, None}
 use Rattle.chunk_layout.specs.Defaults.{at_least_one}
-use Rattle.chunk_layout.proofs.DefaultLemmas.{one_end}
+use Rattle.chunk_layout.proofs.DefaultLemmas.{one_end, fits_chunk}
 use Rattle.chunk_layout.proofs.LayoutLemmas.{asked_told, asked_read, not_both}
 use Rattle.chunk_layout.proofs.reading.layout_or_fault.Goals as goal
 
@@ -16,3 +16,6 @@ returns-clause-one c = λ dims xs ys size h k. one_end size (at_least_one dims) 
 
 pub returns-clause-fault : goal.returns-clause-fault
 returns-clause-fault c = λ d dims chunk size f e h. not_both d dims chunk size f e h
+
+pub returns-clause-fits : goal.returns-clause-fits
+returns-clause-fits c = λ s size chunk sound some fits. fits_chunk size s chunk sound fits some

@@ -1,11 +1,12 @@
 -- The place's coordinates among the extents are the steps taken on each axis.
 use Rattle.std.proofs.Common.{◌≡◌, List, ℕ, ap, sym, subst, ◌∙◌}
-use Rattle.shapes.specs.Places.{IsInside, place}
+use Rattle.shapes.specs.Places.{IsInside, digits_by, place}
 use Rattle.shapes.specs.Shapes.{LiesIn}
+use Rattle.shapes.proofs.CellLemmas.{digits_in}
 use Rattle.shapes.proofs.PlaceLemmas.{place_once}
-use Rattle.hyperslab.specs.Selected.{axes_of, extents, is_at, point, digits_by, cell_at}
+use Rattle.hyperslab.specs.Selected.{axes_of, extents, is_at, point, cell_at}
 use Rattle.hyperslab.proofs.SelectLemmas.{lies_inside}
-use Rattle.hyperslab.proofs.CellLemmas.{digits_in, cell_listed, cell_selected, cells_listed, cells_inside}
+use Rattle.hyperslab.proofs.CellLemmas.{cell_listed, cell_selected, cells_listed, cells_inside}
 use Rattle.hyperslab.proofs.Slab.coords.Goals as goal
 
 pub stepped-requires-clause-inside : goal.stepped-requires-clause-inside

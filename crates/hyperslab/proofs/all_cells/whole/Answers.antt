@@ -1,13 +1,14 @@
 -- Every number of each axis is selected, so the extents are the dims.
 use Rattle.std.proofs.Common.{ap, subst, sym, ◌∙◌, arith}
-use Rattle.std.specs.Prelude.{Result, IfOk}
+use Rattle.std.specs.Prelude.{◌≡◌, Result, IfOk}
 use Rattle.shapes.specs.Places.{room_of}
-use Rattle.shapes.specs.Shapes.{IsSoundGrid}
+use Rattle.shapes.specs.Shapes.{IsSoundGrid, cells_of}
 use Rattle.hyperslab.specs.declared.Slab.{Slab}
 use Rattle.hyperslab.specs.declared.SlabFault.{SlabFault}
-use Rattle.hyperslab.specs.Selected.{extents, SlabIn}
+use Rattle.hyperslab.specs.Selected.{extents, slab_cells, SlabIn}
 use Rattle.hyperslab.specs.Judged.{bounded, whole_of}
 use Rattle.hyperslab.proofs.AxisLemmas.{axes_all, extents_all}
+use Rattle.hyperslab.proofs.WholeLemmas.{whole_cells, whole_extents}
 use Rattle.hyperslab.proofs.WithinLemmas.{whole_within}
 use Rattle.hyperslab.proofs.all_cells.whole.Goals as goal
 
@@ -25,3 +26,13 @@ pub returns-in-Simple-clause-within : goal.returns-in-Simple-clause-within
 returns-in-Simple-clause-within c =
     let P = λ (r : Result Slab SlabFault). IfOk r (λ s. SlabIn s c.args.shape.now) in
     subst P (ap whole_of c.in-Simple.is ∙ sym (c.bounded.ensures.first ∙ ap bounded c.all_of_dims.ensures)) (whole_within c.args.shape.now)
+
+pub returns-in-Simple-clause-all : goal.returns-in-Simple-clause-all
+returns-in-Simple-clause-all c =
+    let P = λ (r : Result Slab SlabFault). IfOk r (λ s. slab_cells s c.args.shape.now ≡ cells_of c.args.shape.now) in
+    subst P (ap whole_of c.in-Simple.is ∙ sym (c.bounded.ensures.first ∙ ap bounded c.all_of_dims.ensures)) (whole_cells c.args.shape.now c.requires)
+
+pub returns-in-Simple-clause-extents : goal.returns-in-Simple-clause-extents
+returns-in-Simple-clause-extents c = λ dims limits e.
+    (let P = λ (r : Result Slab SlabFault). IfOk r (λ s. extents s ≡ dims) in
+    subst P (ap whole_of c.in-Simple.is ∙ sym (c.bounded.ensures.first ∙ ap bounded c.all_of_dims.ensures)) (whole_extents c.args.shape.now dims limits e))
