@@ -1,0 +1,12 @@
+//! Arrays: grids of cells with elements of one type, of which the cells that were never written have a fill, and which
+//! know which of their chunks have changed (HDF5 user guide, "Datasets" and "Chunked storage layout").
+#![tactic(auto)]
+
+mod cells;
+mod laws;
+mod picks;
+mod plain;
+mod walks;
+
+pub use laws::arrays_same;
+pub use plain::PlainArray;
