@@ -1,27 +1,20 @@
 -- Arrays as functions of the cell.
-use Rattle.std.proofs.Common.{◌≡◌, ℕ, ◌<◌, List, [], ◌∷◌, ◌++◌, map, length, get_or, Option, Result, Ok, Err, OnErr, refl, ap, ◌∙◌}
+use Rattle.std.proofs.Common.{◌≡◌, ℕ, ◌<◌, List, [], ◌∷◌, ◌++◌, map, length, Option, Result, Ok, Err, OnErr, refl, ap, ◌∙◌}
 use Rattle.std.specs.List.{AllByRecursion, flat_map}
 use Rattle.std.proofs.lemmas.List.{get_or-map}
 use Rattle.hdf_types.specs.Elems.{Elem}
 use Rattle.shapes.specs.declared.Shape.{Shape}
-use Rattle.shapes.specs.declared.Shape.TheVariants.{Null, Scalar, Simple}
-use Rattle.shapes.specs.Places.{place, IsInside}
-use Rattle.shapes.specs.Shapes.{LiesIn, cells_of}
-use Rattle.shapes.proofs.PlaceLemmas.{place_below}
-use Rattle.shapes.proofs.GridLemmas.{length-coordinates, coordinates-place}
+use Rattle.shapes.specs.Places.{place}
+use Rattle.shapes.specs.Shapes.{LiesIn, cells_of, dims_of}
+use Rattle.shapes.proofs.CellLemmas.{cells_length, cell-place, place_counted}
 use Rattle.chunk_store.specs.Grids.{tabulated, value_at}
 use Rattle.chunk_store.proofs.PickLemmas.{cells_inside}
 
-grid_value : (f : List ℕ → List ℕ) (at dims : List ℕ) → IsInside at dims → get_or (map f (cells_of (Simple dims dims))) (place at dims) [] ≡ f at
-grid_value f at dims h =
-    let low : place at dims < length (cells_of (Simple dims dims)) = rw (length-coordinates dims) (place_below at dims h) in
-    get_or-map f (cells_of (Simple dims dims)) (place at dims) [] [] low ∙ ap f (coordinates-place at dims h)
-
 -- a cell has the bytes that the function gives
 pub value-tabulated : (e : Elem) (s : Shape) (c : List ℕ) (fill : Option (List ℕ)) (f : List ℕ → List ℕ) (at : List ℕ) → LiesIn at s → value_at (tabulated e s c fill f) at ≡ f at
-value-tabulated e Null c fill f at h = absurd h
-value-tabulated e Scalar c fill f at h = grid_value f at [] h
-value-tabulated e (Simple dims limits) c fill f at h = grid_value f at dims h
+value-tabulated e s c fill f at h =
+    let low : place at (dims_of s) < length (cells_of s) = rw (cells_length s) (place_counted s at h) in
+    get_or-map f (cells_of s) (place at (dims_of s)) [] [] low ∙ ap f (cell-place s at h)
 
 map_same : {A B : Type 0} (P : A → Type 0) (f g : A → B) → ((x : A) → P x → f x ≡ g x) → (xs : List A) → AllByRecursion P xs → map f xs ≡ map g xs
 map_same P f g h [] each = refl

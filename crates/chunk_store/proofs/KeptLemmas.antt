@@ -17,15 +17,16 @@ use Rattle.hdf_values.proofs.EncodedLemmas.{length-encoded}
 use Rattle.hdf_values.proofs.ElementLemmas.{zero_fits}
 use Rattle.shapes.specs.declared.Shape.{Shape}
 use Rattle.shapes.specs.declared.Shape.TheVariants.{Null, Scalar, Simple}
-use Rattle.shapes.specs.Shapes.{IsSound, LiesIn, IsWithin, IsResized, cells_of, dims_of}
+use Rattle.shapes.specs.Shapes.{IsSound, LiesIn, lies_in, IsWithin, IsResized, cells_of, dims_of}
 use Rattle.chunk_layout.specs.Layouts.{Fits}
-use Rattle.chunk_store.specs.Cells.{find_in, has, value_in, is_below}
-use Rattle.chunk_store.proofs.KeyLemmas.{below_told, below_read}
+use Rattle.chunk_store.specs.Cells.{find_in, has, value_in}
+use Rattle.shapes.proofs.InsideLemmas.{lies_told, lies_read}
 use Rattle.chunk_store.specs.declared.picks.Picks.{Picks}
 use Rattle.chunk_store.specs.Grids.{Grid, tabulated, value_at, reads, written, writes, with_dims, cut_to, blank_of, all_fill, IsWhole}
 use Rattle.chunk_store.specs.Picked.{picked, PicksIn}
 use Rattle.chunk_store.specs.Kept.{IsKept, given_fill}
-use Rattle.chunk_store.proofs.PickLemmas.{picked_inside, cells_length}
+use Rattle.shapes.proofs.CellLemmas.{cells_length}
+use Rattle.chunk_store.proofs.PickLemmas.{picked_inside}
 use Rattle.chunk_store.proofs.GridLemmas.{value-tabulated, tabulated_same, reads_same}
 use Rattle.chunk_store.proofs.WriteLemmas.{written_on, written_each, read_encoded}
 
@@ -118,18 +119,10 @@ same_rank Null t dims h k = absurd k
 same_rank Scalar t dims h k = absurd k
 same_rank (Simple old limits) t dims h k = zip_length old limits h.fitting.within ∙ sym (zip_length dims limits k.1) ∙ ap (λ x. length (dims_of x)) (sym k.0)
 
-lies_resized : (s t : Shape) (dims at : List ℕ) → IsResized s dims t → (is_below at dims ≡ true → LiesIn at t) × (LiesIn at t → is_below at dims ≡ true)
-lies_resized Null t dims at h = absurd h
-lies_resized Scalar t dims at h = absurd h
-lies_resized (Simple old limits) t dims at h = (
-  λ b. subst (λ (x : Shape). LiesIn at x) (sym h.0) (below_told at dims b),
-  λ lies. below_read at dims (subst (λ (x : Shape). LiesIn at x) h.0 lies),
-)
-
-lies_below_dims : (s t : Shape) (dims at : List ℕ) → IsResized s dims t → (is_below at (dims_of s) ≡ true → LiesIn at s) × (LiesIn at s → is_below at (dims_of s) ≡ true)
-lies_below_dims Null t dims at h = absurd h
-lies_below_dims Scalar t dims at h = absurd h
-lies_below_dims (Simple old limits) t dims at h = (λ b. below_told at old b, λ lies. below_read at old lies)
+pub new_rank : (s t : Shape) (dims : List ℕ) → IsSound s → IsResized s dims t → length dims ≡ length (dims_of s)
+new_rank Null t dims h k = absurd k
+new_rank Scalar t dims h k = absurd k
+new_rank (Simple old limits) t dims h k = sym (same_rank (Simple old limits) t dims h k ∙ ap (λ x. length (dims_of x)) k.0)
 
 chosen_value : (blank : List ℕ) (b : Bool) (o : Option (Vec ℕ Global)) → option_map_or (λ v. v.items) (cond b o None) blank ≡ cond b (option_map_or (λ v. v.items) o blank) blank
 chosen_value blank true o = refl
@@ -138,7 +131,7 @@ chosen_value blank false o = refl
 pub cut_value : (m n : Cells) (blank : List ℕ) (p : List ℕ → Bool) → ((q : List ℕ) → find_in n q ≡ cond (p q) (find_in m q) None) → (q : List ℕ) → value_in n blank q ≡ cond (p q) (value_in m blank q) blank
 cut_value m n blank p h q = ap (λ o. option_map_or (λ v. v.items) o blank) (h q) ∙ chosen_value blank (p q) (find_in m q)
 
-absent_value : (blank : List ℕ) (o : Option (Vec ℕ Global)) → (is_some o ≡ true → ⊥) → option_map_or (λ v. v.items) o blank ≡ blank
+pub absent_value : (blank : List ℕ) (o : Option (Vec ℕ Global)) → (is_some o ≡ true → ⊥) → option_map_or (λ v. v.items) o blank ≡ blank
 absent_value blank None h = refl
 absent_value blank (Some v) h = absurd (h refl)
 
@@ -151,7 +144,7 @@ chosen_some true o h = refl
 chosen_some false o h = h
 
 pub kept_cut : (e : Elem) (s t : Shape) (c : List ℕ) (given : Bool) (blank : List ℕ) (size : ℕ) (m n : Cells) (dims : List ℕ) → IsKept e s c given blank size m → IsResized s dims t → IsSound t
-    → ((q : List ℕ) → find_in n q ≡ cond (is_below q dims) (find_in m q) None) → IsKept e t c given blank size n
+    → ((q : List ℕ) → find_in n q ≡ cond (lies_in q t) (find_in m q) None) → IsKept e t c given blank size n
 kept_cut e s t c given blank size m n dims kept re sound h = record {
   kind = kept.kind;
   shape = sound;
@@ -159,28 +152,33 @@ kept_cut e s t c given blank size m n dims kept re sound h = record {
   sized = kept.sized;
   unwritten = kept.unwritten;
   blank_encoded = kept.blank_encoded;
-  encoded = λ q. subst (IsEncoded e) (sym (cut_value m n blank (λ p. is_below p dims) h q)) (chosen_encoded e (is_below q dims) (value_in m blank q) blank (kept.encoded q) kept.blank_encoded);
-  inside = λ q there. (lies_resized s t dims q re).0 (chosen_some (is_below q dims) (find_in m q) (sym (ap is_some (h q)) ∙ there));
+  encoded = λ q. subst (IsEncoded e) (sym (cut_value m n blank (λ p. lies_in p t) h q)) (chosen_encoded e (lies_in q t) (value_in m blank q) blank (kept.encoded q) kept.blank_encoded);
+  inside = λ q there. lies_told q t (chosen_some (lies_in q t) (find_in m q) (sym (ap is_some (h q)) ∙ there));
 }
 
+-- what the map gives to a cell outside the shape is the fill
+pub absent_blank : (e : Elem) (s : Shape) (c : List ℕ) (given : Bool) (blank : List ℕ) (size : ℕ) (m : Cells) → IsKept e s c given blank size m → (at : List ℕ) → lies_in at s ≡ false → value_in m blank at ≡ blank
+absent_blank e s c given blank size m kept at out =
+    absent_value blank (find_in m at) (λ there. let both : true ≡ false = sym (lies_read at s (kept.inside at there)) ∙ out in cc)
+
 pub cut_view : (a : Grid) (e : Elem) (s t : Shape) (c : List ℕ) (given : Bool) (blank : List ℕ) (size : ℕ) (m n : Cells) (dims : List ℕ) → IsKept e s c given blank size m → IsResized s dims t
-    → ((q : List ℕ) → find_in n q ≡ cond (is_below q dims) (find_in m q) None) → tabulated e s c (given_fill given blank) (value_in m blank) ≡ a
+    → ((q : List ℕ) → find_in n q ≡ cond (lies_in q t) (find_in m q) None) → tabulated e s c (given_fill given blank) (value_in m blank) ≡ a
     → tabulated e t c (given_fill given blank) (value_in n blank) ≡ cut_to a dims
 cut_view a e s t c given blank size m n dims kept re h is =
+    let old = tabulated e s c (given_fill given blank) (value_in m blank) in
     subst (λ (x : Grid). tabulated e t c (given_fill given blank) (value_in n blank) ≡ cut_to x dims) is
     (ap (λ x. tabulated e x c (given_fill given blank) (value_in n blank)) (resized_is s t dims re)
     ∙ tabulated_same e (with_dims s dims) c (given_fill given blank) (value_in n blank)
-    (λ at. cond (is_below at (dims_of s)) (value_at (tabulated e s c (given_fill given blank) (value_in m blank)) at) (blank_of e (given_fill given blank))) (λ at lies.
-    let new_below = (lies_resized s t dims at re).1 (subst (λ (x : Shape). LiesIn at x) (sym (resized_is s t dims re)) lies) in
-    let found : value_in n blank at ≡ value_in m blank at = cut_value m n blank (λ p. is_below p dims) h at ∙ ap (λ b. cond b (value_in m blank at) blank) new_below in
-    elim (cases_Bool (is_below at (dims_of s))) [
-      | inl old ↦
-          found ∙ sym (value-tabulated e s c (given_fill given blank) (value_in m blank) at ((lies_below_dims s t dims at re).0 old))
-          ∙ sym (ap (λ b. cond b (value_at (tabulated e s c (given_fill given blank) (value_in m blank)) at) (blank_of e (given_fill given blank))) old)
+    (λ at. cond (lies_in at s) (value_at (tabulated e s c (given_fill given blank) (value_in m blank)) at) (blank_of e (given_fill given blank))) (λ at lies.
+    let new_lies = lies_read at t (subst (λ (x : Shape). LiesIn at x) (sym (resized_is s t dims re)) lies) in
+    let found : value_in n blank at ≡ value_in m blank at = cut_value m n blank (λ p. lies_in p t) h at ∙ ap (λ b. cond b (value_in m blank at) blank) new_lies in
+    elim (cases_Bool (lies_in at s)) [
+      | inl inside ↦
+          found ∙ sym (value-tabulated e s c (given_fill given blank) (value_in m blank) at (lies_told at s inside))
+          ∙ sym (ap (λ b. cond b (value_at old at) (blank_of e (given_fill given blank))) inside)
       | inr outside ↦
-          found ∙ absent_value blank (find_in m at) (λ there. let both : true ≡ false = sym ((lies_below_dims s t dims at re).1 (kept.inside at there)) ∙ outside in cc)
-          ∙ given_blank e given blank kept.unwritten
-          ∙ sym (ap (λ b. cond b (value_at (tabulated e s c (given_fill given blank) (value_in m blank)) at) (blank_of e (given_fill given blank))) outside)
+          found ∙ absent_blank e s c given blank size m kept at outside ∙ given_blank e given blank kept.unwritten
+          ∙ sym (ap (λ b. cond b (value_at old at) (blank_of e (given_fill given blank))) outside)
     ]))
 
 module _ (e : Elem) (s : Shape) (c : List ℕ) (given : Bool) (blank : List ℕ) (size : ℕ) (m : Cells) (kept : IsKept e s c given blank size m) where

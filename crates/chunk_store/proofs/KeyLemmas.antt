@@ -1,5 +1,5 @@
 -- Coordinates as keys of a sorted map.
-use Rattle.std.proofs.Common.{◌≡◌, ℕ, suc, ◌+◌, ◌<◌, ◌&&◌, true, false, cond, List, [], ◌∷◌, length, drop, get_or, ◌≤◌, Bool, is_eq, is_some, bytes_eq, nat_lt, Option, Some, None, refl, sym, ap, ◌∙◌, ◌⊎◌, inl, inr}
+use Rattle.std.proofs.Common.{◌≡◌, ℕ, true, false, cond, List, [], ◌∷◌, Bool, is_eq, is_some, bytes_eq, Option, Some, None, refl, sym, ap, ◌∙◌, ◌⊎◌, inl, inr}
 use Rattle.std.specs.List.{filter}
 use Rattle.std.specs.Option.{option_map_or}
 use Rattle.std.specs.Map.{lookup}
@@ -9,20 +9,9 @@ use Rattle.std.specs.declared.alloc.Global.{Global}
 use Rattle.std.proofs.lemmas.Map.Entries.{lookup-filter-keys}
 use Rattle.std.proofs.lemmas.Slice.Eq.{bytes_eq-Decides}
 use Rattle.std.proofs.lemmas.Bool.{cases_Bool}
-use Rattle.std.proofs.lemmas.List.{drop_more, drop_all}
-use Rattle.std.proofs.lemmas.Bool.{lt-ltb, le-ltb}
-use Rattle.shapes.specs.Places.{IsInside}
-use borrow.Author.Tests.{ltb-true}
 use Rattle.short_lists.specs.Order.{list_order}
 use Rattle.short_lists.specs.OrderLaws.{equal_where_tied}
-use Rattle.chunk_store.specs.Cells.{find_in, value_in, has, put, is_below}
-
-both_are : (a b : Bool) → (a && b) ≡ true → (a ≡ true) × (b ≡ true)
-both_are true b h = (refl, h)
-both_are false b h = absurd (let e : false ≡ true = h in cc)
-
-both_from : (a b : Bool) → a ≡ true → b ≡ true → (a && b) ≡ true
-both_from a b h k = rw (h, k) refl
+use Rattle.chunk_store.specs.Cells.{find_in, value_in, has, put}
 
 -- the order of keys ties equal lists alone
 pub agree : (x y : List ℕ) → is_eq (list_order x y) ≡ bytes_eq x y
@@ -65,7 +54,7 @@ put_same f k v e q = elim (put_cases f k v q) [
   | inr other ↦ other
 ]
 
-none_from : {A : Type 0} (o : Option A) → is_some o ≡ false → o ≡ None
+pub none_from : {A : Type 0} (o : Option A) → is_some o ≡ false → o ≡ None
 none_from None h = refl
 none_from (Some x) h = absurd (let e : true ≡ false = h in cc)
 
@@ -111,40 +100,6 @@ value_found m q blank o e = ap (λ (p : Option (Vec ℕ Global)). option_map_or 
 pub kept_tests : {X : Type 0} (m n : BTreeMap (List ℕ) X) (p : List ℕ → Bool) → n.entries ≡ filter (λ e. p e.0) m.entries → (q : List ℕ) → find_in n q ≡ cond (p q) (find_in m q) None
 kept_tests m n p e q =
     ap (lookup (bytes_eq q)) e ∙ lookup-filter-keys (bytes_eq q) p (p q) (λ k h. ap p (sym ((bytes_eq-Decides q k).0 h))) m.entries
-
--- ---- the walk over the axes
-
-pub below_next : (i : ℕ) (xs ns : List ℕ) → i < length xs → i < length ns → get_or xs i 0 < get_or ns i 0 → is_below (drop i xs) (drop i ns) ≡ is_below (drop (i + 1) xs) (drop (i + 1) ns)
-below_next i xs ns h k low = rw (drop_more xs i 0 h, drop_more ns i 0 k) (ap (λ b. b && is_below (drop (i + 1) xs) (drop (i + 1) ns)) (lt-ltb (get_or xs i 0) (get_or ns i 0) low))
-
-pub below_here : (i : ℕ) (xs ns : List ℕ) → i < length xs → i < length ns → get_or ns i 0 ≤ get_or xs i 0 → is_below (drop i xs) (drop i ns) ≡ false
-below_here i xs ns h k high = rw (drop_more xs i 0 h, drop_more ns i 0 k) (ap (λ b. b && is_below (drop (i + 1) xs) (drop (i + 1) ns)) (le-ltb (get_or xs i 0) (get_or ns i 0) high))
-
-pub below_end : (i : ℕ) (xs ns : List ℕ) → length xs ≤ i → length ns ≤ i → is_below (drop i xs) (drop i ns) ≡ true
-below_end i xs ns h k = rw (drop_all i xs h, drop_all i ns k) refl
-
-pub below_ranked : (xs ns : List ℕ) → (length xs ≡ length ns → ⊥) → is_below xs ns ≡ false
-below_ranked [] [] h = absurd (h refl)
-below_ranked [] (n ∷ ns) h = refl
-below_ranked (x ∷ xs) [] h = refl
-below_ranked (x ∷ xs) (n ∷ ns) h = elim (cases_Bool (nat_lt x n)) [
-  | inl y ↦ ap (λ b. b && is_below xs ns) y ∙ below_ranked xs ns (λ e. h (ap suc e))
-  | inr high ↦ ap (λ b. b && is_below xs ns) high
-]
-
-pub below_told : (xs ns : List ℕ) → is_below xs ns ≡ true → IsInside xs ns
-below_told [] [] e = tt
-below_told [] (n ∷ ns) e = absurd (let f : false ≡ true = e in cc)
-below_told (x ∷ xs) [] e = absurd (let f : false ≡ true = e in cc)
-below_told (x ∷ xs) (n ∷ ns) e =
-    let both = both_are (nat_lt x n) (is_below xs ns) e in
-    (ltb-true x n both.0, below_told xs ns both.1)
-
-pub below_read : (xs ns : List ℕ) → IsInside xs ns → is_below xs ns ≡ true
-below_read [] [] h = refl
-below_read [] (n ∷ ns) h = absurd h
-below_read (x ∷ xs) [] h = absurd h
-below_read (x ∷ xs) (n ∷ ns) h = both_from (nat_lt x n) (is_below xs ns) (lt-ltb x n h.0) (below_read xs ns h.1)
 
 pub not_gone : {X : Type 0} (m : BTreeMap (List ℕ) X) (q : List ℕ) (o : Option X) → o ≡ get_by (list_order q) m → has m q ≡ true → is_some o ≡ false → ⊥
 not_gone m q o e there none =

@@ -4,3 +4,10 @@ pub mod KeptLemmas
 pub mod PickLemmas
 pub mod SameLemmas
 pub mod WriteLemmas
+mod CutLemmas
+mod TrackLemmas
+mod InstallLemmas
+mod NextLemmas
+mod ChunkLemmas
+mod MarkLemmas
+mod ArrayLemmas

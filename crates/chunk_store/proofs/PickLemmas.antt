@@ -1,15 +1,13 @@
 -- Picked cells lie in the shape, and there are as many as said.
-use Rattle.std.proofs.Common.{◌≡◌, ℕ, zero, suc, ◌+◌, ◌<◌, ◌≤◌, ◌^◌, Bool, true, false, cond, List, [], ◌∷◌, ◌++◌, map, length, take, drop, get_or, All, refl, sym, subst, arith}
-use Rattle.std.specs.List.{AllByRecursion, flat_map, filter}
+use Rattle.std.proofs.Common.{◌≡◌, ℕ, zero, suc, ◌+◌, ◌<◌, ◌≤◌, ◌^◌, Bool, true, false, cond, List, [], ◌∷◌, ◌++◌, length, take, drop, get_or, All, sym, subst, arith}
+use Rattle.std.specs.List.{AllByRecursion, filter}
 use Rattle.std.proofs.lemmas.List.{length-take-le, length-drop}
 use Rattle.std.proofs.lemmas.List.Elements.{All-head, All-tail}
 use Rattle.shapes.specs.declared.Shape.{Shape}
 use Rattle.shapes.specs.declared.Shape.TheVariants.{Null, Scalar, Simple}
-use Rattle.shapes.specs.declared.TheConstants.{MAX_CELLS}
-use Rattle.shapes.specs.Places.{cell_count, IsInside, run_from, coordinates}
+use Rattle.shapes.specs.Places.{cell_count, IsInside, coordinates}
 use Rattle.shapes.specs.Shapes.{IsSound, LiesIn, cells_of, count_of}
-use Rattle.shapes.proofs.PlaceLemmas.{cell_count-room}
-use Rattle.shapes.proofs.GridLemmas.{length-coordinates}
+use Rattle.shapes.proofs.CellLemmas.{cells_length, count_small, cells_inside as all_inside}
 use Rattle.hyperslab.specs.declared.Slab.{Slab}
 use Rattle.hyperslab.specs.Selected.{IsSlab, axes_of, extents, is_at}
 use Rattle.hyperslab.proofs.SelectLemmas.{selected_count}
@@ -53,24 +51,11 @@ each_all P (x ∷ xs) h = (All-head P x xs h, each_all P xs (All-tail P x xs h))
 
 -- ---- all coordinates are inside
 
-row_inside : (s n : ℕ) (ns : List ℕ) (rest : List (List ℕ)) → s < n → AllByRecursion (λ at. IsInside at ns) rest → AllByRecursion (λ at. IsInside at (n ∷ ns)) (map (λ r. s ∷ r) rest)
-row_inside s n ns [] low h = tt
-row_inside s n ns (r ∷ rest) low h = ((low, h.0), row_inside s n ns rest low h.1)
-
-rows_inside : (n : ℕ) (ns : List ℕ) (rest : List (List ℕ)) → AllByRecursion (λ at. IsInside at ns) rest → (s m : ℕ) → s + m ≤ n → AllByRecursion (λ at. IsInside at (n ∷ ns)) (flat_map (λ x. map (λ r. x ∷ r) rest) (run_from s m))
-rows_inside n ns rest h s zero le = tt
-rows_inside n ns rest h s (suc m) le =
-    each_append (λ at. IsInside at (n ∷ ns)) (map (λ r. s ∷ r) rest) (flat_map (λ x. map (λ r. x ∷ r) rest) (run_from (suc s) m))
-    (row_inside s n ns rest (omega arith) h) (rows_inside n ns rest h (suc s) m (omega arith))
+pub cells_inside : (s : Shape) → AllByRecursion (λ at. LiesIn at s) (cells_of s)
+cells_inside s = each_all (λ at. LiesIn at s) (cells_of s) (all_inside s)
 
 pub coordinates_inside : (dims : List ℕ) → AllByRecursion (λ at. IsInside at dims) (coordinates dims)
-coordinates_inside [] = (tt, tt)
-coordinates_inside (n ∷ ns) = rows_inside n ns (coordinates ns) (coordinates_inside ns) 0 n (omega arith)
-
-pub cells_inside : (s : Shape) → AllByRecursion (λ at. LiesIn at s) (cells_of s)
-cells_inside Null = tt
-cells_inside Scalar = coordinates_inside []
-cells_inside (Simple dims limits) = coordinates_inside dims
+coordinates_inside dims = cells_inside (Simple dims dims)
 
 -- ---- picked cells
 
@@ -83,16 +68,6 @@ pub picked_inside : (p : Picks) (s : Shape) → PicksIn p s → AllByRecursion (
 picked_inside (picks.Slab b) s h = slab_inside b s
 picked_inside (picks.Points ps) s h = each_all (λ at. LiesIn at s) ps.now h.1
 picked_inside (picks.Places from many) s h = each_take (λ at. LiesIn at s) many (drop from (cells_of s)) (each_drop (λ at. LiesIn at s) from (cells_of s) (cells_inside s))
-
-pub cells_length : (s : Shape) → length (cells_of s) ≡ count_of s
-cells_length Null = refl
-cells_length Scalar = length-coordinates []
-cells_length (Simple dims limits) = length-coordinates dims
-
-pub count_small : (s : Shape) → IsSound s → count_of s ≤ MAX_CELLS
-count_small Null h = omega arith
-count_small Scalar h = omega arith
-count_small (Simple dims limits) h = omega (arith, cell_count-room dims, h.fitting.room)
 
 pub places_length : (from many : ℕ) (s : Shape) → from + many ≤ count_of s → many ≡ length (cells_from from many s)
 places_length from many s h =

@@ -1,5 +1,5 @@
 -- Maps from coordinates to bytes, seen as functions.
-use Rattle.std.specs.Prelude.{ℕ, List, [], ◌∷◌, Bool, true, false, cond, ◌&&◌, nat_lt, Option, is_some}
+use Rattle.std.specs.Prelude.{ℕ, List, Bool, cond, Option, is_some}
 use Rattle.std.specs.Option.{option_map_or}
 use Rattle.std.specs.Str.{bytes_eq}
 use Rattle.std.specs.Map.{lookup}
@@ -22,10 +22,3 @@ has m q = is_some (find_in m q)
 -- the bytes at a key, or these where the map has none
 abbrev pub value_in : BTreeMap (List ℕ) (Vec ℕ Global) → List ℕ → List ℕ → List ℕ
 value_in m blank q = option_map_or (λ v. v.items) (find_in m q) blank
-
--- each coordinate below its dim
-abbrev pub is_below : List ℕ → List ℕ → Bool
-is_below [] [] = true
-is_below [] (n ∷ ns) = false
-is_below (x ∷ xs) [] = false
-is_below (x ∷ xs) (n ∷ ns) = nat_lt x n && is_below xs ns

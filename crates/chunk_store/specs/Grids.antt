@@ -10,8 +10,8 @@ use Rattle.chunk_layout.specs.Chunks.{IsChunkDim}
 use Rattle.shapes.specs.declared.Shape.{Shape}
 use Rattle.shapes.specs.declared.Shape.TheVariants.{Null, Scalar, Simple}
 use Rattle.shapes.specs.Places.{place}
-use Rattle.shapes.specs.Shapes.{IsSound, LiesIn, cells_of, count_of, dims_of}
-use Rattle.chunk_store.specs.Cells.{put, is_below}
+use Rattle.shapes.specs.Shapes.{IsSound, LiesIn, lies_in, cells_of, count_of, dims_of}
+use Rattle.chunk_store.specs.Cells.{put}
 
 -- an array: the last part has the bytes of each cell, in row-major order
 pub record Grid : Type 0 where
@@ -60,9 +60,9 @@ with_dims Null dims = Null
 with_dims Scalar dims = Scalar
 with_dims (Simple old limits) dims = Simple dims limits
 
--- a cell that both dims have keeps its bytes, and any other has the fill
+-- a cell that the old dims have too keeps its bytes, and any other has the fill
 abbrev pub cut_to : Grid → List ℕ → Grid
-cut_to h dims = tabulated h.kind (with_dims h.shape dims) h.chunk h.fill (λ at. cond (is_below at (dims_of h.shape)) (value_at h at) (blank_of h.kind h.fill))
+cut_to h dims = tabulated h.kind (with_dims h.shape dims) h.chunk h.fill (λ at. cond (lies_in at h.shape) (value_at h at) (blank_of h.kind h.fill))
 
 -- what is true of every array
 pub record IsWhole (h : Grid) : Type 0 where

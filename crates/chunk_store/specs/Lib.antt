@@ -2,6 +2,8 @@ pub mod Cells
 pub mod Grids
 pub mod Picked
 pub mod Kept
+pub mod Indexes
+pub mod Marks
 pub use Rattle.hyperslab.specs.Selected
 pub use Rattle.hdf_values.specs.Nested
 pub use Rattle.hdf_values.specs.Elements

@@ -1,11 +1,10 @@
 //! Maps from coordinates to bytes.
-#![tactic(auto)]
 
 ghost use Rattle.std.specs.Prelude.{◌≡◌, ◌⊎◌, ℕ, List, [], length, true, cond, Some, None, IfOk, OnOk, OnErr};
-ghost use Rattle.shapes.specs.Places.{IsInside};
-ghost use Rattle.chunk_store.specs.Cells.{put, find_in, has, value_in, is_below};
+ghost use Rattle.shapes.specs.Shapes.{lies_in};
+ghost use Rattle.chunk_store.specs.Cells.{put, find_in, has, value_in};
 
-use shapes::Dims;
+use shapes::{Dims, Shape};
 use std::alloc::{AllocError, Global};
 use std::collections::BTreeMap;
 
@@ -48,7 +47,8 @@ pub fn add_missing(
 pub fn overwrite(cells: &mut Cells, at: &Dims, bytes: &[u8])
     requires there { has cells.old at.now ≡ true }
     requires size { length (value_in cells.old [] at.now) ≡ length bytes.now }
-    ensures written { (blank q : List ℕ) → value_in cells.new blank q ≡ put (value_in cells.old blank) at.now bytes.now q }
+    ensures written { (blank q : List ℕ)
+        → value_in cells.new blank q ≡ put (value_in cells.old blank) at.now bytes.now q }
     ensures keys { (q : List ℕ) → has cells.new q ≡ has cells.old q }
 {
     let Some(kept) = cells.get_mut(at) else {
@@ -57,23 +57,10 @@ pub fn overwrite(cells: &mut Cells, at: &Dims, bytes: &[u8])
     kept.as_mut_slice().copy_from_slice(bytes);
 }
 
-fn lies_below(at: &Dims, dims: &Dims) -> bool
-    ensures { result ≡ is_below at.now dims.now }
+/// Keeps the cells of a shape alone.
+pub fn keep_inside(cells: &mut Cells, shape: &Shape)
+    ensures { (q : List ℕ) → find_in cells.new q
+        ≡ cond (lies_in q shape.now) (find_in cells.old q) None }
 {
-    if at.len() != dims.len() {
-        return false;
-    }
-    for axis in 0..at.len() {
-        if at.get(axis) >= dims.get(axis) {
-            return false;
-        }
-    }
-    true
-}
-
-/// Keeps the cells inside dims alone.
-pub fn keep_inside(cells: &mut Cells, dims: &Dims)
-    ensures { (q : List ℕ) → find_in cells.new q ≡ cond (is_below q dims.now) (find_in cells.old q) None }
-{
-    cells.retain(|at, _| lies_below(at, dims));
+    cells.retain(|at, _| shape.contains(at));
 }

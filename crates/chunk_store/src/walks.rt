@@ -22,7 +22,8 @@ pub(crate) fn read_cells(
 ) -> Result<Vec<u8>, AllocError>
     requires sound { IsSound shape.now }
     requires picks { PicksIn picks.now shape.now }
-    ensures { IfOk result (λ v. v.items ≡ flat_map (value_in cells.now blank.now) (picked picks.now shape.now)) }
+    ensures { IfOk result (λ v. v.items
+        ≡ flat_map (value_in cells.now blank.now) (picked picks.now shape.now)) }
 {
     let mut out = Vec::new(alloc);
     for k in 0..many(picks, shape) {
@@ -43,8 +44,10 @@ pub(crate) fn grow(
     requires sound { IsSound shape.now }
     requires picks { PicksIn picks.now shape.now }
     ensures same { (q : List ℕ) → value_in cells.new blank.now q ≡ value_in cells.old blank.now q }
-    ensures inside { (q : List ℕ) → has cells.new q ≡ true → LiesIn q shape.now ⊎ (has cells.old q ≡ true) }
-    ensures there { OnOk result ((k : ℕ) → k < length (picked picks.now shape.now) → has cells.new (slice_index_or (picked picks.now shape.now) k []) ≡ true) }
+    ensures inside { (q : List ℕ) → has cells.new q ≡ true
+        → LiesIn q shape.now ⊎ (has cells.old q ≡ true) }
+    ensures there { OnOk result ((k : ℕ) → k < length (picked picks.now shape.now)
+        → has cells.new (slice_index_or (picked picks.now shape.now) k []) ≡ true) }
 {
     for k in 0..many(picks, shape) {
         let at = pick(picks, shape, k);
@@ -58,9 +61,13 @@ pub(crate) fn fill(cells: &mut Cells, shape: &Shape, picks: &Picks, bytes: &[u8]
     requires sound { IsSound shape.now }
     requires picks { PicksIn picks.now shape.now }
     requires whole { length bytes.now ≡ length (picked picks.now shape.now) * size }
-    requires sizes { (q : List ℕ) → has cells.old q ≡ true → length (value_in cells.old [] q) ≡ size }
-    requires there { (k : ℕ) → k < length (picked picks.now shape.now) → has cells.old (slice_index_or (picked picks.now shape.now) k []) ≡ true }
-    ensures written { (blank q : List ℕ) → value_in cells.new blank q ≡ written (value_in cells.old blank) size (picked picks.now shape.now) bytes.now q }
+    requires sizes { (q : List ℕ) → has cells.old q ≡ true
+        → length (value_in cells.old [] q) ≡ size }
+    requires there { (k : ℕ) → k < length (picked picks.now shape.now)
+        → has cells.old (slice_index_or (picked picks.now shape.now) k []) ≡ true }
+    ensures written { (blank q : List ℕ)
+        → value_in cells.new blank q
+        ≡ written (value_in cells.old blank) size (picked picks.now shape.now) bytes.now q }
     ensures keys { (q : List ℕ) → has cells.new q ≡ has cells.old q }
 {
     let mut rest = bytes;
