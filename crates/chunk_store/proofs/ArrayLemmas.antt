@@ -1,0 +1,86 @@
+-- Marks and the indexes that they have, after each call.
+use Rattle.std.proofs.Common.{◌≡◌, ℕ, Bool, true, false, cond, is_some, List, [], length, Option, Some, None, IsSome, Result, Ok, Err, OnOk, bytes_eq, refl, sym, ap, subst, ◌∙◌, ◌⊎◌, inl, inr}
+use Rattle.std.specs.List.{AllByRecursion}
+use Rattle.std.specs.Map.{lookup}
+use Rattle.shapes.specs.Shapes.{LiesIn}
+use Rattle.chunk_store.specs.Cells.{put}
+use Rattle.chunk_store.specs.Grids.{Grid, IsWhole}
+use Rattle.chunk_store.specs.Marks.{Stored, AreIndexes, state, in_grid, touches, IsNoted, MarksBegun, MarksWritten, MarksCut, after_cut, cleared}
+use Rattle.chunk_store.proofs.KeyLemmas.{put_cases}
+use Rattle.chunk_store.proofs.TrackLemmas.{touched_grid, rank_of}
+
+-- a mark that is there was there, or is that of a chunk in the grid
+abbrev IsFrom : Grid → List ℕ → Option Bool → Option Bool → Type 0
+IsFrom h i o p = IsSome p → IsSome o ⊎ (in_grid h i ≡ true)
+
+indexes_from : (s t : Stored) → t.grid.chunk ≡ s.grid.chunk → ((i : List ℕ) → IsFrom s.grid i (state s i) (state t i)) → AreIndexes s → AreIndexes t
+indexes_from s t same from ranks = λ i there. elim (from i there) [
+  | inl old ↦ ranks i old ∙ ap length (sym same)
+  | inr inside ↦ rank_of s.grid i inside ∙ ap length (sym same)
+]
+
+some_false : IsSome (Some false)
+some_false = refl
+
+noted_from : (h : Grid) (i : List ℕ) (touched : Bool) (o p : Option Bool) → (touched ≡ true → in_grid h i ≡ true) → IsNoted touched o p → IsFrom h i o p
+noted_from h i touched o p inside noted there = elim noted [
+  | inl same ↦ inl (subst (λ (x : Option Bool). IsSome x) same there)
+  | inr new ↦ inr (inside new.1)
+]
+
+pub indexes_begun : (s t : Stored) (ats : List (List ℕ)) → t.grid.chunk ≡ s.grid.chunk → IsWhole s.grid → AllByRecursion (λ at. LiesIn at s.grid.shape) ats → MarksBegun s ats t → AreIndexes s → AreIndexes t
+indexes_begun s t ats same w each marks =
+    indexes_from s t same (λ i. noted_from s.grid i (touches s.grid.chunk ats i) (state s i) (state t i) (touched_grid s.grid ats i w each) (marks i))
+
+written_from : (h : Grid) (i : List ℕ) (touched : Bool) (o : Option Bool) → (touched ≡ true → in_grid h i ≡ true) → IsFrom h i o (cond touched (Some true) o)
+written_from h i true o inside there = inr (inside refl)
+written_from h i false o inside there = inl there
+
+pub indexes_written : (s t : Stored) (ats : List (List ℕ)) → t.grid.chunk ≡ s.grid.chunk → IsWhole s.grid → AllByRecursion (λ at. LiesIn at s.grid.shape) ats → MarksWritten s ats t → AreIndexes s → AreIndexes t
+indexes_written s t ats same w each marks =
+    indexes_from s t same (λ i. subst (IsFrom s.grid i (state s i)) (sym (marks i)) (written_from s.grid i (touches s.grid.chunk ats i) (state s i) (touched_grid s.grid ats i w each)))
+
+cut_from : (h : Grid) (i : List ℕ) (k : Bool) (o : Option Bool) → IsFrom h i o (after_cut k o)
+cut_from h i k None there = inl there
+cut_from h i k (Some b) there = inl refl
+
+pub indexes_cut : (s t : Stored) (dims : List ℕ) → t.grid.chunk ≡ s.grid.chunk → MarksCut s dims t → AreIndexes s → AreIndexes t
+indexes_cut s t dims same marks = indexes_from s t same (λ i. subst (IsFrom s.grid i (state s i)) (sym (marks i)) (cut_from s.grid i _ (state s i)))
+
+cleared_from : (h : Grid) (i : List ℕ) (k : Bool) (o : Option Bool) → IsFrom h i o (cleared k o)
+cleared_from h i k None there = inl there
+cleared_from h i k (Some b) there = inl refl
+
+pub indexes_cleared : (s t : Stored) → t.grid.chunk ≡ s.grid.chunk → ((i : List ℕ) → state t i ≡ cleared (in_grid s.grid i) (state s i)) → AreIndexes s → AreIndexes t
+indexes_cleared s t same marks = indexes_from s t same (λ i. subst (IsFrom s.grid i (state s i)) (sym (marks i)) (cleared_from s.grid i (in_grid s.grid i) (state s i)))
+
+pub indexes_put : (s t : Stored) (index : List ℕ) → t.grid.chunk ≡ s.grid.chunk → in_grid s.grid index ≡ true → ((i : List ℕ) → state t i ≡ put (state s) index (Some false) i) → AreIndexes s → AreIndexes t
+indexes_put s t index same inside marks = indexes_from s t same (λ i there. elim (put_cases (state s) index (Some false) i) [
+  | inl here ↦ inr (ap (in_grid s.grid) (sym here.0) ∙ inside)
+  | inr other ↦ inl (subst (λ (x : Option Bool). IsSome x) (marks i ∙ other) there)
+])
+
+pub indexes_same : (s t : Stored) → t.grid.chunk ≡ s.grid.chunk → ((i : List ℕ) → state t i ≡ state s i) → AreIndexes s → AreIndexes t
+indexes_same s t same marks = indexes_from s t same (λ i there. inl (subst (λ (x : Option Bool). IsSome x) (marks i) there))
+
+written_noted : (touched : Bool) (o p : Option Bool) → IsNoted touched o p → cond touched (Some true) p ≡ cond touched (Some true) o
+written_noted true o p noted = refl
+written_noted false o p noted = elim noted [
+  | inl same ↦ same
+  | inr new ↦ absurd (let both : false ≡ true = new.1 in cc)
+]
+
+-- marks that were noted and then flagged
+pub noted_flagged : (s : Stored) (ats : List (List ℕ)) (noted flagged : List ℕ → Option Bool) → ((i : List ℕ) → IsNoted (touches s.grid.chunk ats i) (state s i) (noted i)) → ((i : List ℕ) → flagged i ≡ cond (touches s.grid.chunk ats i) (Some true) (noted i))
+    → (i : List ℕ) → flagged i ≡ cond (touches s.grid.chunk ats i) (Some true) (state s i)
+noted_flagged s ats noted flagged each then = λ i. then i ∙ written_noted (touches s.grid.chunk ats i) (state s i) (noted i) (each i)
+
+pub no_marks : (marks : List (List ℕ × Bool)) → marks ≡ [] → (i : List ℕ) → lookup (bytes_eq i) marks ≡ None
+no_marks marks e i = ap (lookup (bytes_eq i)) e
+
+pub indexes_none : (t : Stored) → t.marks ≡ [] → AreIndexes t
+indexes_none t e = λ i there. absurd (let both : false ≡ true = sym (ap is_some (no_marks t.marks e i)) ∙ there in cc)
+
+pub ok_at : {T E P Q : Type 0} (r : Result T E) → OnOk r P → (P → Q) → OnOk r Q
+ok_at (Ok x) p f = f p
+ok_at (Err e) p f = tt

@@ -1,0 +1,13 @@
+pub mod KeyLemmas
+pub mod GridLemmas
+pub mod KeptLemmas
+pub mod PickLemmas
+pub mod SameLemmas
+pub mod WriteLemmas
+mod CutLemmas
+mod TrackLemmas
+mod InstallLemmas
+mod NextLemmas
+mod ChunkLemmas
+mod MarkLemmas
+mod ArrayLemmas

@@ -1,0 +1,187 @@
+-- Marks as a function from a chunk to what is known of it.
+use Rattle.std.proofs.Common.{◌≡◌, ℕ, zero, suc, ◌+◌, ◌<◌, ◌≤◌, ◌||◌, Bool, true, false, cond, bytes_eq, List, [], ◌∷◌, length, drop, get_or, Option, Some, None, Result, Ok, Err, OnOk, OnErr, min, Less, refl, sym, ap, subst, ◌∙◌, ◌⊎◌, inl, inr, arith}
+use Rattle.std.specs.Prelude.{⊤}
+use Rattle.std.specs.List.{AllByRecursion}
+use Rattle.std.specs.List.Sorted.{IsStrictlySortedBy}
+use Rattle.std.specs.Map.{lookup, keys_of}
+use Rattle.std.specs.Map.Calls.{RetainsPairs}
+use Rattle.std.proofs.lemmas.Bool.{cases_Bool, cases_lt}
+use Rattle.std.proofs.lemmas.List.{drop_more, drop_all}
+use Rattle.std.proofs.lemmas.Map.Keys.{sorted_head, sorted_tail}
+use Rattle.std.proofs.lemmas.Slice.Eq.{bytes_eq-Decides}
+use Rattle.short_lists.specs.Order.{list_order}
+use Rattle.chunk_layout.specs.Chunks.{quotients}
+use Rattle.chunk_store.specs.Cells.{put}
+use Rattle.shapes.specs.Shapes.{dims_of}
+use Rattle.std.specs.declared.alloc.AllocError.{AllocError}
+use Rattle.chunk_store.specs.Grids.{Grid}
+use Rattle.chunk_store.specs.Marks.{IsNoted, touches, keeps, keeps_axis, after_cut, cleared, in_grid}
+use Rattle.chunk_store.proofs.KeyLemmas.{put_cases}
+use Rattle.chunk_store.proofs.NextLemmas.{less_apart}
+
+-- ---- picked cells
+
+pub touches_at : (chunk : List ℕ) (ats : List (List ℕ)) (k : ℕ) → k < length ats → touches chunk ats (quotients (get_or ats k []) chunk) ≡ true
+touches_at chunk [] k h = absurd (omega arith)
+touches_at chunk (at ∷ ats) zero h = ap (λ b. b || touches chunk ats (quotients at chunk)) ((bytes_eq-Decides (quotients at chunk) (quotients at chunk)).1 refl)
+touches_at chunk (at ∷ ats) (suc k) h = or_true (bytes_eq (quotients at chunk) (quotients (get_or ats k []) chunk)) (touches chunk ats (quotients (get_or ats k []) chunk)) (touches_at chunk ats k (omega (arith, h)))
+  where
+    or_true : (a b : Bool) → b ≡ true → (a || b) ≡ true
+    or_true true b h = refl
+    or_true false b h = h
+
+pub touched_here : (chunk : List ℕ) (ats : List (List ℕ)) (k : ℕ) (at index i : List ℕ) → k < length ats → get_or ats k [] ≡ at → index ≡ quotients at chunk → index ≡ i → touches chunk ats i ≡ true
+touched_here chunk ats k at index i low here is same =
+    ap (touches chunk ats) (sym same ∙ is ∙ ap (λ x. quotients x chunk) (sym here)) ∙ touches_at chunk ats k low
+
+pub noted_next : (touched : Bool) (o p r : Option Bool) (index i : List ℕ) → IsNoted touched o p → (r ≡ p) ⊎ ((index ≡ i) × (p ≡ None) × (r ≡ Some false)) → (index ≡ i → touched ≡ true) → IsNoted touched o r
+noted_next touched o p r index i before step here = elim step [
+  | inl same ↦ subst (λ (x : Option Bool). IsNoted touched o x) (sym same) before
+  | inr new ↦ elim before [
+    | inl stays ↦ inr (sym stays ∙ new.1, here new.0, new.2)
+    | inr more ↦ inr (more.0, more.1, new.2)
+  ]
+]
+
+put_cond : (a b : Bool) (x : Option Bool) → cond b (Some true) (cond a (Some true) x) ≡ cond (a || b) (Some true) x
+put_cond true true x = refl
+put_cond true false x = refl
+put_cond false true x = refl
+put_cond false false x = refl
+
+pub flag_next : (chunk : List ℕ) (ats : List (List ℕ)) (k : ℕ) (at index : List ℕ) (f g : List ℕ → Option Bool) → k < length ats → get_or ats k [] ≡ at → index ≡ quotients at chunk → ((i : List ℕ) → g i ≡ put f index (Some true) i)
+    → (i : List ℕ) (whole : Option Bool) → cond (touches chunk (drop k ats) i) (Some true) (f i) ≡ whole → cond (touches chunk (drop (k + 1) ats) i) (Some true) (g i) ≡ whole
+flag_next chunk ats k at index f g low here is each i whole done =
+    let rest = touches chunk (drop (k + 1) ats) i in
+    ap (λ x. cond rest (Some true) x) (each i)
+    ∙ ap (λ j. cond rest (Some true) (cond (bytes_eq j i) (Some true) (f i))) (is ∙ ap (λ x. quotients x chunk) (sym here))
+    ∙ put_cond (bytes_eq (quotients (get_or ats k []) chunk) i) rest (f i)
+    ∙ ap (λ l. cond (touches chunk l i) (Some true) (f i)) (sym (drop_more ats k [] low)) ∙ done
+
+pub flag_end : (chunk : List ℕ) (ats : List (List ℕ)) (k : ℕ) (f : List ℕ → Option Bool) (i : List ℕ) (whole : Option Bool) → length ats ≤ k → cond (touches chunk (drop k ats) i) (Some true) (f i) ≡ whole → f i ≡ whole
+flag_end chunk ats k f i whole past done = ap (λ l. cond (touches chunk l i) (Some true) (f i)) (sym (drop_all k ats past)) ∙ done
+
+-- ---- some marks alone, written anew
+
+-- what stands there after a walk that keeps some values, changed
+abbrev pub changed_by : (List ℕ → Bool → Bool) → (List ℕ → Bool → Bool) → List ℕ → Option Bool → Option Bool
+changed_by p g q None = None
+changed_by p g q (Some v) = cond (p q v) (Some (g q v)) None
+
+absent_later : (k : List ℕ) (es : List (List ℕ × Bool)) → AllByRecursion (λ y. list_order k y ≡ Less) (keys_of es) → (q : List ℕ) → bytes_eq q k ≡ true → lookup (bytes_eq q) es ≡ None
+absent_later k [] low q same = refl
+absent_later k (e ∷ es) low q same =
+    let key = (bytes_eq-Decides q k).0 same in
+    let no_key : bytes_eq q e.0 ≡ false = other_way (e.0) q (less_apart k e.0 low.0) key in
+    ap (λ b. cond b (Some e.1) (lookup (bytes_eq q) es)) no_key ∙ absent_later k es low.1 q same
+  where
+    other_way : (x q : List ℕ) → {k : List ℕ} → bytes_eq x k ≡ false → q ≡ k → bytes_eq q x ≡ false
+    other_way x q {k} h e = elim (cases_Bool (bytes_eq q x)) [
+      | inl y ↦ absurd (let both : true ≡ false = sym ((bytes_eq-Decides x k).1 (sym ((bytes_eq-Decides q x).0 y) ∙ e)) ∙ h in cc)
+      | inr n ↦ n
+    ]
+
+module _ {F : Type 0} (T : F → List ℕ → Bool → Bool → Bool → F → Type 0) (p g : List ℕ → Bool → Bool) (f : F) (told : (k : List ℕ) (v b w : Bool) (f' : F) → T f k v b w f' → (b ≡ p k v) × (w ≡ g k v) × (f' ≡ f)) where
+  kept_head : (k : List ℕ) (w : Bool) (rest : List (List ℕ × Bool)) (b : Bool) (q : List ℕ) → bytes_eq q k ≡ true → lookup (bytes_eq q) rest ≡ None → lookup (bytes_eq q) (cond b ((k, w) ∷ rest) rest) ≡ cond b (Some w) None
+  kept_head k w rest true q same none = ap (λ c. cond c (Some w) (lookup (bytes_eq q) rest)) same
+  kept_head k w rest false q same none = none
+
+  kept_tail : (k : List ℕ) (w : Bool) (rest : List (List ℕ × Bool)) (b : Bool) (q : List ℕ) → bytes_eq q k ≡ false → lookup (bytes_eq q) (cond b ((k, w) ∷ rest) rest) ≡ lookup (bytes_eq q) rest
+  kept_tail k w rest true q other = ap (λ c. cond c (Some w) (lookup (bytes_eq q) rest)) other
+  kept_tail k w rest false q other = refl
+
+  pub retained : (es kept : List (List ℕ × Bool)) → IsStrictlySortedBy list_order (keys_of es) → RetainsPairs T f es kept → (q : List ℕ) → lookup (bytes_eq q) kept ≡ changed_by p g q (lookup (bytes_eq q) es)
+  retained [] kept sorted r q = ap (lookup (bytes_eq q)) r
+  retained (e ∷ es) kept sorted r q =
+      let a = told e.0 e.1 r.0 r.1 r.2 r.4 in
+      let rest = retained es r.3 (sorted_tail list_order e.0 (keys_of es) sorted) (subst (λ (u : F). RetainsPairs T u es r.3) a.2 r.5) q in
+      ap (lookup (bytes_eq q)) r.6 ∙ elim (cases_Bool (bytes_eq q e.0)) [
+        | inl same ↦
+            let none = absent_later e.0 es (sorted_head list_order e.0 (keys_of es) sorted) q same in
+            let key = (bytes_eq-Decides q e.0).0 same in
+            kept_head e.0 r.1 r.3 r.0 q same (rest ∙ ap (changed_by p g q) none)
+            ∙ ap (λ b. cond b (Some r.1) None) a.0 ∙ ap (λ w. cond (p e.0 e.1) (Some w) None) a.1
+            ∙ ap (λ k. cond (p k e.1) (Some (g k e.1)) None) (sym key)
+            ∙ sym (ap (λ b. changed_by p g q (cond b (Some e.1) (lookup (bytes_eq q) es))) same)
+        | inr other ↦
+            kept_tail e.0 r.1 r.3 r.0 q other ∙ rest
+            ∙ sym (ap (λ b. changed_by p g q (cond b (Some e.1) (lookup (bytes_eq q) es))) other)
+      ]
+
+-- ---- chunks that other dims keep
+
+pub keeps_next : (k : ℕ) (is ns olds news : List ℕ) → k < length is → k < length ns → k < length olds → k < length news → keeps_axis (get_or is k 0) (get_or ns k 0) (get_or olds k 0) (get_or news k 0) ≡ true
+    → keeps (drop k is) (drop k ns) (drop k olds) (drop k news) ≡ keeps (drop (k + 1) is) (drop (k + 1) ns) (drop (k + 1) olds) (drop (k + 1) news)
+keeps_next k is ns olds news a b c d kept = rw (drop_more is k 0 a, drop_more ns k 0 b, drop_more olds k 0 c, drop_more news k 0 d, kept) refl
+
+pub keeps_here : (k : ℕ) (is ns olds news : List ℕ) → k < length is → k < length ns → k < length olds → k < length news → keeps_axis (get_or is k 0) (get_or ns k 0) (get_or olds k 0) (get_or news k 0) ≡ false
+    → keeps (drop k is) (drop k ns) (drop k olds) (drop k news) ≡ false
+keeps_here k is ns olds news a b c d gone = rw (drop_more is k 0 a, drop_more ns k 0 b, drop_more olds k 0 c, drop_more news k 0 d, gone) refl
+
+no_index : (ns olds news : List ℕ) → keeps [] ns olds news ≡ true
+no_index ns olds news = refl
+
+no_chunk : (is olds news : List ℕ) → keeps is [] olds news ≡ true
+no_chunk [] olds news = refl
+no_chunk (i ∷ is) olds news = refl
+
+no_old : (is ns news : List ℕ) → keeps is ns [] news ≡ true
+no_old [] ns news = refl
+no_old (i ∷ is) [] news = refl
+no_old (i ∷ is) (n ∷ ns) news = refl
+
+no_new : (is ns olds : List ℕ) → keeps is ns olds [] ≡ true
+no_new [] ns olds = refl
+no_new (i ∷ is) [] olds = refl
+no_new (i ∷ is) (n ∷ ns) [] = refl
+no_new (i ∷ is) (n ∷ ns) (o ∷ olds) = refl
+
+pub keeps_end : (k : ℕ) (is ns olds news : List ℕ) → (length is ≤ k) ⊎ ((length ns ≤ k) ⊎ ((length olds ≤ k) ⊎ (length news ≤ k))) → keeps (drop k is) (drop k ns) (drop k olds) (drop k news) ≡ true
+keeps_end k is ns olds news (inl h) = ap (λ l. keeps l (drop k ns) (drop k olds) (drop k news)) (drop_all k is h)
+keeps_end k is ns olds news (inr (inl h)) = ap (λ l. keeps (drop k is) l (drop k olds) (drop k news)) (drop_all k ns h) ∙ no_chunk (drop k is) (drop k olds) (drop k news)
+keeps_end k is ns olds news (inr (inr (inl h))) = ap (λ l. keeps (drop k is) (drop k ns) l (drop k news)) (drop_all k olds h) ∙ no_old (drop k is) (drop k ns) (drop k news)
+keeps_end k is ns olds news (inr (inr (inr h))) = ap (λ l. keeps (drop k is) (drop k ns) (drop k olds) l) (drop_all k news h) ∙ no_new (drop k is) (drop k ns) (drop k olds)
+
+least_of : (a b k : ℕ) → min a b ≤ k → (a ≤ k) ⊎ (b ≤ k)
+least_of a b k h = elim (cases_lt a b) [
+  | inl low ↦ inl (omega (arith, h, low))
+  | inr high ↦ inr (omega (arith, h, high))
+]
+
+pub least_past : (a b c d k : ℕ) → min (min (min a b) c) d ≤ k → (a ≤ k) ⊎ ((b ≤ k) ⊎ ((c ≤ k) ⊎ (d ≤ k)))
+least_past a b c d k h = elim (least_of (min (min a b) c) d k h) [
+  | inr past ↦ inr (inr (inr past))
+  | inl rest ↦ elim (least_of (min a b) c k rest) [
+    | inr past ↦ inr (inr (inl past))
+    | inl two ↦ elim (least_of a b k two) [
+      | inr past ↦ inr (inl past)
+      | inl past ↦ inl past
+    ]
+  ]
+]
+
+-- ---- what a walk over all marks leaves
+
+pub changed_cut : (h : Grid) (dims q : List ℕ) (o : Option Bool) → changed_by (λ k v. true) (λ k v. cond (keeps k h.chunk (dims_of h.shape) dims) v true) q o ≡ after_cut (keeps q h.chunk (dims_of h.shape) dims) o
+changed_cut h dims q None = refl
+changed_cut h dims q (Some v) = some_cond (keeps q h.chunk (dims_of h.shape) dims) v
+  where
+    some_cond : (b v : Bool) → Some (cond b v true) ≡ cond b (Some v) (Some true)
+    some_cond true v = refl
+    some_cond false v = refl
+
+pub changed_cleared : (h : Grid) (q : List ℕ) (o : Option Bool) → changed_by (λ k v. cond v (in_grid h k) true) (λ k v. false) q o ≡ cleared (in_grid h q) o
+changed_cleared h q None = refl
+changed_cleared h q (Some true) = refl
+changed_cleared h q (Some false) = refl
+
+-- either a new mark was set, or nothing changed
+pub set_or_kept : {A B : Type 0} (r : Result ⊤ AllocError) → OnOk r A → OnErr r B → A ⊎ B
+set_or_kept (Ok u) done kept = inl done
+set_or_kept (Err e) done kept = inr kept
+
+pub note_new : (o p : List ℕ → Option Bool) (index : List ℕ) → o index ≡ None → ((i : List ℕ) → p i ≡ put o index (Some false) i) → (i : List ℕ) → (p i ≡ o i) ⊎ ((index ≡ i) × (o i ≡ None) × (p i ≡ Some false))
+note_new o p index none each i = elim (put_cases o index (Some false) i) [
+  | inl here ↦ inr (here.0, ap o (sym here.0) ∙ none, each i ∙ here.1)
+  | inr other ↦ inl (each i ∙ other)
+]

@@ -1,0 +1,17 @@
+pub mod Cells
+pub mod Grids
+pub mod Picked
+pub mod Kept
+pub mod Indexes
+pub mod Marks
+pub use Rattle.hyperslab.specs.Selected
+pub use Rattle.hdf_values.specs.Nested
+pub use Rattle.hdf_values.specs.Elements
+pub use Rattle.hdf_types.specs.Elems
+pub use Rattle.hdf_types.specs.Views
+pub use Rattle.hdf_types.specs.Types
+pub use Rattle.hdf_types.specs.Reading
+pub use Rattle.shapes.specs.Places
+pub use Rattle.shapes.specs.Shapes
+pub use Rattle.chunk_layout.specs.Layouts
+pub use Rattle.chunk_layout.specs.Chunks

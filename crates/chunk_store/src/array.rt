@@ -1,0 +1,352 @@
+//! An array and the chunks that changed.
+
+ghost use Rattle.std.specs.Prelude.{◌≡◌, ◌≤◌, ◌+◌, ◌↔◌, ℕ, List, [], All, IsSome, length, option_map, false, Some, None, Err, IfOk, IfSome, OnOk, OnErr};
+ghost use Rattle.hdf_types.specs.Reading.{size_of};
+ghost use Rattle.hdf_types.specs.Types.{IsSoundType};
+ghost use Rattle.hdf_types.specs.Views.{elem as kind_of};
+ghost use Rattle.hdf_values.specs.Elements.{IsEncoded};
+ghost use Rattle.hdf_values.specs.Nested.{AreEncoded};
+ghost use Rattle.shapes.specs.Shapes.{IsSound, IsResized, LiesIn, count_of, dims_of};
+ghost use Rattle.shapes.specs.declared.TheConstants.{MAX_EXTENT};
+ghost use Rattle.chunk_layout.specs.Layouts.{Fits};
+ghost use Rattle.hyperslab.specs.Selected.{IsSlab, SlabIn, slab_cells};
+ghost use Rattle.point_select.specs.declared.TheConstants.{MAX_POINTS};
+ghost use Rattle.chunk_store.specs.Cells.{put};
+ghost use Rattle.chunk_store.specs.Grids.{IsWhole, all_fill, cut_to, reads, with_dims, writes};
+ghost use Rattle.chunk_store.specs.Picked.{PicksIn, cells_from, picked};
+ghost use Rattle.chunk_store.specs.Marks.{Stored, AreIndexes, IsTracked, IsNextDirty, IsChunkOf, MarksBegun, MarksCut, MarksWritten, with_chunk, body_of, state, in_grid, cleared, cut};
+ghost use Rattle.chunk_store.specs.declared.array.InstallFault.TheVariants.{BadChunk, NoMemory};
+
+use crate::marks::{Marks, clear_flags, first_changed, flag_chunks, flag_cut, note_chunks};
+use crate::picks::Picks;
+use crate::plain::PlainArray;
+use chunk_layout::Layout;
+use hdf_types::ElemType;
+use hyperslab::Slab;
+use point_select::Points;
+use shapes::{Dims, Shape};
+use std::alloc::{AllocError, Global};
+use std::collections::BTreeMap;
+use std::marker::Model;
+
+/// An array, and which of its chunks have changed since they were last taken as unchanged.
+#[derive(Drop)]
+pub struct Array {
+    plain: PlainArray,
+    marks: Marks,
+}
+
+impl Model for Array {
+    ghost use Rattle.chunk_store.specs.Marks.{Stored, coded_stored, AreIndexes};
+
+    ghost Value = { Stored };
+
+    ghost coded = { coded_stored };
+
+    ghost view = { λ a. record { grid = a.plain; marks = a.marks.entries } };
+
+    ghost invariant = { λ a. AreIndexes (record { grid = a.plain; marks = a.marks.entries }) };
+}
+
+/// Why a chunk was not installed.
+#[derive(Clone, Copy, Debug, PartialEq, Eq)]
+pub enum InstallFault {
+    /// The bytes are those of no chunk of the array.
+    BadChunk,
+    /// There was no memory.
+    NoMemory,
+}
+
+impl From<AllocError> for InstallFault {
+    ghost from_gives = { λ _ e. e ≡ NoMemory };
+
+    fn from(_error: AllocError) -> InstallFault {
+        InstallFault::NoMemory
+    }
+}
+
+impl Array {
+    /// An array in which each cell has the fill, or zero where none is given. No chunk of it has changed.
+    ///
+    /// # Errors
+    ///
+    /// Only where memory runs out.
+    pub fn new(
+        alloc: Global,
+        elem: ElemType,
+        shape: Shape,
+        layout: Layout,
+        fill: Option<Vec<u8>>,
+    ) -> Result<Array, AllocError>
+        requires kind { IsSoundType (kind_of elem) }
+        requires shape { IsSound shape }
+        requires layout { Fits (size_of (kind_of elem)) (dims_of shape) layout.chunk }
+        requires fill { IfSome fill (λ v. IsEncoded (kind_of elem) v.items) }
+        ensures made { IfOk result (λ a. a.grid
+            ≡ all_fill (kind_of elem) shape layout.chunk (option_map (λ v. v.items) fill)) }
+        ensures marks { IfOk result (λ a. (i : List ℕ) → state a i ≡ None) }
+        ensures tracked { IfOk result (λ a. IsTracked (λ _. []) a) }
+    {
+        let plain = PlainArray::new(alloc, elem, shape, layout, fill)?;
+        let marks = BTreeMap::new(alloc);
+        Ok(Array { plain, marks })
+    }
+
+    /// The type of its elements.
+    pub fn elem(&self) -> &ElemType
+        ensures { kind_of result.now ≡ self.now.grid.kind }
+    {
+        self.plain.elem()
+    }
+
+    /// The shape.
+    pub fn shape(&self) -> &Shape
+        ensures { result.now ≡ self.now.grid.shape }
+    {
+        self.plain.shape()
+    }
+
+    /// The layout.
+    pub fn layout(&self) -> &Layout
+        ensures same { result.now.chunk ≡ self.now.grid.chunk }
+        ensures fits { Fits (size_of self.now.grid.kind)
+            (dims_of self.now.grid.shape) self.now.grid.chunk }
+    {
+        self.plain.layout()
+    }
+
+    /// The fill, where one was given.
+    pub fn fill(&self) -> Option<&[u8]>
+        ensures { option_map (λ v. v.now) result ≡ self.now.grid.fill }
+    {
+        self.plain.fill()
+    }
+
+    /// What is true of every array: all parts are sound, each cell has an element's bytes, and the index of each chunk
+    /// that is known has a number for each axis.
+    pub fn is_whole(&self)
+        ensures grid { IsWhole self.now.grid }
+        ensures indexes { AreIndexes self.now }
+    {
+        self.plain.is_whole()
+    }
+
+    /// The bytes of the cells of a selection, in row-major order.
+    ///
+    /// # Errors
+    ///
+    /// Only where memory runs out.
+    pub fn read_slab(&self, alloc: Global, slab: &Slab) -> Result<Vec<u8>, AllocError>
+        requires slab { IsSlab slab.now }
+        requires inside { SlabIn slab.now self.now.grid.shape }
+        ensures bytes { IfOk result (λ v. v.items
+            ≡ reads self.now.grid (slab_cells slab.now self.now.grid.shape)) }
+        ensures encoded { IfOk result (λ v.
+            AreEncoded self.now.grid.kind (length (slab_cells slab.now self.now.grid.shape)) v.items) }
+    {
+        self.plain.read_slab(alloc, slab)
+    }
+
+    /// The bytes of points, in their order.
+    ///
+    /// # Errors
+    ///
+    /// Only where memory runs out.
+    pub fn read_points(&self, alloc: Global, points: &Points) -> Result<Vec<u8>, AllocError>
+        requires few { length points.now ≤ MAX_POINTS }
+        requires inside { All (λ at. LiesIn at self.now.grid.shape) points.now }
+        ensures bytes { IfOk result (λ v. v.items ≡ reads self.now.grid points.now) }
+        ensures encoded { IfOk result (λ v. AreEncoded self.now.grid.kind
+            (length points.now) v.items) }
+    {
+        self.plain.read_points(alloc, points)
+    }
+
+    /// The bytes of `many` cells from a place on, in row-major order.
+    ///
+    /// # Errors
+    ///
+    /// Only where memory runs out.
+    pub fn read_places(&self, alloc: Global, from: u64, many: u64) -> Result<Vec<u8>, AllocError>
+        requires { from + many ≤ count_of self.now.grid.shape }
+        ensures bytes { IfOk result (λ v. v.items
+            ≡ reads self.now.grid (cells_from from many self.now.grid.shape)) }
+        ensures encoded { IfOk result (λ v. AreEncoded self.now.grid.kind many v.items) }
+    {
+        self.plain.read_places(alloc, from, many)
+    }
+
+    /// Writes elements into the cells of a selection, in row-major order.
+    ///
+    /// # Errors
+    ///
+    /// Only where memory runs out; then no cell has changed.
+    pub fn write_slab(&mut self, alloc: Global, slab: &Slab, bytes: &[u8]) -> Result<(), AllocError>
+        requires slab { IsSlab slab.now }
+        requires inside { SlabIn slab.now self.old.grid.shape }
+        requires encoded { AreEncoded self.old.grid.kind
+            (length (slab_cells slab.now self.old.grid.shape)) bytes.now }
+        ensures done { OnOk result (self.new.grid
+            ≡ writes self.old.grid (slab_cells slab.now self.old.grid.shape) bytes.now) }
+        ensures marks { OnOk result (MarksWritten self.old
+            (slab_cells slab.now self.old.grid.shape) self.new) }
+        ensures kept { OnErr result (self.new.grid ≡ self.old.grid) }
+        ensures begun { OnErr result (MarksBegun self.old
+            (slab_cells slab.now self.old.grid.shape) self.new) }
+        ensures tracked { (held : List ℕ → List ℕ) → IsTracked held self.old
+            → IsTracked held self.new }
+    {
+        self.write(alloc, &Picks::Slab(*slab), bytes)
+    }
+
+    /// Writes elements at points in turn, so that of a repeated point the last one counts.
+    ///
+    /// # Errors
+    ///
+    /// Only where memory runs out; then no cell has changed.
+    pub fn write_points(
+        &mut self,
+        alloc: Global,
+        points: &Points,
+        bytes: &[u8],
+    ) -> Result<(), AllocError>
+        requires few { length points.now ≤ MAX_POINTS }
+        requires inside { All (λ at. LiesIn at self.old.grid.shape) points.now }
+        requires encoded { AreEncoded self.old.grid.kind (length points.now) bytes.now }
+        ensures done { OnOk result (self.new.grid ≡ writes self.old.grid points.now bytes.now) }
+        ensures marks { OnOk result (MarksWritten self.old points.now self.new) }
+        ensures kept { OnErr result (self.new.grid ≡ self.old.grid) }
+        ensures begun { OnErr result (MarksBegun self.old points.now self.new) }
+        ensures tracked { (held : List ℕ → List ℕ) → IsTracked held self.old
+            → IsTracked held self.new }
+    {
+        self.write(alloc, &Picks::Points(points.as_slice()), bytes)
+    }
+
+    /// Writes elements into the `many` cells from a place on, in row-major order.
+    ///
+    /// # Errors
+    ///
+    /// Only where memory runs out; then no cell has changed.
+    pub fn write_places(
+        &mut self,
+        alloc: Global,
+        from: u64,
+        many: u64,
+        bytes: &[u8],
+    ) -> Result<(), AllocError>
+        requires places { from + many ≤ count_of self.old.grid.shape }
+        requires encoded { AreEncoded self.old.grid.kind many bytes.now }
+        ensures done { OnOk result (self.new.grid
+            ≡ writes self.old.grid (cells_from from many self.old.grid.shape) bytes.now) }
+        ensures marks { OnOk result (MarksWritten self.old
+            (cells_from from many self.old.grid.shape) self.new) }
+        ensures kept { OnErr result (self.new.grid ≡ self.old.grid) }
+        ensures begun { OnErr result (MarksBegun self.old
+            (cells_from from many self.old.grid.shape) self.new) }
+        ensures tracked { (held : List ℕ → List ℕ) → IsTracked held self.old
+            → IsTracked held self.new }
+    {
+        self.write(alloc, &Picks::Places { from, many }, bytes)
+    }
+
+    /// Takes other dims. Cells outside them are lost, and new ones have the fill. It takes no memory.
+    pub fn resize(&mut self, dims: &Dims)
+        requires fits { IsResized self.old.grid.shape dims.now
+            (with_dims self.old.grid.shape dims.now) }
+        requires small { All (λ n. n ≤ MAX_EXTENT) dims.now }
+        ensures done { self.new.grid ≡ cut_to self.old.grid dims.now }
+        ensures marks { MarksCut self.old dims.now self.new }
+        ensures tracked { (held : List ℕ → List ℕ) → IsTracked held self.old
+            → IsTracked held self.new }
+    {
+        self.plain.is_whole();
+        flag_cut(&mut self.marks, &self.plain, dims);
+        self.plain.resize(dims);
+    }
+
+    /// The first changed chunk behind one, or of all, in row-major order.
+    pub fn next_dirty(&self, after: Option<&Dims>) -> Option<Dims>
+        ensures next { IsNextDirty self.now (option_map (λ d. d.now) after.entry) result }
+    {
+        first_changed(&self.marks, after)
+    }
+
+    /// The bytes of a chunk that is known, in row-major order, with the fill in each cell outside the array; no byte
+    /// where the chunk lies wholly outside.
+    ///
+    /// # Errors
+    ///
+    /// Only where memory runs out.
+    pub fn chunk_copy(&self, alloc: Global, index: &Dims) -> Result<Vec<u8>, AllocError>
+        requires known { IsSome (state self.now index.now) }
+        ensures { IfOk result (λ v. v.items ≡ body_of self.now.grid index.now) }
+    {
+        self.plain.chunk_copy(alloc, index)
+    }
+
+    /// Takes each chunk as unchanged, and forgets those outside the array. It takes no memory.
+    pub fn clear_dirty(&mut self)
+        ensures same { self.new.grid ≡ self.old.grid }
+        ensures marks { (i : List ℕ) → state self.new i
+            ≡ cleared (in_grid self.old.grid i) (state self.old i) }
+        ensures tracked { (held : List ℕ → List ℕ) → IsTracked held self.old
+            → IsTracked (cut held self.old) self.new }
+    {
+        clear_flags(&mut self.marks, &self.plain);
+    }
+
+    /// Puts in the bytes of a chunk, which then is unchanged.
+    ///
+    /// # Errors
+    ///
+    /// `BadChunk` where the index names no chunk of the array, the bytes are not so many elements, or a cell outside
+    /// the array has not the fill; else `NoMemory`. After either the array is as before.
+    pub fn install(
+        &mut self,
+        alloc: Global,
+        index: &Dims,
+        bytes: Vec<u8>,
+    ) -> Result<(), InstallFault>
+        ensures done { OnOk result (self.new.grid
+            ≡ with_chunk self.old.grid index.now bytes.items) }
+        ensures marks { OnOk result ((i : List ℕ)
+            → state self.new i ≡ put (state self.old) index.now (Some false) i) }
+        ensures bad { (result ≡ Err BadChunk) ↔ (IsChunkOf self.old.grid index.now bytes.items
+            → ⊥) }
+        ensures whole { OnOk result (IsChunkOf self.old.grid index.now bytes.items) }
+        ensures kept { OnErr result (self.new.grid ≡ self.old.grid) }
+        ensures unmarked { OnErr result ((i : List ℕ) → state self.new i ≡ state self.old i) }
+        ensures tracked { OnOk result ((held : List ℕ → List ℕ) → IsTracked held self.old
+            → IsTracked (put held index.now bytes.items) self.new) }
+    {
+        let bytes = bytes.as_slice();
+        if !self.plain.is_chunk(index, bytes) {
+            return Err(InstallFault::BadChunk);
+        }
+        self.plain.is_whole();
+        self.plain.put_chunk(alloc, &mut self.marks, index, bytes)?;
+        Ok(())
+    }
+
+    fn write(&mut self, alloc: Global, picks: &Picks, bytes: &[u8]) -> Result<(), AllocError>
+        requires picks { PicksIn picks.now self.old.grid.shape }
+        requires encoded { AreEncoded self.old.grid.kind
+            (length (picked picks.now self.old.grid.shape)) bytes.now }
+        ensures done { OnOk result (self.new.grid
+            ≡ writes self.old.grid (picked picks.now self.old.grid.shape) bytes.now) }
+        ensures marks { OnOk result (MarksWritten self.old
+            (picked picks.now self.old.grid.shape) self.new) }
+        ensures kept { OnErr result (self.new.grid ≡ self.old.grid) }
+        ensures begun { OnErr result (MarksBegun self.old
+            (picked picks.now self.old.grid.shape) self.new) }
+        ensures tracked { (held : List ℕ → List ℕ) → IsTracked held self.old
+            → IsTracked held self.new }
+    {
+        self.plain.is_whole();
+        note_chunks(&mut self.marks, &self.plain, picks)?;
+        self.plain.write(alloc, picks, bytes)?;
+        flag_chunks(&mut self.marks, &self.plain, picks);
+        Ok(())
+    }
+}
