@@ -236,23 +236,6 @@ impl PlainArray {
         self.read(alloc, &Picks::Slab(*slab))
     }
 
-    /// Writes elements into the cells of a selection, in row-major order.
-    ///
-    /// # Errors
-    ///
-    /// Only where memory runs out; then no cell has changed.
-    pub fn write_slab(&mut self, alloc: Global, slab: &Slab, bytes: &[u8]) -> Result<(), AllocError>
-        requires slab { IsSlab slab.now }
-        requires inside { SlabIn slab.now self.old.shape }
-        requires encoded { AreEncoded self.old.kind
-            (length (slab_cells slab.now self.old.shape)) bytes.now }
-        ensures done { OnOk result (self.new
-            ≡ writes self.old (slab_cells slab.now self.old.shape) bytes.now) }
-        ensures kept { OnErr result (self.new ≡ self.old) }
-    {
-        self.write(alloc, &Picks::Slab(*slab), bytes)
-    }
-
     /// The bytes of points, in their order.
     ///
     /// # Errors
@@ -265,26 +248,6 @@ impl PlainArray {
         ensures encoded { IfOk result (λ v. AreEncoded self.now.kind (length points.now) v.items) }
     {
         self.read(alloc, &Picks::Points(points.as_slice()))
-    }
-
-    /// Writes elements at points in turn, so that of a repeated point the last one counts.
-    ///
-    /// # Errors
-    ///
-    /// Only where memory runs out; then no cell has changed.
-    pub fn write_points(
-        &mut self,
-        alloc: Global,
-        points: &Points,
-        bytes: &[u8],
-    ) -> Result<(), AllocError>
-        requires few { length points.now ≤ MAX_POINTS }
-        requires inside { All (λ at. LiesIn at self.old.shape) points.now }
-        requires encoded { AreEncoded self.old.kind (length points.now) bytes.now }
-        ensures done { OnOk result (self.new ≡ writes self.old points.now bytes.now) }
-        ensures kept { OnErr result (self.new ≡ self.old) }
-    {
-        self.write(alloc, &Picks::Points(points.as_slice()), bytes)
     }
 
     /// The bytes of `many` cells from a place on, in row-major order.
@@ -300,27 +263,6 @@ impl PlainArray {
     {
         let _none = Dims::new();
         self.read(alloc, &Picks::Places { from, many })
-    }
-
-    /// Writes elements into the `many` cells from a place on, in row-major order.
-    ///
-    /// # Errors
-    ///
-    /// Only where memory runs out; then no cell has changed.
-    pub fn write_places(
-        &mut self,
-        alloc: Global,
-        from: u64,
-        many: u64,
-        bytes: &[u8],
-    ) -> Result<(), AllocError>
-        requires places { from + many ≤ count_of self.old.shape }
-        requires encoded { AreEncoded self.old.kind many bytes.now }
-        ensures done { OnOk result (self.new
-            ≡ writes self.old (cells_from from many self.old.shape) bytes.now) }
-        ensures kept { OnErr result (self.new ≡ self.old) }
-    {
-        self.write(alloc, &Picks::Places { from, many }, bytes)
     }
 
     /// Takes other dims. Cells outside them are lost, and new ones have the fill.
