@@ -2,6 +2,8 @@ pub mod DigitOrders
 pub mod IdBits
 pub mod IdOrders
 pub mod IdTexts
+pub mod Listings
 pub mod NamedMaps
 pub mod PathLemmas
 pub mod NumberOrders
+pub mod PutLemmas

@@ -8,6 +8,7 @@ mod limits;
 mod name_map;
 mod names;
 mod paths;
+mod puts;
 mod texts;
 
 pub use id_laws::id_texts_in_order;
@@ -19,6 +20,7 @@ pub use names::{Name, NameFault};
 pub use paths::{
     DomainPath, MAX_PART_LEN, MAX_PATH_LEN, PathFault, parent_text, path_text, read_path,
 };
+pub use puts::{NoName, PutFault};
 pub use texts::{id_text, read_id};
 
 #[cfg(test)]

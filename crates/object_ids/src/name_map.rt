@@ -4,10 +4,12 @@ ghost use Rattle.std.specs.Borrow.{LendsIf, sem};
 ghost use Rattle.std.specs.FinMap as map;
 ghost use Rattle.std.specs.Option.{option_copied, option_copied_mut};
 ghost use Rattle.object_ids.specs.NamedEntries.{named_entries};
+ghost use Rattle.object_ids.specs.Puts.{put_fault, Blames};
 ghost use Rattle.object_ids.specs.contracts.name_map.NameMap.{the_row};
 ghost use Rattle.text_maps.specs.Nexts.{IsNext, IsKeyStep};
 
 use crate::names::Name;
+use crate::puts::PutFault;
 use std::alloc::{AllocError, Global};
 use std::collections::BTreeMap;
 use std::marker::Model;
@@ -79,6 +81,13 @@ impl<V> NameMap<V> {
         }
     }
 
+    /// Whether a name has a value.
+    pub fn contains(&self, text: &str) -> bool
+        ensures { result ≡ map.contains_key self.now text.now }
+    {
+        self.get(text).is_some()
+    }
+
     /// The value at a name, to be changed in place.
     pub fn get_mut(&mut self, text: &str) -> Option<&mut V>
         ensures* writes_back { sem 𝓛 (LendsIf (the_row V.row) V.row self.entry result
@@ -134,6 +143,26 @@ impl<V: Drop> NameMap<V> {
     {
         let key = String::from_str(self.alloc, name.text())?;
         self.entries.put(key, Named { name, value })
+    }
+
+    /// Puts a value at a new name of a map that is to have at most `most` names. An error leaves the map as it was.
+    ///
+    /// # Errors
+    ///
+    /// `Taken` where the name has a value; else `Limit` where there are `most` names or more; else `NoMemory`.
+    pub fn put_within(&mut self, most: usize, name: Name, value: V) -> Result<(), PutFault>
+        ensures ok { OnOk result (self.new ≡ map.insert self.old name value) }
+        ensures err { OnErr result (self.new ≡ self.old) }
+        ensures why { Blames result (put_fault most self.old name) }
+    {
+        if self.contains(name.text()) {
+            return Err(PutFault::Taken);
+        }
+        if self.len() >= most {
+            return Err(PutFault::Limit);
+        }
+        self.put_new(name, value)?;
+        Ok(())
     }
 
     /// Takes a name and its value out of the map, and gives the value.

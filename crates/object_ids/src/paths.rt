@@ -1,4 +1,5 @@
-ghost use Rattle.std.specs.Prelude.{◌≡◌, ◌≢◌, ◌⊎◌, ◌<◌, ◌==◌, ℕ, List, ◌∷◌, ◌++◌, All, Some, None, IfOk, IsErrOf, IsSome, if◌then◌else◌, length};
+ghost use Rattle.std.specs.Prelude.{◌≡◌, ◌≢◌, ◌⊎◌, ◌<◌, ◌==◌, ℕ, List, ◌∷◌, ◌++◌, All, Some, None, IfOk};
+ghost use Rattle.std.specs.Prelude.{IsErrOf, IsSome, if◌then◌else◌, length};
 ghost use Rattle.std.specs.List.{list_all, slice_split};
 ghost use Rattle.std.specs.Option.{option_copied};
 ghost use Rattle.object_ids.specs.Paths.{is_part, is_path, is_slash, parent_of, path_of, root_path, without_trailing_slash};
@@ -108,7 +109,9 @@ impl DomainPath {
         ensures canonical { path_of (parent_of self.now) ≡ Some (parent_of self.now) }
 
         // The same in other words: what stands before the last slash, or `/` where that is nothing.
-        ensures before_last_slash { (front part : List ℕ) → self.now ≡ front ++ 47 ∷ part → All (λ b. b ≢ 47) part → result.now ≡ (if length front == 0 then root_path else front) }
+        ensures before_last_slash { (front part : List ℕ) → self.now ≡ front ++ 47 ∷ part
+            → All (λ b. b ≢ 47) part
+            → result.now ≡ (if length front == 0 then root_path else front) }
 
         // No path but `/` is its own parent.
         ensures shorter { length (parent_of self.now) < length self.now ⊎ (self.now ≡ root_path) }

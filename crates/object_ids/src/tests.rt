@@ -1,5 +1,5 @@
 use crate::{
-    IdMap, Kind, LimitKind, Name, NameFault, NameMap, ObjectId, PathFault, id_text, lane,
+    IdMap, Kind, LimitKind, Name, NameFault, NameMap, ObjectId, PathFault, PutFault, id_text, lane,
     path_text, read_id, read_path,
 };
 use std::alloc::Global;
@@ -225,6 +225,26 @@ fn maps_are_walked_in_order(rt: HostRuntime) -> Result<(), Fail> {
     assert!(rt; names.next_name(Some("a")).map(|name| name.text()) == Some("b"));
     assert_eq!(rt; names.remove("a"), Some(1));
     assert_eq!(rt; names.as_tree().len(), 1);
+    Ok(())
+}
+
+#[test]
+fn new_names_are_put_up_to_a_limit(rt: HostRuntime) -> Result<(), Fail> {
+    let alloc = rt.alloc();
+    let mut names = NameMap::new(alloc);
+    let told = [
+        ("b", Ok(())),
+        ("b", Err(PutFault::Taken)),
+        ("a", Ok(())),
+        ("c", Err(PutFault::Limit)),
+        ("a", Err(PutFault::Taken)),
+    ];
+    for (text, wanted) in told {
+        let name = Name::read(alloc, text, 9).expect(&rt, "a name");
+        assert!(rt; names.put_within(2, name, 1_u64) == wanted, "at {text}");
+    }
+    assert!(rt; names.contains("a"));
+    assert!(rt; !names.contains("c"));
     Ok(())
 }
 

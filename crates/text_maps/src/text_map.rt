@@ -1,5 +1,6 @@
 // Maps from texts.
-ghost use Rattle.std.specs.Prelude.{◌≡◌, ◌++◌, ◌↔◌, List, ℕ, Some, OnOk, OnErr, IfSome, IfNone, IfOk, IsTrue, string_bytes, is_some, option_map};
+ghost use Rattle.std.specs.Prelude.{◌≡◌, ◌++◌, ◌↔◌, List, ℕ, Some, OnOk, OnErr, IfSome, IfNone, IfOk, IsTrue};
+ghost use Rattle.std.specs.Prelude.{string_bytes, is_some, option_map};
 ghost use Rattle.std.specs.Borrow.{LendsIf, sem};
 ghost use Rattle.std.specs.FinMap as map;
 ghost use Rattle.std.specs.Option.{option_copied, option_copied_mut};
