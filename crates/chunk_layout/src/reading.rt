@@ -12,7 +12,8 @@ ghost use Rattle.shapes.specs.declared.TheConstants.{MAX_RANK};
 ghost use Rattle.chunk_layout.specs.Chunks.{IsChunk};
 ghost use Rattle.chunk_layout.specs.Defaults.{IsDefault};
 ghost use Rattle.chunk_layout.specs.Layouts.{SpellsChunk, AsksNone, AsksChunk, IsObject, Fits};
-ghost use Rattle.chunk_layout.specs.Asked.{IsAnswer, asked_of, classed, wholes_in, first_bad, is_chunk_dim, is_too_big, chunked_of, sized_of};
+ghost use Rattle.chunk_layout.specs.Asked.{IsAnswer, asked_of, classed, wholes_in, first_bad, is_chunk_dim};
+ghost use Rattle.chunk_layout.specs.Asked.{is_too_big, chunked_of, sized_of};
 ghost use Rattle.chunk_layout.specs.declared.LayoutFault.{LayoutFault};
 
 use crate::sizes::bytes;
@@ -66,10 +67,9 @@ fn first_of(properties: &Value, shape: &Shape, size: u32) -> Result<Layout, Layo
     ensures { IsAnswer (dims_of shape.now) size
         (asked_of (view properties.now) (dims_of shape.now) size) result }
 {
-    match asked(properties, &shape.dims(), size) {
-        Ok(Some(chunk)) => Ok(Layout { chunk }),
-        Ok(None) => Ok(default_layout(shape, size)),
-        Err(fault) => Err(fault),
+    match asked(properties, &shape.dims(), size)? {
+        Some(chunk) => Ok(Layout { chunk }),
+        None => Ok(default_layout(shape, size)),
     }
 }
 

@@ -1,5 +1,6 @@
 // Records that are to be written in one piece.
-ghost use Rattle.std.specs.Prelude.{◌≡◌, ℕ, ◌+◌, ◌-◌, ◌^◌, ◌<◌, ◌≤◌, ◌↔◌, [], ◌∷◌, ◌++◌, length, drop, max, vec_len, vec_capacity, IsTrue, IsOk, OnOk, OnErr, Some};
+ghost use Rattle.std.specs.Prelude.{◌≡◌, ℕ, ◌+◌, ◌-◌, ◌^◌, ◌<◌, ◌≤◌, ◌↔◌, [], ◌∷◌, ◌++◌, length, drop, max};
+ghost use Rattle.std.specs.Prelude.{vec_len, vec_capacity, IsTrue, IsOk, OnOk, OnErr, Some};
 ghost use Rattle.flush_journal.specs.Frames.{frame_of, framed, framed_records, payload_of, record_size};
 ghost use Rattle.flush_journal.specs.Records.{Record, encoded, encoded_all, records_of};
 

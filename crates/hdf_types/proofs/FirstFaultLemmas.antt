@@ -54,7 +54,7 @@ named_float : (p name : List ℕ) → is_ieee name ≡ true → named_at p name 
 unfolding named_at
 named_float p name h = ap (λ o. int_or o p name) (float_no_int name h) ∙ ap (λ b. Err (fault p (cond b (Unsupported classes.Float) NotAType))) h
 
-class_read : (l : ℕ) (p : List ℕ) (d : Data) (c : Class) → NamesClass d c → node_at l p d ≡ Err (fault p (Unsupported c))
+pub class_read : (l : ℕ) (p : List ℕ) (d : Data) (c : Class) → NamesClass d c → node_at l p d ≡ Err (fault p (Unsupported c))
 unfolding node_by integer_at string_at class_cause
 class_read l p d c (inl h) = ap (node_at l p) h.0.1 ∙ named_float p h.0.0 h.0.2 ∙ ap (λ k. Err (fault p (Unsupported k))) (sym h.1)
 class_read l p d c (inr (inl h)) =
@@ -70,7 +70,7 @@ class_read l p d c (inr (inr (inr h))) =
     ((refl, refl, refl), ((refl, refl, refl), ((refl, refl, refl), ((refl, refl, refl), ((refl, refl, refl), ((refl, refl, refl), ((refl, refl, refl), ((refl, refl, refl), tt)))))))) h.2 in
     classed (compound_by (fields_at l)) p d h.0 h.1 ∙ rw (other.0, other.1, other.2) (ap (λ o. Err (fault p (cause_or o))) h.2)
 
-sized_read : (l : ℕ) (p : List ℕ) (d : Data) (n : ℕ) (h : IsSizedText d n) → node_at l p d ≡ sized_at p h.char_set.0 h.padding.0 n
+pub sized_read : (l : ℕ) (p : List ℕ) (d : Data) (n : ℕ) (h : IsSizedText d n) → node_at l p d ≡ sized_at p h.char_set.0 h.padding.0 n
 unfolding string_at
 sized_read l p d n h =
     let fixed : text_at (codes "length") d ≡ None = ap (option_and_then as_str) h.length_given in
@@ -79,7 +79,7 @@ sized_read l p d n h =
     rw (fixed, word_read false sets (get (codes "charSet") d) h.char_set.0 h.char_set.1, word_read NullTerm pads (get (codes "strPad") d) h.padding.0 h.padding.1, given) refl in
     classed (compound_by (fields_at l)) p d (codes "H5T_STRING") h.class ∙ told
 
-compound_told : (l : ℕ) (p : List ℕ) (d : Data) (ds : List Data) → IsCompound d ds → node_at l p d ≡ (fields_at l p ds >>= λ fs. Ok (compound fs))
+pub compound_told : (l : ℕ) (p : List ℕ) (d : Data) (ds : List Data) → IsCompound d ds → node_at l p d ≡ (fields_at l p ds >>= λ fs. Ok (compound fs))
 unfolding compound_by
 compound_told l p d ds h =
     let P = λ (es : List Data). 1 ≤ length es in
@@ -120,7 +120,7 @@ again_at j seen (n ∷ ns) k h = elim (chosen (list_any (λ m. bytes_eq m n) see
       (suc rest.0, omega (arith, place), omega (arith, low), rw e.0 rest.3, rw e.0 rest.4)
 ]
 
-first_again_is : (ns : List (List ℕ)) (k : ℕ) → first_again 0 [] ns ≡ Some k → IsFirstAgain k ns
+pub first_again_is : (ns : List (List ℕ)) (k : ℕ) → first_again 0 [] ns ≡ Some k → IsFirstAgain k ns
 first_again_is ns k h =
     let found = again_at 0 [] ns k h in
     let place = found.1 in

@@ -5,3 +5,4 @@ pub mod PrintLemmas
 pub mod SoundLemmas
 pub mod CauseLemmas
 pub mod FirstFaultLemmas
+pub mod FoundFaultLemmas

@@ -328,7 +328,7 @@ pub members_read : (d : Data) (items : Items) → get (codes "fields") d ≡ Som
 unfolding members_in
 members_read d items e h k = ap (λ o. option_and_then some_members (option_and_then list_in o)) e ∙ rw (le-leb 1 (length (list_of items)) h, k)
 
-member_read : (read : List ℕ → Data → Result Elem Fault) (path : List ℕ) (k : ℕ) (d inner : Data) (n : List ℕ) (e : Elem) → name_in d ≡ Some n → get (codes "type") d ≡ Some inner → read (path ++ k ∷ []) inner ≡ Ok e → member_at read path k d ≡ Ok (record { name = n; elem = e })
+pub member_read : (read : List ℕ → Data → Result Elem Fault) (path : List ℕ) (k : ℕ) (d inner : Data) (n : List ℕ) (e : Elem) → name_in d ≡ Some n → get (codes "type") d ≡ Some inner → read (path ++ k ∷ []) inner ≡ Ok e → member_at read path k d ≡ Ok (record { name = n; elem = e })
 unfolding member_at
 member_read read path k d inner n e named given is = rw (named, given, is)
 
@@ -354,7 +354,7 @@ mutual
       classed (compound_by (fields_at (suc l))) path d (codes "H5T_COMPOUND") h.0
       ∙ ap (λ r. r >>= λ gs. Ok (compound gs)) (compound_read l path d h.1.0 fs h.1.1 h.1.2 h.2 h.3 h.4 (fields_read fs l path 0 (list_of h.1.0) h.1.2 (omega arith)))
 
-  fields_read : (fs : FieldList) (l : ℕ) (path : List ℕ) (k : ℕ) (ds : List Data) → AreFields ds fs → fields_depth fs ≤ l → each_at (node_at l) path k ds ≡ Ok fs
+  pub fields_read : (fs : FieldList) (l : ℕ) (path : List ℕ) (k : ℕ) (ds : List Data) → AreFields ds fs → fields_depth fs ≤ l → each_at (node_at l) path k ds ≡ Ok fs
   fields_read no_fields l path k [] h s = refl
   fields_read no_fields l path k (d ∷ ds) h s = absurd h
   fields_read (field n e rest) l path k [] h s = absurd h

@@ -7,7 +7,8 @@ ghost use Rattle.json_trees.specs.Trees.{whole_in};
 ghost use Rattle.json_trees.specs.Shown.{shown};
 ghost use Rattle.hdf_types.specs.Faults.{Gives};
 ghost use Rattle.hdf_types.specs.Views.{elem};
-ghost use Rattle.hdf_types.specs.Reading.{int_named, name_cause, named_at, integer_at, string_at, sized_at, is_variable, word_or, sets, pads, class_cause};
+ghost use Rattle.hdf_types.specs.Reading.{int_named, name_cause, named_at, integer_at, string_at, sized_at};
+ghost use Rattle.hdf_types.specs.Reading.{is_variable, word_or, sets, pads, class_cause};
 ghost use Rattle.hdf_types.specs.declared.Pad.TheVariants.{NullTerm};
 
 use crate::faults::refused;

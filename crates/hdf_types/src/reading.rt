@@ -50,12 +50,12 @@ pub fn type_or_fault()
     ensures fault { (d : Data) (f : Fault) (e : Elem) → type_of d ≡ Err f → IsType d e → ⊥ }
 {}
 
-/// What the first fault of a tree says: the node at its path has this cause and none that is tried
-/// before it, the compounds around the node have none of their own, and the fields before it are
-/// types; or the whole tree is a type but for its size.
+/// A fault is a tree's first exactly where the node at its path has this cause and none that is
+/// tried before it, the compounds around the node have none of their own, and the fields before it
+/// are types; or where the whole tree is a type but for its size.
 pub fn first_fault()
     ensures { (d : Data) (path : List ℕ) (cause : Cause)
-        → type_of d ≡ Err (fault path cause) → IsFirstFault d path cause }
+        → ((type_of d ≡ Err (fault path cause)) ↔ IsFirstFault d path cause) }
 {}
 
 #[tactic(auto, unfolding(crate::specs::Reading::type_of))]

@@ -9,8 +9,7 @@ use Rattle.serde_json.specs.Data.{Data}
 use Rattle.json_trees.specs.Trees.{list_in}
 use Rattle.json_trees.specs.Faults.{◌>>=◌, Fails}
 use Rattle.json_trees.proofs.TreeLemmas.{list_in_array}
-use Rattle.hdf_types.specs.declared.IntType.{IntType}
-use Rattle.hdf_types.specs.Elems.{Elem, int}
+use Rattle.hdf_types.specs.Elems.{Elem}
 use Rattle.hdf_values.specs.Elements.{Fits}
 use Rattle.shapes.specs.Places.{cell_count}
 use Rattle.hdf_values.specs.declared.faults.ValueFault.{ValueFault}
@@ -73,7 +72,7 @@ whole_bytes e dims d old new next q h k =
     let same : k.0 ≡ nested_bytes e dims d = cc (k.1, nested_read e dims 0 d h) in
     k.2 ∙ ap (λ l. l ++ k.0) q ∙ same
 
--- numbers without an extent
-pub ints_fit : (e : Elem) (t : IntType) (dims : List ℕ) (ds : List Data) → e ≡ int t → true ≡ (length dims == 0) → AllByRecursion (Fits (int t)) ds → AllByRecursion (FitsNested e dims) ds
-ints_fit e t [] ds is none h = subst (λ (x : Elem). AllByRecursion (Fits x) ds) (sym is) h
-ints_fit e t (n ∷ ns) ds is none h = absurd (omega (arith, none_left (n ∷ ns) none))
+-- elements without an extent
+pub elements_fit : (e f : Elem) (dims : List ℕ) (ds : List Data) → e ≡ f → true ≡ (length dims == 0) → AllByRecursion (Fits f) ds → AllByRecursion (FitsNested e dims) ds
+elements_fit e f [] ds is none h = subst (λ (x : Elem). AllByRecursion (Fits x) ds) (sym is) h
+elements_fit e f (n ∷ ns) ds is none h = absurd (omega (arith, none_left (n ∷ ns) none))

@@ -7,7 +7,9 @@ ghost use Rattle.hdf_types.specs.Reading.{size_of, fields_size};
 ghost use Rattle.hdf_types.specs.Types.{IsSoundType, IsFormed, AreFormed};
 ghost use Rattle.hdf_types.specs.Views.{elem, field_list};
 ghost use Rattle.hdf_types.specs.declared.TheConstants.{MAX_SIZE};
-ghost use Rattle.hdf_values.specs.Elements.{Fits, FitFields, bytes_of, fields_bytes, normal, IsEncoded, AreEncodedFields, decoded, fields_decoded, zero_of, zeros_of, encoded, fields_encoded, joined, outcome};
+ghost use Rattle.hdf_values.specs.Elements.{Fits, FitFields, bytes_of, fields_bytes, normal, IsEncoded};
+ghost use Rattle.hdf_values.specs.Elements.{AreEncodedFields, decoded, fields_decoded, zero_of, zeros_of};
+ghost use Rattle.hdf_values.specs.Elements.{encoded, fields_encoded, joined, outcome};
 ghost use Rattle.hdf_values.specs.Nested.{placed};
 
 use crate::integers::{decode_int, encode_int};

@@ -8,7 +8,9 @@ ghost use Rattle.serde_json.specs.View.{view};
 ghost use Rattle.hdf_types.specs.Elems.{int as int_type};
 ghost use Rattle.hdf_types.specs.Reading.{int_size};
 ghost use Rattle.hdf_types.specs.Types.{IsWidth};
-ghost use Rattle.hdf_values.specs.Integers.{integer_in, in_range as is_in_range, least as least_of, greatest as greatest_of, int_bytes, int_value, twos as twos_of, low_first as low_bytes, number_of, signed_of};
+ghost use Rattle.hdf_values.specs.Integers.{integer_in, in_range as is_in_range, least as least_of};
+ghost use Rattle.hdf_values.specs.Integers.{greatest as greatest_of, int_bytes, int_value, twos as twos_of};
+ghost use Rattle.hdf_values.specs.Integers.{low_first as low_bytes, number_of, signed_of};
 ghost use Rattle.hdf_values.specs.Elements.{Fits, IsNumberIn, decoded, int_encoded, outcome};
 ghost use Rattle.hdf_values.specs.Nested.{Appends, AppendsEach, pieces};
 

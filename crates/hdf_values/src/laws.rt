@@ -1,6 +1,7 @@
 //! Laws about values and their bytes.
 
-ghost use Rattle.std.specs.Prelude.{◌≡◌, ◌↔◌, ◌⊎◌, ◌<◌, ◌≤◌, ℕ, ◌+◌, ◌*◌, List, [], ◌∷◌, ◌++◌, Some, Ok, Err, length, slice_index_or, codes};
+ghost use Rattle.std.specs.Prelude.{◌≡◌, ◌↔◌, ◌⊎◌, ◌<◌, ◌≤◌, ℕ, ◌+◌, ◌*◌, List, [], ◌∷◌, ◌++◌, Some, Ok, Err};
+ghost use Rattle.std.specs.Prelude.{length, slice_index_or, codes};
 ghost use Rattle.std.specs.List.{AllByRecursion, flat_map};
 ghost use Rattle.serde_json.specs.Data.{Data, null};
 ghost use Rattle.serde_json.specs.Find.{get};
@@ -20,7 +21,9 @@ ghost use Rattle.shapes.specs.Printed.{shape_tree};
 ghost use Rattle.shapes.specs.Places.{IsInside, cell_count, place};
 ghost use Rattle.hdf_values.specs.Texts.{AreTexts};
 ghost use Rattle.hdf_values.specs.Elements.{Fits, bytes_of, normal, decoded, encoded, zero_of, IsEncoded};
-ghost use Rattle.hdf_values.specs.Nested.{FitsNested, elements, tree_at, nested_bytes, nested_normal, nested_decoded, nested_from, AreEncoded, piece_at, pieces_at, with_pieces};
+ghost use Rattle.hdf_values.specs.Nested.{FitsNested, elements, tree_at, nested_bytes, nested_normal};
+ghost use Rattle.hdf_values.specs.Nested.{nested_decoded, nested_from, AreEncoded, piece_at, pieces_at};
+ghost use Rattle.hdf_values.specs.Nested.{with_pieces};
 ghost use Rattle.hdf_values.specs.Lowest.{HasFault, IsLowest, IsFirstFault, IsFaultBehind};
 ghost use Rattle.hdf_values.specs.Shaped.{IsValue, value_from, value_tree};
 ghost use Rattle.hdf_values.specs.Attributes.{Content, content, IsAttribute, IsSoundAttribute, attribute_of};

@@ -11,10 +11,12 @@ ghost use Rattle.shapes.specs.Places.{cell_count};
 ghost use Rattle.hdf_values.specs.declared.TheConstants.{MAX_AHEAD};
 ghost use Rattle.hdf_values.specs.Elements.{Fits};
 ghost use Rattle.json_trees.specs.Faults.{Fails, Gives};
-ghost use Rattle.hdf_values.specs.Nested.{FitsNested, nested_bytes, nested_normal, nested_from, nested_decoded, Appends, AppendsEach, AreEncoded, pieces};
+ghost use Rattle.hdf_values.specs.Nested.{FitsNested, nested_bytes, nested_normal, nested_from};
+ghost use Rattle.hdf_values.specs.Nested.{nested_decoded, Appends, AppendsEach, AreEncoded, pieces};
 
 use crate::elements::{decode, encode_part};
 use crate::integers::{ints_list, read_ints};
+use crate::texts::{read_texts, texts_list};
 use crate::{MAX_AHEAD, ValueFault};
 use hdf_types::ElemType;
 use json_trees::list_items;
@@ -116,8 +118,10 @@ fn read_members(
         (λ _. AllByRecursion (FitsNested (elem kind.now) extents.now) (map view items.now)) }
     ensures place { IfOk result (λ next. next * size ≡ length out.new.items) }
 {
-    if let (ElemType::Int(int), true) = (kind, extents.is_empty()) {
-        return read_ints(int, items, place, out);
+    match (kind, extents.is_empty()) {
+        (ElemType::Int(int), true) => return read_ints(int, items, place, out),
+        (ElemType::Text(text), true) => return read_texts(text, items, place, out),
+        _ => {}
     }
     let mut next = place;
     for item in items {
@@ -209,8 +213,10 @@ fn members_list(
         ≡ map (nested_decoded (elem kind.now) extents.now)
         (pieces count (cell_count extents.now * size_of (elem kind.now)) bytes.now)) }
 {
-    if let (ElemType::Int(int), true) = (kind, extents.is_empty()) {
-        return ints_list(alloc, int, count, bytes);
+    match (kind, extents.is_empty()) {
+        (ElemType::Int(int), true) => return ints_list(alloc, int, count, bytes),
+        (ElemType::Text(text), true) => return texts_list(alloc, text, count, bytes),
+        _ => {}
     }
     let mut list = Vec::with_capacity(alloc, count as usize)?;
     let step = bytes.len() / (count as usize).max(1);

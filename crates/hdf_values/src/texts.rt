@@ -1,15 +1,17 @@
 //! Texts of a fixed length: their bytes, and what fills them up.
 
-ghost use Rattle.std.specs.Prelude.{◌≡◌, ◌≤◌, ◌↔◌, Ok, List, ℕ, IsTrue, IsUtf8, IfOk, length, take, replicate, nat_le, nat_eq};
+ghost use Rattle.std.specs.Prelude.{◌≡◌, ◌≤◌, ◌↔◌, ◌*◌, ℕ, List, [], length, map, take, replicate};
+ghost use Rattle.std.specs.Prelude.{Ok, IsTrue, IfOk, IsUtf8, nat_le, nat_eq};
 ghost use Rattle.serde_json.specs.Data.{string};
-ghost use Rattle.std.specs.List.{list_any};
+ghost use Rattle.std.specs.List.{AllByRecursion, list_any};
 ghost use Rattle.hdf_types.specs.Elems.{text};
 ghost use Rattle.serde_json.specs.Find.{as_str};
 ghost use Rattle.serde_json.specs.View.{view};
 ghost use Rattle.hdf_values.specs.Texts.{fill as fill_of, most_of, FitsText, text_misfit, padded, without_end};
+ghost use Rattle.hdf_values.specs.Nested.{Appends, AppendsEach, AreEncoded, pieces};
 ghost use Rattle.hdf_values.specs.Elements.{text_encoded, outcome, Fits, IsEncoded, decoded};
 
-use crate::Misfit;
+use crate::{Misfit, ValueFault};
 use hdf_types::{Pad, TextType};
 use serde_json::Value;
 use std::alloc::{AllocError, Global};
@@ -92,6 +94,50 @@ pub fn encode_text(kind: &TextType, tree: &Value, out: &mut [u8]) -> Result<(), 
     Ok(())
 }
 
+/// Appends the bytes of trees that are texts of this type, the first of which has a place; the
+/// answer is the place behind the last.
+pub(crate) fn read_texts(
+    kind: &TextType,
+    items: &[Value],
+    place: u64,
+    out: &mut Vec<u8>,
+) -> Result<u64, ValueFault>
+    requires some { 1 ≤ kind.now.len }
+    requires place { place * kind.now.len ≡ length out.old.items }
+    ensures reads { AppendsEach (text kind.now) []
+        (map view items.now) place out.old.items out.new.items result }
+    ensures fits { IfOk result (λ _. AllByRecursion (Fits (text kind.now)) (map view items.now)) }
+    ensures place { IfOk result (λ next. next * kind.now.len ≡ length out.new.items) }
+{
+    let mut next = place;
+    for item in items {
+        next = read_text(kind, item, next, out)?;
+    }
+    Ok(next)
+}
+
+fn read_text(
+    kind: &TextType,
+    tree: &Value,
+    place: u64,
+    out: &mut Vec<u8>,
+) -> Result<u64, ValueFault>
+    requires some { 1 ≤ kind.now.len }
+    requires place { place * kind.now.len ≡ length out.old.items }
+    ensures reads { Appends (text kind.now) []
+        (view tree.now) place out.old.items out.new.items result }
+    ensures fits { IfOk result (λ _. Fits (text kind.now) (view tree.now)) }
+    ensures place { IfOk result (λ next. next * kind.now.len ≡ length out.new.items) }
+{
+    let from = out.len();
+    out.resize(from + kind.len as usize, 0)?;
+    let (_, room) = out.as_mut_slice().split_at_mut(from);
+    match encode_text(kind, tree, room) {
+        Ok(()) => Ok(place + 1),
+        Err(misfit) => Err(misfit.at(place)),
+    }
+}
+
 /// How many bytes stand in front of those that fill up.
 fn kept_len(bytes: &[u8], fill: u8) -> usize
     ensures within { result ≤ length bytes.now }
@@ -137,4 +183,25 @@ pub fn decode_text(alloc: Global, kind: &TextType, bytes: &[u8]) -> Result<Value
         Ok(text) => Ok(Value::String(String::from_str(alloc, text)?)),
         Err(_) => unreachable!(),
     }
+}
+
+/// The texts that so many pieces of the bytes are, as trees.
+pub(crate) fn texts_list(
+    alloc: Global,
+    kind: &TextType,
+    count: u64,
+    bytes: &[u8],
+) -> Result<Vec<Value>, AllocError>
+    requires { AreEncoded (text kind.now) count bytes.now }
+    ensures { IfOk result (λ list. map view list.items
+        ≡ map (decoded (text kind.now)) (pieces count kind.now.len bytes.now)) }
+{
+    let mut list = Vec::with_capacity(alloc, count as usize)?;
+    let mut left = bytes;
+    for _ in 0..count {
+        let (front, back) = left.split_at(kind.len as usize);
+        list.push(decode_text(alloc, kind, front)?)?;
+        left = back;
+    }
+    Ok(list)
 }

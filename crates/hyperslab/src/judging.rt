@@ -9,7 +9,8 @@ ghost use Rattle.hyperslab.specs.declared.Slab.{Slab};
 ghost use Rattle.hyperslab.specs.declared.SlabFault.{SlabFault};
 ghost use Rattle.hyperslab.specs.Outcomes.{IsOutcome};
 ghost use Rattle.hyperslab.specs.Selected.{AreAxes, IsRanked, IsSlab, axes_of, extents};
-ghost use Rattle.hyperslab.specs.Judged.{fault_on, first_fault as fault_from, bounded as bounded_of, judged_in as judged_of, judged as judged_by};
+ghost use Rattle.hyperslab.specs.Judged.{fault_on, first_fault as fault_from, bounded as bounded_of};
+ghost use Rattle.hyperslab.specs.Judged.{judged_in as judged_of, judged as judged_by};
 
 use crate::selected::extents_of;
 use crate::{MAX_SELECTED, Slab, SlabFault};

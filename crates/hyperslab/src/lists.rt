@@ -10,7 +10,8 @@ ghost use Rattle.hyperslab.specs.declared.Slab.{Slab};
 ghost use Rattle.hyperslab.specs.declared.SlabFault.TheVariants.{Syntax};
 ghost use Rattle.hyperslab.specs.Outcomes.{AreLists, IsGiven};
 ghost use Rattle.hyperslab.specs.Selected.{IsSlab, SlabIn};
-ghost use Rattle.hyperslab.specs.Judged.{list_or as list_from, lists_in, is_absent as absent, is_scalar as scalar, judged as judged_by, lists_slab};
+ghost use Rattle.hyperslab.specs.Judged.{list_or as list_from, lists_in, is_absent as absent};
+ghost use Rattle.hyperslab.specs.Judged.{is_scalar as scalar, judged as judged_by, lists_slab};
 
 use crate::all_cells::whole;
 use crate::judging::judged;

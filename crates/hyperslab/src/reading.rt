@@ -14,7 +14,15 @@ ghost use Rattle.hyperslab.specs.declared.reading.Part.{Part};
 ghost use Rattle.hyperslab.specs.declared.reading.Number.TheVariants.{Digits};
 ghost use Rattle.hyperslab.specs.declared.reading.Phase.TheVariants.{Before};
 ghost use Rattle.hyperslab.specs.declared.TheConstants.{MAX_DIGITS};
-ghost use Rattle.hyperslab.specs.Steps.{ten_to, IsNumber, IsPiece, IsPhase, or_number as number_or, digit_step as digit_stepped, space_step as space_stepped, number_step as number_stepped, number_of, colon_step as colon_stepped, piece_step as piece_stepped, single as single_part, stepped_part, part_of, ended_at as ended, still_inside as still, inside_step as inside_stepped, before_step as before_stepped, closed_step as closed_stepped, step_of, with_axis, keep_one as kept_one, keep_part as kept_with, judged_kept as kept_judged, read_on, nothing_kept, text_slab};
+ghost use Rattle.hyperslab.specs.Steps.{ten_to, IsNumber, IsPiece, IsPhase, or_number as number_or};
+ghost use Rattle.hyperslab.specs.Steps.{digit_step as digit_stepped, space_step as space_stepped};
+ghost use Rattle.hyperslab.specs.Steps.{number_step as number_stepped, number_of};
+ghost use Rattle.hyperslab.specs.Steps.{colon_step as colon_stepped, piece_step as piece_stepped};
+ghost use Rattle.hyperslab.specs.Steps.{single as single_part, stepped_part, part_of, ended_at as ended};
+ghost use Rattle.hyperslab.specs.Steps.{still_inside as still, inside_step as inside_stepped};
+ghost use Rattle.hyperslab.specs.Steps.{before_step as before_stepped, closed_step as closed_stepped};
+ghost use Rattle.hyperslab.specs.Steps.{step_of, with_axis, keep_one as kept_one, keep_part as kept_with};
+ghost use Rattle.hyperslab.specs.Steps.{judged_kept as kept_judged, read_on, nothing_kept, text_slab};
 
 use crate::judging::judged;
 use crate::{MAX_DIGITS, Slab, SlabFault};
@@ -284,13 +292,11 @@ fn ended_at(phase: Phase, part: Option<Part>) -> Option<Moved>
     ensures moved { result ≡ ended phase part }
     ensures sound { IfSome result (λ m. IsPhase m.phase) }
 {
-    match part {
-        None => None,
-        Some(part) => Some(Moved {
-            phase,
-            part: Some(part),
-        }),
-    }
+    let part = part?;
+    Some(Moved {
+        phase,
+        part: Some(part),
+    })
 }
 
 fn still_inside(piece: Option<Piece>) -> Option<Moved>
@@ -298,13 +304,11 @@ fn still_inside(piece: Option<Piece>) -> Option<Moved>
     ensures moved { result ≡ still piece }
     ensures sound { IfSome result (λ m. IsPhase m.phase) }
 {
-    match piece {
-        None => None,
-        Some(piece) => Some(Moved {
-            phase: Phase::Inside(piece),
-            part: None,
-        }),
-    }
+    let piece = piece?;
+    Some(Moved {
+        phase: Phase::Inside(piece),
+        part: None,
+    })
 }
 
 fn piece_step(piece: Piece, b: u8) -> Option<Piece>
@@ -316,18 +320,9 @@ fn piece_step(piece: Piece, b: u8) -> Option<Piece>
         return colon_step(piece);
     }
     match piece {
-        Piece::First(n) => match number_step(n, b) {
-            None => None,
-            Some(n) => Some(Piece::First(n)),
-        },
-        Piece::Second(start, n) => match number_step(n, b) {
-            None => None,
-            Some(n) => Some(Piece::Second(start, n)),
-        },
-        Piece::Third(start, stop, n) => match number_step(n, b) {
-            None => None,
-            Some(n) => Some(Piece::Third(start, stop, n)),
-        },
+        Piece::First(n) => Some(Piece::First(number_step(n, b)?)),
+        Piece::Second(start, n) => Some(Piece::Second(start, number_step(n, b)?)),
+        Piece::Third(start, stop, n) => Some(Piece::Third(start, stop, number_step(n, b)?)),
     }
 }
 
@@ -362,27 +357,23 @@ fn single(read: Option<u64>) -> Option<Part>
     requires { IfSome read (λ n. n < ten_to MAX_DIGITS) }
     ensures { result ≡ single_part read }
 {
-    match read {
-        None => None,
-        Some(n) => Some(Part {
-            start: n,
-            stop: Some(n + 1),
-            step: 1,
-        }),
-    }
+    let n = read?;
+    Some(Part {
+        start: n,
+        stop: Some(n + 1),
+        step: 1,
+    })
 }
 
 fn stepped(start: Option<u64>, stop: Option<u64>, step: Option<u64>) -> Option<Part>
     ensures { result ≡ stepped_part start stop step }
 {
-    match step {
-        None => None,
-        Some(step) => Some(Part {
-            start: or_number(start, 0),
-            stop,
-            step,
-        }),
-    }
+    let step = step?;
+    Some(Part {
+        start: or_number(start, 0),
+        stop,
+        step,
+    })
 }
 
 fn found(read: Number) -> Option<u64>

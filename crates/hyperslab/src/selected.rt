@@ -6,7 +6,9 @@ ghost use Rattle.shapes.specs.Places.{cell_count, room_of, IsInside, place};
 ghost use Rattle.shapes.specs.Shapes.{IsSound, dims_of, count_of, LiesIn};
 ghost use Rattle.shapes.specs.declared.Shape.{Shape};
 ghost use Rattle.shapes.specs.declared.TheConstants.{MAX_RANK};
-ghost use Rattle.hyperslab.specs.Selected.{AreApart, AreAxes, IsAlike, IsRanked, IsSlab, SlabIn, axes_of, cell_at, extents, extent as extent_of, is_at, on_count, point, selected, slab_cells, FitsIn};
+ghost use Rattle.hyperslab.specs.Selected.{AreApart, AreAxes, IsAlike, IsRanked, IsSlab, SlabIn, axes_of};
+ghost use Rattle.hyperslab.specs.Selected.{cell_at, extents, extent as extent_of, is_at, on_count, point};
+ghost use Rattle.hyperslab.specs.Selected.{selected, slab_cells, FitsIn};
 ghost use Rattle.hyperslab.specs.declared.Slab.{Slab};
 ghost use Rattle.hyperslab.specs.declared.TheConstants.{MAX_SELECTED};
 

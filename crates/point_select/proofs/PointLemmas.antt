@@ -1,13 +1,14 @@
 -- The tests in order find the points that the grammar relates to the tree, and no other.
-use Rattle.std.proofs.Common.{◌≡◌, ℕ, suc, ◌+◌, ◌<◌, ◌≤◌, false, cond, inl, inr, List, [], ◌∷◌, ◌++◌, length, All, Option, Some, None, Result, Ok, Err, IfOk, nat_lt, nat_eq, refl, sym, ap, subst, ◌∙◌, arith, add-one}
+use Rattle.std.proofs.Common.{◌≡◌, ℕ, suc, ◌+◌, ◌<◌, ◌≤◌, false, cond, inl, inr, ◌⊎◌, List, [], ◌∷◌, ◌++◌, length, All, Option, Some, None, option_and_then, Result, Ok, Err, IfOk, nat_le, nat_lt, nat_eq, refl, sym, ap, subst, ◌∙◌, arith, add-one}
 use Rattle.std.specs.List.{AllZip}
+use Rattle.std.proofs.Math.Bool.{and-false}
 use Rattle.std.proofs.lemmas.Bool.{eqb-true, false≢true, eq-eqb}
 use Rattle.std.proofs.lemmas.Bool.Decides.{nat_tests}
 use Rattle.std.proofs.lemmas.List.{append_assoc}
 use Rattle.std.proofs.lemmas.List.Elements.{All-nil, All-cons}
 use Rattle.serde_json.specs.Data.{Data, Items, array}
-use Rattle.json_trees.specs.Trees.{list_of, list_in}
-use Rattle.json_trees.proofs.TreeLemmas.{list_in_array, length-AllZip}
+use Rattle.json_trees.specs.Trees.{list_of, list_in, all_in}
+use Rattle.json_trees.proofs.TreeLemmas.{list_in_array, length-AllZip, AllZip-all_in}
 use Rattle.json_trees.specs.Faults.{◌>>=◌}
 use Rattle.json_trees.proofs.FaultLemmas.{chosen, test_ok, bind_ok}
 use Rattle.shapes.specs.declared.Shape.{Shape}
@@ -15,12 +16,35 @@ use Rattle.shapes.specs.declared.Shape.TheVariants.{Null, Scalar, Simple}
 use Rattle.shapes.specs.Places.{IsInside, is_inside}
 use Rattle.shapes.specs.Shapes.{IsDims, LiesIn}
 use Rattle.shapes.proofs.ShapeLemmas.{dims_alone_told, dims_alone_read}
+use Rattle.shapes.specs.declared.TheConstants.{MAX_RANK}
+use Rattle.shapes.specs.Spelled.{few_of}
 use Rattle.point_select.specs.declared.TheConstants.{MAX_POINTS}
 use Rattle.point_select.specs.declared.PointFault.{PointFault}
 use Rattle.point_select.specs.declared.PointFault.TheVariants.{Syntax, TooMany, Rank, Past}
 use Rattle.point_select.specs.Points.{IsPoint, SpellsPoints, IsBadPoint, IsFirstBad}
 use Rattle.shapes.proofs.InsideLemmas.{inside_told, inside_read}
 use Rattle.point_select.specs.Faults.{coords_in, point_at, point_of, followed, points_from, points_in, counted_points, points_of, GivesPoints}
+
+-- ---- the coordinates of one point
+
+-- a list without numbers, or with more than a shape may have axes
+pub not_few : (f : Data → Option ℕ) (ds : List Data) → (length ds ≡ 0) ⊎ (MAX_RANK < length ds) → None ≡ option_and_then few_of (all_in f ds)
+not_few f ds wrong = by_found (all_in f ds) refl
+  where
+    refused : (ns : List ℕ) → length ns ≡ length ds → (length ds ≡ 0) ⊎ (MAX_RANK < length ds) → few_of ns ≡ None
+    refused ns same (inl none) =
+        let fails : nat_le 1 (length ns) ≡ false = grind (arith, nat_tests, same, none) in
+        rw fails refl
+    refused ns same (inr many) =
+        let fails : nat_le (length ns) MAX_RANK ≡ false = grind (arith, nat_tests, same, many) in
+        rw (fails, and-false (nat_le 1 (length ns))) refl
+
+    by_found : (o : Option (List ℕ)) → all_in f ds ≡ o → None ≡ option_and_then few_of (all_in f ds)
+    by_found None is = rw is refl
+    by_found (Some ns) is =
+        let each = AllZip-all_in f (λ x y. f x ≡ Some y) (λ x y e. e) ds ns is in
+        let same = length-AllZip (λ x y. f x ≡ Some y) ds ns each in
+        rw is (sym (refused ns same wrong))
 
 -- ---- one point
 

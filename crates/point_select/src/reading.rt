@@ -1,21 +1,25 @@
 //! How JSON trees spell points.
 
-ghost use Rattle.std.specs.Prelude.{◌≡◌, ◌≤◌, ◌↔◌, ℕ, List, All, length, map, Ok, Err, IfOk};
+ghost use Rattle.std.specs.Prelude.{◌≡◌, ◌≤◌, ◌↔◌, ℕ, List, [], All, length, map, Ok, Err, IfOk};
+ghost use Rattle.std.specs.Prelude.{option_map, option_and_then};
 ghost use Rattle.serde_json.specs.Data.{Data, Items, array};
 ghost use Rattle.serde_json.specs.View.{view};
 ghost use Rattle.shapes.specs.declared.Shape.{Shape};
 ghost use Rattle.shapes.specs.declared.Shape.TheVariants.{Simple};
 ghost use Rattle.shapes.specs.Places.{is_inside};
 ghost use Rattle.shapes.specs.Shapes.{LiesIn, lies_in, dims_of};
-ghost use Rattle.json_trees.specs.Trees.{list_of};
+ghost use Rattle.shapes.specs.Extents.{extent_in};
+ghost use Rattle.shapes.specs.Spelled.{few_of};
+ghost use Rattle.json_trees.specs.Faults.{◌>>=◌ as followed_by};
+ghost use Rattle.json_trees.specs.Trees.{list_of, all_in};
 ghost use Rattle.point_select.specs.Points.{SpellsPoints, IsFirstBad};
 ghost use Rattle.point_select.specs.Faults.{coords_in, point_of, points_from, points_of, GivesPoints};
 ghost use Rattle.point_select.specs.declared.PointFault.{PointFault};
 
 use crate::{MAX_POINTS, PointFault, Points};
-use json_trees::list_items;
+use json_trees::{list_items, whole_number};
 use serde_json::Value;
-use shapes::{Dims, Shape, read_dims};
+use shapes::{Dims, MAX_EXTENT, MAX_RANK, Shape};
 use std::alloc::Global;
 
 /// The points of a shape that a tree spells: a list of at most [`MAX_POINTS`] points, each a list
@@ -81,32 +85,71 @@ fn all_points(
 {
     let mut list = Vec::with_capacity(alloc, items.len())?;
     for (index, item) in items.iter().enumerate() {
-        list.push_reserved(point(item, shape, rank, index as u64)?);
+        let mut at = Dims::new();
+        read_point(item, shape, rank, index as u64, &mut at)?;
+        list.push_reserved(at);
     }
     Ok(Points::new(list))
 }
 
+/// Writes the coordinates of a point, which has a number, into an empty list.
 #[tactic(auto, unfolding(crate::specs::Faults::point_of))]
-fn point(item: &Value, shape: &Shape, rank: usize, index: u64) -> Result<Dims, PointFault>
+fn read_point(
+    item: &Value,
+    shape: &Shape,
+    rank: usize,
+    index: u64,
+    at: &mut Dims,
+) -> Result<(), PointFault>
+    requires empty { at.old ≡ [] }
     requires rank { rank ≡ length (dims_of shape.now) }
     requires axes { (at : List ℕ) → lies_in at shape.now ≡ is_inside at (dims_of shape.now) }
-    ensures { result ≡ point_of (dims_of shape.now) index (view item.now) }
+    ensures { followed_by result (λ _. Ok at.new)
+        ≡ point_of (dims_of shape.now) index (view item.now) }
 {
-    let Some(at) = coords(item) else {
+    if read_coords(item, at).is_none() {
         return Err(PointFault::Syntax { index });
-    };
+    }
     if at.len() != rank {
         return Err(PointFault::Rank { index });
     }
-    if shape.contains(&at) {
-        Ok(at)
+    if shape.contains(at) {
+        Ok(())
     } else {
         Err(PointFault::Past { index })
     }
 }
 
-fn coords(item: &Value) -> Option<Dims>
-    ensures { result ≡ coords_in (view item.now) }
+fn read_coords(item: &Value, at: &mut Dims) -> Option<()>
+    requires { at.old ≡ [] }
+    ensures { option_map (λ _. at.new) result ≡ coords_in (view item.now) }
 {
-    read_dims(item)
+    match list_items(item) {
+        Some(items) => read_list(items, at),
+        None => {
+            at.push(coordinate(item)?);
+            Some(())
+        }
+    }
+}
+
+fn read_list(items: &[Value], at: &mut Dims) -> Option<()>
+    requires { at.old ≡ [] }
+    ensures { option_map (λ _. at.new) result
+        ≡ option_and_then few_of (all_in extent_in (map view items.now)) }
+{
+    if items.is_empty() || MAX_RANK < items.len() {
+        return None;
+    }
+    for item in items {
+        at.push(coordinate(item)?);
+    }
+    Some(())
+}
+
+fn coordinate(tree: &Value) -> Option<u64>
+    ensures { result ≡ extent_in (view tree.now) }
+{
+    let n = whole_number(tree)?;
+    if n <= MAX_EXTENT { Some(n) } else { None }
 }

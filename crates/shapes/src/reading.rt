@@ -1,6 +1,8 @@
 //! How JSON trees spell shapes and dims (HDF5/JSON, "Shape"), and how a shape takes other dims.
 
-ghost use Rattle.std.specs.Prelude.{◌≡◌, ◌≤◌, ◌↔◌, ℕ, ◌∷◌, [], List, Option, Some, None, Ok, Err, All, map, length, option_map, option_and_then, IfOk, IfSome, min, codes, nat_le, ◌-◌, ◌^◌};
+ghost use Rattle.std.specs.Prelude.{◌≡◌, ◌≤◌, ◌↔◌, ℕ, ◌∷◌, [], List, Option, Some, None, Ok, Err, All, map};
+ghost use Rattle.std.specs.Prelude.{length, option_map, option_and_then, IfOk, IfSome, min, codes, nat_le};
+ghost use Rattle.std.specs.Prelude.{◌-◌, ◌^◌};
 ghost use Rattle.serde_json.specs.Data.{Data};
 ghost use Rattle.serde_json.specs.View.{view};
 ghost use Rattle.serde_json.specs.Find.{get};
@@ -9,7 +11,9 @@ ghost use Rattle.json_trees.specs.Trees.{all_in, list_in};
 ghost use Rattle.shapes.specs.Extents.{extent_in, extents_in, dims_in};
 ghost use Rattle.shapes.specs.Spelled.{kept_of, number_in, kept_grid, kept_limited, kept_simple, few_of};
 ghost use Rattle.shapes.specs.Places.{room_of};
-ghost use Rattle.shapes.specs.Shapes.{IsShape, IsSound, IsResized, IsDims, shape_of, resized_of, fitted_of, plain_of, worded_of, word_of, limits_tree, is_over as over_limit, first_over as over_from};
+ghost use Rattle.shapes.specs.Shapes.{IsShape, IsSound, IsResized, IsDims, shape_of, resized_of, fitted_of};
+ghost use Rattle.shapes.specs.Shapes.{plain_of, worded_of, word_of, limits_tree, is_over as over_limit};
+ghost use Rattle.shapes.specs.Shapes.{first_over as over_from};
 ghost use Rattle.shapes.specs.declared.Shape.{Shape};
 ghost use Rattle.shapes.specs.declared.ShapeFault.{ShapeFault};
 ghost use Rattle.shapes.specs.declared.TheConstants.{MAX_RANK, MAX_EXTENT, MAX_CELLS};

@@ -5,11 +5,11 @@ use Rattle.std.proofs.lemmas.List.{drop_more, drop_all, length-drop, length-map,
 use Rattle.std.proofs.lemmas.Result.{IfOk-weaker}
 use Rattle.serde_json.specs.View.{view}
 use Rattle.serde_json.specs.declared.value.Value.{Value}
-use Rattle.hdf_types.specs.Elems.{int as int_type}
+use Rattle.hdf_types.specs.Elems.{int as int_type, text as text_type}
 use Rattle.hdf_types.specs.Views.{elem}
 use Rattle.hdf_values.specs.Elements.{Fits}
 use Rattle.hdf_values.specs.Nested.{FitsNested, AppendsEach}
-use Rattle.hdf_values.proofs.ReadLemmas.{some_extent, no_list, members_fit, appends_more, appends_none, ints_fit}
+use Rattle.hdf_values.proofs.ReadLemmas.{some_extent, no_list, members_fit, appends_more, appends_none, elements_fit}
 use Rattle.hdf_values.proofs.nested.+reads.Goals as goal
 
 pub read_axes-returns-in_default-clause-reads : goal.read_axes-returns-in_default-clause-reads
@@ -60,7 +60,16 @@ read_members-returns-clause-reads t c =
 
 pub read_members-returns-in-Int-true-clause-fits : goal.read_members-returns-in-Int-true-clause-fits
 read_members-returns-in-Int-true-clause-fits t c =
+    let e = elem c.args.kind.now in
     let int = c.in-Int-true.int in
     let ds = map view c.args.items.now in
-    IfOk-weaker c.read_ints.result (λ n. AllByRecursion (Fits (int_type int)) ds) (λ n. AllByRecursion (FitsNested (elem c.args.kind.now) c.args.extents.now) ds)
-    (λ n. ints_fit (elem c.args.kind.now) int c.args.extents.now ds (ap elem c.in-Int-true.is-0) c.in-Int-true.ensures) c.read_ints.ensures.fits
+    IfOk-weaker c.read_ints.result (λ n. AllByRecursion (Fits (int_type int)) ds) (λ n. AllByRecursion (FitsNested e c.args.extents.now) ds)
+    (λ n. elements_fit e (int_type int) c.args.extents.now ds (ap elem c.in-Int-true.is-0) c.in-Int-true.ensures) c.read_ints.ensures.fits
+
+pub read_members-returns-in-Text-true-clause-fits : goal.read_members-returns-in-Text-true-clause-fits
+read_members-returns-in-Text-true-clause-fits t c =
+    let e = elem c.args.kind.now in
+    let text = c.in-Text-true.text in
+    let ds = map view c.args.items.now in
+    IfOk-weaker c.read_texts.result (λ n. AllByRecursion (Fits (text_type text)) ds) (λ n. AllByRecursion (FitsNested e c.args.extents.now) ds)
+    (λ n. elements_fit e (text_type text) c.args.extents.now ds (ap elem c.in-Text-true.is-0) c.in-Text-true.ensures) c.read_texts.ensures.fits
