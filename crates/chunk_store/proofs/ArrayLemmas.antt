@@ -1,28 +1,30 @@
 -- Marks and the indexes that they have, after each call.
-use Rattle.std.proofs.Common.{◌≡◌, ℕ, Bool, true, false, cond, is_some, List, [], length, Option, Some, None, IsSome, Result, Ok, Err, OnOk, bytes_eq, refl, sym, ap, subst, ◌∙◌, ◌⊎◌, inl, inr}
+use Rattle.std.proofs.Common.{◌≡◌, ℕ, Bool, true, false, cond, is_some, List, [], Option, Some, None, IsSome, Result, Ok, Err, OnOk, OnErr, bytes_eq, refl, sym, ap, subst, ◌∙◌, ◌⊎◌, inl, inr}
 use Rattle.std.specs.List.{AllByRecursion}
 use Rattle.std.specs.Map.{lookup}
 use Rattle.shapes.specs.Shapes.{LiesIn}
 use Rattle.chunk_store.specs.Cells.{put}
 use Rattle.chunk_store.specs.Grids.{Grid, IsWhole}
+use Rattle.chunk_store.specs.Indexes.{IsIndex}
 use Rattle.chunk_store.specs.Marks.{Stored, AreIndexes, state, in_grid, touches, IsNoted, MarksBegun, MarksWritten, MarksCut, after_cut, cleared}
 use Rattle.chunk_store.proofs.KeyLemmas.{put_cases}
-use Rattle.chunk_store.proofs.TrackLemmas.{touched_grid, rank_of}
+use Rattle.chunk_store.proofs.ChunkLemmas.{index_here}
+use Rattle.chunk_store.proofs.TrackLemmas.{touched_grid}
 
--- a mark that is there was there, or is that of a chunk in the grid
+-- a mark that is there was there, or has an index
 abbrev IsFrom : Grid → List ℕ → Option Bool → Option Bool → Type 0
-IsFrom h i o p = IsSome p → IsSome o ⊎ (in_grid h i ≡ true)
+IsFrom h i o p = IsSome p → IsSome o ⊎ IsIndex h.chunk i
 
 indexes_from : (s t : Stored) → t.grid.chunk ≡ s.grid.chunk → ((i : List ℕ) → IsFrom s.grid i (state s i) (state t i)) → AreIndexes s → AreIndexes t
-indexes_from s t same from ranks = λ i there. elim (from i there) [
-  | inl old ↦ ranks i old ∙ ap length (sym same)
-  | inr inside ↦ rank_of s.grid i inside ∙ ap length (sym same)
-]
+indexes_from s t same from indexes = λ i there. subst (λ (c : List ℕ). IsIndex c i) (sym same) (elim (from i there) [
+  | inl old ↦ indexes i old
+  | inr index ↦ index
+])
 
 some_false : IsSome (Some false)
 some_false = refl
 
-noted_from : (h : Grid) (i : List ℕ) (touched : Bool) (o p : Option Bool) → (touched ≡ true → in_grid h i ≡ true) → IsNoted touched o p → IsFrom h i o p
+noted_from : (h : Grid) (i : List ℕ) (touched : Bool) (o p : Option Bool) → (touched ≡ true → IsIndex h.chunk i) → IsNoted touched o p → IsFrom h i o p
 noted_from h i touched o p inside noted there = elim noted [
   | inl same ↦ inl (subst (λ (x : Option Bool). IsSome x) same there)
   | inr new ↦ inr (inside new.1)
@@ -30,15 +32,15 @@ noted_from h i touched o p inside noted there = elim noted [
 
 pub indexes_begun : (s t : Stored) (ats : List (List ℕ)) → t.grid.chunk ≡ s.grid.chunk → IsWhole s.grid → AllByRecursion (λ at. LiesIn at s.grid.shape) ats → MarksBegun s ats t → AreIndexes s → AreIndexes t
 indexes_begun s t ats same w each marks =
-    indexes_from s t same (λ i. noted_from s.grid i (touches s.grid.chunk ats i) (state s i) (state t i) (touched_grid s.grid ats i w each) (marks i))
+    indexes_from s t same (λ i. noted_from s.grid i (touches s.grid.chunk ats i) (state s i) (state t i) (λ t. index_here s.grid i w (touched_grid s.grid ats i w each t)) (marks i))
 
-written_from : (h : Grid) (i : List ℕ) (touched : Bool) (o : Option Bool) → (touched ≡ true → in_grid h i ≡ true) → IsFrom h i o (cond touched (Some true) o)
+written_from : (h : Grid) (i : List ℕ) (touched : Bool) (o : Option Bool) → (touched ≡ true → IsIndex h.chunk i) → IsFrom h i o (cond touched (Some true) o)
 written_from h i true o inside there = inr (inside refl)
 written_from h i false o inside there = inl there
 
 pub indexes_written : (s t : Stored) (ats : List (List ℕ)) → t.grid.chunk ≡ s.grid.chunk → IsWhole s.grid → AllByRecursion (λ at. LiesIn at s.grid.shape) ats → MarksWritten s ats t → AreIndexes s → AreIndexes t
 indexes_written s t ats same w each marks =
-    indexes_from s t same (λ i. subst (IsFrom s.grid i (state s i)) (sym (marks i)) (written_from s.grid i (touches s.grid.chunk ats i) (state s i) (touched_grid s.grid ats i w each)))
+    indexes_from s t same (λ i. subst (IsFrom s.grid i (state s i)) (sym (marks i)) (written_from s.grid i (touches s.grid.chunk ats i) (state s i) (λ t. index_here s.grid i w (touched_grid s.grid ats i w each t))))
 
 cut_from : (h : Grid) (i : List ℕ) (k : Bool) (o : Option Bool) → IsFrom h i o (after_cut k o)
 cut_from h i k None there = inl there
@@ -54,9 +56,9 @@ cleared_from h i k (Some b) there = inl refl
 pub indexes_cleared : (s t : Stored) → t.grid.chunk ≡ s.grid.chunk → ((i : List ℕ) → state t i ≡ cleared (in_grid s.grid i) (state s i)) → AreIndexes s → AreIndexes t
 indexes_cleared s t same marks = indexes_from s t same (λ i. subst (IsFrom s.grid i (state s i)) (sym (marks i)) (cleared_from s.grid i (in_grid s.grid i) (state s i)))
 
-pub indexes_put : (s t : Stored) (index : List ℕ) → t.grid.chunk ≡ s.grid.chunk → in_grid s.grid index ≡ true → ((i : List ℕ) → state t i ≡ put (state s) index (Some false) i) → AreIndexes s → AreIndexes t
-indexes_put s t index same inside marks = indexes_from s t same (λ i there. elim (put_cases (state s) index (Some false) i) [
-  | inl here ↦ inr (ap (in_grid s.grid) (sym here.0) ∙ inside)
+pub indexes_put : (s t : Stored) (index : List ℕ) → t.grid.chunk ≡ s.grid.chunk → IsWhole s.grid → in_grid s.grid index ≡ true → ((i : List ℕ) → state t i ≡ put (state s) index (Some false) i) → AreIndexes s → AreIndexes t
+indexes_put s t index same w inside marks = indexes_from s t same (λ i there. elim (put_cases (state s) index (Some false) i) [
+  | inl here ↦ inr (index_here s.grid i w (ap (in_grid s.grid) (sym here.0) ∙ inside))
   | inr other ↦ inl (subst (λ (x : Option Bool). IsSome x) (marks i ∙ other) there)
 ])
 
@@ -84,3 +86,7 @@ indexes_none t e = λ i there. absurd (let both : false ≡ true = sym (ap is_so
 pub ok_at : {T E P Q : Type 0} (r : Result T E) → OnOk r P → (P → Q) → OnOk r Q
 ok_at (Ok x) p f = f p
 ok_at (Err e) p f = tt
+
+pub err_at : {T E P Q : Type 0} (r : Result T E) → OnErr r P → (P → Q) → OnErr r Q
+err_at (Ok x) p f = tt
+err_at (Err e) p f = f p

@@ -2,6 +2,7 @@
 use Rattle.std.proofs.Common.{◌≡◌, ℕ, suc, ◌+◌, ◌*◌, ◌/◌, mul_comm, ◌<◌, ◌≤◌, ◌&&◌, ◌↔◌, Bool, IsTrue, true, false, cond, min, nat_eq, nat_lt, bytes_eq, eqb-true, eq-eqb, List, [], ◌∷◌, length, drop, get_or, All, Result, Ok, Err, IfOk, not, refl, sym, ap, subst, ◌∙◌, ◌⊎◌, inl, inr, arith}
 use Rattle.std.specs.List.{flat_map}
 use Rattle.std.specs.BTreeMap.{BTreeMap}
+use Rattle.std.specs.Cmp.{both_ways}
 use Rattle.std.specs.declared.vec.Vec.{Vec}
 use Rattle.std.specs.declared.alloc.Global.{Global}
 use Rattle.std.proofs.lemmas.Bool.{cases_Bool, cases_lt}
@@ -47,14 +48,9 @@ product_end t i m ns h k = rw (drop_all i ns h) (omega (arith, k))
 
 -- ---- which chunks there are
 
-same_test : (a b : Bool) → (a ≡ true → b ≡ true) → (b ≡ true → a ≡ true) → a ≡ b
-same_test true b h k = sym (h refl)
-same_test false true h k = k refl
-same_test false false h k = refl
-
 pub grid_test : (s : Shape) (c i : List ℕ) (b : Bool) → All IsChunkDim c → length c ≡ length (dims_of s) → (IsTrue b ↔ LiesInGrid i c s) → b ≡ (nat_eq (length i) (length c) && lies_in (corner i c) s)
 grid_test s c i b dims rank test =
-    same_test b (nat_eq (length i) (length c) && lies_in (corner i c) s)
+    both_ways b (nat_eq (length i) (length c) && lies_in (corner i c) s)
     (λ said. rw (eq-eqb (length i) (length c) (in_grid_rank s c i rank (test.0 said))) (lies_read (corner i c) s (grid_begun s c i dims rank (test.0 said))))
     (λ said.
     let ranks = eqb-true (length i) (length c) (first_true (nat_eq (length i) (length c)) (lies_in (corner i c) s) said) in
@@ -108,7 +104,7 @@ abbrev pub filled : List ℕ → List ℕ → ℕ → List ℕ → (List ℕ →
 filled chunk i size bs f k q = cond (bytes_eq (quotients q chunk) i && nat_lt (offset_of q chunk) k) (piece_at size (offset_of q chunk) bs) (f q)
 
 lt_next : (o k : ℕ) → (o ≡ k → ⊥) → nat_lt o k ≡ nat_lt o (k + 1)
-lt_next o k h = same_test (nat_lt o k) (nat_lt o (k + 1)) (λ y. grind (arith, nat_tests)) (λ y. grind (arith, nat_tests))
+lt_next o k h = both_ways (nat_lt o k) (nat_lt o (k + 1)) (λ y. grind (arith, nat_tests)) (λ y. grind (arith, nat_tests))
 
 filled_other : (b : Bool) (o k : ℕ) (x y : List ℕ) → (b ≡ true → o ≡ k → ⊥) → cond (b && nat_lt o k) x y ≡ cond (b && nat_lt o (k + 1)) x y
 filled_other false o k x y h = refl

@@ -2,6 +2,7 @@
 use Rattle.std.proofs.Common.{◌≡◌, ℕ, zero, suc, ◌+◌, ◌*◌, ◌<◌, ◌≤◌, Bool, true, false, cond, eq-eqb, List, [], ◌∷◌, ◌++◌, length, take, drop, get_or, Option, Some, None, All, refl, sym, ap, subst, ◌∙◌, ◌⊎◌, inl, inr, arith}
 use Rattle.std.specs.List.{flat_map}
 use Rattle.std.proofs.lemmas.List.{take_at}
+use Rattle.std.proofs.lemmas.List.Elements.{length_all_zip}
 use Rattle.std.proofs.Math.Seq.{drop-append-add}
 use Rattle.std.proofs.lemmas.Bool.{cases_Bool}
 use Rattle.hdf_types.specs.Reading.{size_of}
@@ -9,7 +10,7 @@ use Rattle.hdf_values.proofs.EncodedLemmas.{length-encoded}
 use Rattle.hdf_values.proofs.PieceLemmas.{some_size}
 use Rattle.shapes.specs.declared.Shape.{Shape}
 use Rattle.shapes.specs.declared.Shape.TheVariants.{Null, Scalar, Simple}
-use Rattle.shapes.specs.Places.{cell_count, IsInside}
+use Rattle.shapes.specs.Places.{cell_count}
 use Rattle.shapes.specs.Shapes.{LiesIn, lies_in, dims_of}
 use Rattle.shapes.proofs.InsideLemmas.{lies_told, lies_read}
 use Rattle.chunk_layout.specs.Chunks.{IsChunkDim, quotients, offset_of, corner, chunk_cells}
@@ -49,16 +50,10 @@ cell_in_chunk at chunk dims e =
 
 -- ---- what the records say of each cell
 
-pub inside_rank : (at dims : List ℕ) → IsInside at dims → length at ≡ length dims
-inside_rank [] [] h = refl
-inside_rank [] (n ∷ ns) h = absurd h
-inside_rank (x ∷ xs) [] h = absurd h
-inside_rank (x ∷ xs) (n ∷ ns) h = ap suc (inside_rank xs ns h.1)
-
 pub lies_rank : (at : List ℕ) (s : Shape) → LiesIn at s → length at ≡ length (dims_of s)
 lies_rank at Null h = absurd h
-lies_rank at Scalar h = inside_rank at [] h
-lies_rank at (Simple dims limits) h = inside_rank at dims h
+lies_rank at Scalar h = length_all_zip (λ x n. x < n) at [] h
+lies_rank at (Simple dims limits) h = length_all_zip (λ x n. x < n) at dims h
 
 -- the chunk of a cell of the array is in the grid
 pub grid_here : (h : Grid) (at : List ℕ) → IsWhole h → LiesIn at h.shape → in_grid h (quotients at h.chunk) ≡ true
@@ -67,7 +62,7 @@ grid_here h at w on =
     let begun = grid_begun h.shape h.chunk (quotients at h.chunk) w.dims w.rank there in
     rw (eq-eqb (length (quotients at h.chunk)) (length h.chunk) (in_grid_rank h.shape h.chunk (quotients at h.chunk) w.rank there)) (lies_read (corner (quotients at h.chunk) h.chunk) h.shape begun)
 
-piece_of : (g : List ℕ → List ℕ) (k : ℕ) → ((x : List ℕ) → length (g x) ≡ k) → (xs : List (List ℕ)) (j : ℕ) → j < length xs → take k (drop (j * k) (flat_map g xs)) ≡ g (get_or xs j [])
+pub piece_of : (g : List ℕ → List ℕ) (k : ℕ) → ((x : List ℕ) → length (g x) ≡ k) → (xs : List (List ℕ)) (j : ℕ) → j < length xs → take k (drop (j * k) (flat_map g xs)) ≡ g (get_or xs j [])
 piece_of g k each [] j h = absurd (omega arith)
 piece_of g k each (x ∷ xs) zero h =
     let none : zero * k ≡ 0 = omega arith in
@@ -80,7 +75,7 @@ cond_length : (b : Bool) (xs ys : List ℕ) (k : ℕ) → (b ≡ true → length
 cond_length true xs ys k h l = h refl
 cond_length false xs ys k h l = l
 
-shown_size : (h : Grid) → IsWhole h → (at : List ℕ) → length (shown h at) ≡ size_of h.kind
+pub shown_size : (h : Grid) → IsWhole h → (at : List ℕ) → length (shown h at) ≡ size_of h.kind
 shown_size h w at =
     cond_length (lies_in at h.shape) (value_at h at) (blank_of h.kind h.fill) (size_of h.kind)
     (λ on. length-encoded h.kind (value_at h at) w.kind.formed (w.values at (lies_told at h.shape on)))
@@ -121,21 +116,39 @@ clean body h i None f g on = inr (on.0, on.1 g)
 clean body h i (Some true) f g on = absurd (let both : true ≡ false = f in cc)
 clean body h i (Some false) f g on = on.1
 
+-- the bytes of a cell, by those of its chunk
+pub content_value : (h : Grid) (at : List ℕ) → IsWhole h → LiesIn at h.shape → body_value h (content h (quotients at h.chunk)) at ≡ value_at h at
+content_value h at w lies =
+    let some : 1 ≤ size_of h.kind = some_size h.kind w.kind.formed in
+    let size = length-encoded h.kind (value_at h at) w.kind.formed (w.values at lies) in
+    body_take h (content h (quotients at h.chunk)) at (omega (arith, size, some, ap length (content_piece h at w lies))) ∙ content_piece h at w lies
+
+-- the record that stands for the chunk of a cell gives the cell its bytes
+clean_value : (body : List ℕ) (h : Grid) (at : List ℕ) (o : Option Bool) → IsWhole h → LiesIn at h.shape → flagged o ≡ false → Stands body o h (quotients at h.chunk) → body_value h body at ≡ value_at h at
+clean_value body h at o w lies none on = elim (clean body h (quotients at h.chunk) o none (grid_here h at w lies) on) [
+  | inl same ↦ ap (λ bs. body_value h bs at) same ∙ content_value h at w lies
+  | inr blank ↦
+      ap (λ bs. body_value h bs at) blank.0 ∙ sym (blank_piece h at w lies)
+      ∙ ap (λ bs. take (size_of h.kind) (drop (offset_of at h.chunk * size_of h.kind) bs)) (sym blank.1) ∙ content_piece h at w lies
+]
+
 -- where no chunk is marked as changed, the records give each cell its bytes
 pub reads_back : (kept : List ℕ → List ℕ) (s : Stored) → IsWhole s.grid → IsTracked kept s → ((i : List ℕ) → is_dirty s i ≡ false) → ReadsAs kept s.grid
 unfolding IsTracked
 reads_back kept s w on none = λ at lies.
+    let i = quotients at s.grid.chunk in
+    clean_value (kept i) s.grid at (state s i) w lies (none i) (on i)
+
+-- so do the records after those of the changed chunks are written
+pub cut_reads : (kept : List ℕ → List ℕ) (s : Stored) → IsWhole s.grid → IsTracked kept s → ReadsAs (cut kept s) s.grid
+unfolding IsTracked
+cut_reads kept s w on = λ at lies.
     let h = s.grid in
-    let some : 1 ≤ size_of s.grid.kind = some_size s.grid.kind w.kind.formed in
-    let i = quotients at h.chunk in
-    let size = length-encoded h.kind (value_at h at) w.kind.formed (w.values at lies) in
-    elim (clean (kept i) h i (state s i) (none i) (grid_here h at w lies) (on i)) [
-      | inl same ↦
-          ap (λ bs. body_value h bs at) same
-          ∙ body_take h (content h i) at (omega (arith, size, some, ap length (content_piece h at w lies))) ∙ content_piece h at w lies
-      | inr blank ↦
-          ap (λ bs. body_value h bs at) blank.0 ∙ sym (blank_piece h at w lies)
-          ∙ ap (λ bs. take (size_of h.kind) (drop (offset_of at h.chunk * size_of h.kind) bs)) (sym blank.1) ∙ content_piece h at w lies
+    let i = quotients at s.grid.chunk in
+    elim (cases_Bool (is_dirty s i)) [
+      | inl dirty ↦
+          ap (λ b. body_value h (cond b (body_of h i) (kept i)) at) dirty ∙ ap (λ b. body_value h (cond b (content h i) []) at) (grid_here h at w lies) ∙ content_value h at w lies
+      | inr none ↦ ap (λ b. body_value h (cond b (body_of h i) (kept i)) at) none ∙ clean_value (kept i) h at (state s i) w lies none (on i)
     ]
 
 pub flat_same : (f g : List ℕ → List ℕ) → ((x : List ℕ) → f x ≡ g x) → (xs : List (List ℕ)) → flat_map f xs ≡ flat_map g xs

@@ -23,12 +23,12 @@ use Rattle.chunk_store.proofs.TrackLemmas.{IsCellOf, cell_of_chunk, cells_of_chu
 pub cell_there : (chunk i : List ℕ) (k : ℕ) → All IsChunkDim chunk → length i ≡ length chunk → k < cell_count chunk → offset_of (get_or (chunk_cells i chunk) k []) chunk ≡ k
 cell_there chunk i k dims e low = ap (λ x. offset_of x chunk) (chunk_listed chunk i k dims low) ∙ cell_offset chunk i k dims e low
 
-empty : (bs : List ℕ) → length bs ≡ 0 → bs ≡ []
+pub empty : (bs : List ℕ) → length bs ≡ 0 → bs ≡ []
 empty [] e = refl
 empty (b ∷ bs) e = absurd (omega (arith, e))
 
 -- pieces one after another
-flat_pieces : (g : List ℕ → List ℕ) (s k : ℕ) (xs : List (List ℕ)) (bs : List ℕ) → length bs ≡ length xs * s → ((j : ℕ) → j < length xs → g (get_or xs j []) ≡ take s (drop (j * s) bs)) → flat_map g xs ≡ bs
+pub flat_pieces : (g : List ℕ → List ℕ) (s k : ℕ) (xs : List (List ℕ)) (bs : List ℕ) → length bs ≡ length xs * s → ((j : ℕ) → j < length xs → g (get_or xs j []) ≡ take s (drop (j * s) bs)) → flat_map g xs ≡ bs
 flat_pieces g s k [] bs e each = sym (empty bs (e ∙ omega arith))
 flat_pieces g s k (x ∷ xs) bs e each =
     let none : 0 * s ≡ 0 = omega arith in

@@ -11,3 +11,4 @@ mod NextLemmas
 mod ChunkLemmas
 mod MarkLemmas
 mod ArrayLemmas
+mod ValueLemmas

@@ -1,5 +1,5 @@
--- The changed chunks one after another, until none is left, are all of them.
-use Rattle.std.proofs.Common.{◌≡◌, ◌≢◌, ℕ, ◌||◌, ◌&&◌, Bool, true, false, cond, length, IsSome, bytes_eq, List, [], ◌∷◌, Option, Some, None, Ordering, Less, Equal, Greater, nat_cmp, is_eq, refl, sym, ap, subst, ◌∙◌, ◌⊎◌, inl, inr}
+-- The chunks that are meant one after another, until none is left, are all of them.
+use Rattle.std.proofs.Common.{◌≡◌, ◌≢◌, ℕ, ◌||◌, ◌&&◌, Bool, true, false, cond, length, IsSome, IfSome, bytes_eq, List, [], ◌∷◌, Option, Some, None, Ordering, Less, Equal, Greater, nat_cmp, is_eq, refl, sym, ap, subst, ◌∙◌, ◌⊎◌, inl, inr}
 use Rattle.std.specs.List.{list_any}
 use Rattle.std.specs.Cmp.Lexicographic.{slice_cmp}
 use Rattle.std.proofs.lemmas.Bool.{cases_Bool}
@@ -9,13 +9,16 @@ use Rattle.std.specs.List.{AllByRecursion, filter}
 use Rattle.std.specs.List.Sorted.{IsStrictlySortedBy}
 use Rattle.std.specs.Map.{keys_of, lookup}
 use Rattle.std.specs.Ordering.{is_lt, ordering_then}
+use Rattle.std.specs.Cmp.Derive.{both_true as both_pass}
 use Rattle.std.specs.Cmp.{tied_itself, nat_cmp_total}
 use Rattle.std.proofs.lemmas.Map.Keys.{sorted_head, sorted_tail}
+use Rattle.json_trees.proofs.TreeLemmas.{both_true}
 use Rattle.short_lists.specs.Order.{list_order}
 use Rattle.short_lists.specs.OrderLaws.{same_tied}
 use Rattle.chunk_store.specs.Cells.{put}
 use Rattle.chunk_store.specs.Grids.{Grid}
-use Rattle.chunk_store.specs.Marks.{Stored, state, flagged, is_dirty, body_of, cut, AreIndexes, ComesAfter, IsNextDirty, Covers, recorded, first_key, is_after, is_later}
+use Rattle.chunk_store.specs.Indexes.{IsIndex}
+use Rattle.chunk_store.specs.Marks.{Stored, state, is_dirty, body_of, cut, AreIndexes, ComesAfter, IsNext, Covers, recorded, first_key, is_after, is_later}
 
 later_true : (a b : Bool) → b ≡ true → (a || b) ≡ true
 later_true true b h = refl
@@ -30,8 +33,8 @@ by_order i j Equal e h = inl (sym (is_eq-slice_cmp i j) ∙ ap is_eq e)
 by_order i j Greater e h = absurd (h refl)
 
 -- one more chunk in front of those that were found
-pub covers_next : (s : Stored) (done : List (List ℕ)) (after : Option (List ℕ)) (i : List ℕ) → Covers s done after → IsNextDirty s after (Some i) → Covers s (i ∷ done) (Some i)
-covers_next s done after i covers next = λ j dirty. elim (covers j dirty) [
+pub covers_next : (is_meant : List ℕ → Bool) (done : List (List ℕ)) (after : Option (List ℕ)) (i : List ℕ) → Covers is_meant done after → IsNext is_meant after (Some i) → Covers is_meant (i ∷ done) (Some i)
+covers_next is_meant done after i covers next = λ j dirty. elim (covers j dirty) [
   | inl there ↦ inl (later_true (bytes_eq j i) (list_any (bytes_eq j) done) there)
   | inr later ↦ elim (by_order i j (slice_cmp nat_cmp i j) refl (next.2 j later dirty)) [
     | inl same ↦ inl (first_true (bytes_eq j i) (list_any (bytes_eq j) done) ((bytes_eq-Decides j i).1 (sym ((bytes_eq-Decides i j).0 same))))
@@ -39,8 +42,8 @@ covers_next s done after i covers next = λ j dirty. elim (covers j dirty) [
   ]
 ]
 
-pub covers_end : (s : Stored) (done : List (List ℕ)) (after : Option (List ℕ)) → Covers s done after → IsNextDirty s after None → (j : List ℕ) → is_dirty s j ≡ true → list_any (bytes_eq j) done ≡ true
-covers_end s done after covers none = λ j dirty. elim (covers j dirty) [
+pub covers_end : (is_meant : List ℕ → Bool) (done : List (List ℕ)) (after : Option (List ℕ)) → Covers is_meant done after → IsNext is_meant after None → (j : List ℕ) → is_meant j ≡ true → list_any (bytes_eq j) done ≡ true
+covers_end is_meant done after covers none = λ j dirty. elim (covers j dirty) [
   | inl there ↦ there
   | inr later ↦ absurd (let both : true ≡ false = sym dirty ∙ none j later in cc)
 ]
@@ -78,7 +81,7 @@ recorded_is kept h (i ∷ is) q = recorded_is (put kept i (body_of h i)) h is q 
 pub recorded_cut : (kept : List ℕ → List ℕ) (s : Stored) (is : List (List ℕ)) → ((i : List ℕ) → list_any (bytes_eq i) is ≡ is_dirty s i) → (q : List ℕ) → recorded kept s.grid is q ≡ cut kept s q
 recorded_cut kept s is all q = recorded_is kept s.grid is q ∙ ap (λ b. cond b (body_of s.grid q) (kept q)) (all q)
 
--- ---- the first changed chunk of the map
+-- ---- the first chunk of the map that is meant
 
 less_from : (o : Ordering) → is_lt o ≡ true → o ≡ Less
 less_from Less h = refl
@@ -93,26 +96,6 @@ after_read : (after : Option (List ℕ)) (i : List ℕ) → ComesAfter after i �
 after_read None i h = refl
 after_read (Some a) i h = ap is_lt h
 
-both_from : (a b : Bool) → a ≡ true → b ≡ true → (a && b) ≡ true
-both_from a b h k = rw (h, k) refl
-
-both_are : (a b : Bool) → (a && b) ≡ true → (a ≡ true) × (b ≡ true)
-both_are true b h = (refl, h)
-both_are false b h = absurd (let both : false ≡ true = h in cc)
-
--- an entry that is found has its key among the keys
-found_key : (P : List ℕ → Type 0) (es : List (List ℕ × Bool)) (i : List ℕ) → AllByRecursion P (keys_of es) → flagged (lookup (bytes_eq i) es) ≡ true → P i
-found_key P [] i each h = absurd (let both : false ≡ true = h in cc)
-found_key P (e ∷ es) i each h = elim (cases_Bool (bytes_eq i e.0)) [
-  | inl same ↦ subst P (sym ((bytes_eq-Decides i e.0).0 same)) each.0
-  | inr other ↦ found_key P es i each.1 (ap (λ b. flagged (cond b (Some e.1) (lookup (bytes_eq i) es))) (sym other) ∙ h)
-]
-
--- what `next_dirty` says, of entries and by the keys' order
-abbrev IsFirstLater : List (List ℕ × Bool) → Option (List ℕ) → Option (List ℕ) → Type 0
-IsFirstLater es after None = (i : List ℕ) → ComesAfter after i → flagged (lookup (bytes_eq i) es) ≡ false
-IsFirstLater es after (Some i) = (flagged (lookup (bytes_eq i) es) ≡ true) × ComesAfter after i × ((j : List ℕ) → ComesAfter after j → flagged (lookup (bytes_eq j) es) ≡ true → list_order i j ≢ Greater)
-
 not_equal : (o : Ordering) → o ≡ Equal → o ≢ Greater
 not_equal o e = λ g. let both : true ≡ false = sym (ap is_eq e) ∙ ap is_eq g in absurd (cc)
 
@@ -125,69 +108,104 @@ less_apart i j h = elim (cases_Bool (bytes_eq j i)) [
   | inr n ↦ n
 ]
 
--- one more entry in front, whose key comes first
-module _ (e : List ℕ × Bool) (es : List (List ℕ × Bool)) (after : Option (List ℕ)) (low : AllByRecursion (λ k. list_order e.0 k ≡ Less) (keys_of es)) where
-  first_here : is_later after e ≡ true → IsFirstLater (e ∷ es) after (Some e.0)
-  first_here h =
-      let both = both_are e.1 (is_after after e.0) h in (
-        ap (λ b. flagged (cond b (Some e.1) (lookup (bytes_eq e.0) es))) ((bytes_eq-Decides e.0 e.0).1 refl) ∙ both.0,
-        after_told after e.0 both.1,
-        λ j later dirty. elim (cases_Bool (bytes_eq j e.0)) [
-          | inl same ↦ not_equal (list_order e.0 j) (same_tied e.0 j (sym ((bytes_eq-Decides j e.0).0 same)))
-          | inr other ↦ not_less (list_order e.0 j) (found_key (λ k. list_order e.0 k ≡ Less) es j low (ap (λ b. flagged (cond b (Some e.1) (lookup (bytes_eq j) es))) (sym other) ∙ dirty))
-        ],
-      )
-
-  -- at the key of the entry, which isn't a changed one that comes later
-  not_here : (i : List ℕ) → is_later after e ≡ false → ComesAfter after i → bytes_eq i e.0 ≡ true → e.1 ≡ true → ⊥
-  not_here i h later same changed =
-      let key = (bytes_eq-Decides i e.0).0 same in
-      let both : true ≡ false = sym (both_from e.1 (is_after after e.0) changed (ap (is_after after) (sym key) ∙ after_read after i later)) ∙ h in
-      cc
-
-  is_false : (b : Bool) → (b ≡ true → ⊥) → b ≡ false
-  is_false true h = absurd (h refl)
-  is_false false h = refl
-
-  first_behind : (r : Option (List ℕ)) → is_later after e ≡ false → IsFirstLater es after r → IsFirstLater (e ∷ es) after r
-  first_behind None h on = λ i later. elim (cases_Bool (bytes_eq i e.0)) [
-    | inl same ↦ ap (λ b. flagged (cond b (Some e.1) (lookup (bytes_eq i) es))) same ∙ is_false e.1 (not_here i h later same)
-    | inr other ↦ ap (λ b. flagged (cond b (Some e.1) (lookup (bytes_eq i) es))) other ∙ on i later
-  ]
-  first_behind (Some i) h on =
-      let less = found_key (λ k. list_order e.0 k ≡ Less) es i low on.0 in (
-        ap (λ b. flagged (cond b (Some e.1) (lookup (bytes_eq i) es))) (less_apart e.0 i less) ∙ on.0,
-        on.1,
-        λ j later dirty. elim (cases_Bool (bytes_eq j e.0)) [
-          | inl same ↦ absurd (not_here j h later same (ap (λ b. flagged (cond b (Some e.1) (lookup (bytes_eq j) es))) (sym same) ∙ dirty))
-          | inr other ↦ on.2 j later (ap (λ b. flagged (cond b (Some e.1) (lookup (bytes_eq j) es))) (sym other) ∙ dirty)
-        ],
-      )
-
-first_later : (es : List (List ℕ × Bool)) (after : Option (List ℕ)) → IsStrictlySortedBy list_order (keys_of es) → IsFirstLater es after (first_key (filter (is_later after) es))
-first_later [] after sorted = λ i later. refl
-first_later (e ∷ es) after sorted =
-    let low = sorted_head list_order e.0 (keys_of es) sorted in
-    elim (cases_Bool (is_later after e)) [
-      | inl here ↦ subst (λ (b : Bool). IsFirstLater (e ∷ es) after (first_key (cond b (e ∷ filter (is_later after) es) (filter (is_later after) es)))) (sym here) (first_here e es after low here)
-      | inr not ↦
-          subst (λ (b : Bool). IsFirstLater (e ∷ es) after (first_key (cond b (e ∷ filter (is_later after) es) (filter (is_later after) es)))) (sym not)
-          (first_behind e es after low (first_key (filter (is_later after) es)) not (first_later es after (sorted_tail list_order e.0 (keys_of es) sorted)))
-    ]
+is_false : (b : Bool) → (b ≡ true → ⊥) → b ≡ false
+is_false true h = absurd (h refl)
+is_false false h = refl
 
 -- lists of one length are ordered by their numbers alone
 same_order : (i j : List ℕ) → length i ≡ length j → list_order i j ≡ slice_cmp nat_cmp i j
 same_order i j e = ap (λ n. ordering_then (nat_cmp (length i) n) (slice_cmp nat_cmp i j)) (sym e) ∙ ap (λ o. ordering_then o (slice_cmp nat_cmp i j)) (tied_itself nat_cmp_total (length i))
 
-flagged_some : (o : Option Bool) → flagged o ≡ true → IsSome o
-flagged_some None h = absurd (let both : false ≡ true = h in cc)
-flagged_some (Some b) h = refl
+module _ (test : Option Bool → Bool) (none : test None ≡ false) where
+  -- what is known of a chunk, by the entries
+  abbrev told : List (List ℕ × Bool) → List ℕ → Bool
+  told es i = test (lookup (bytes_eq i) es)
 
-by_rank : (s : Stored) (n : ℕ) (after : Option (List ℕ)) (r : Option (List ℕ)) → ((i : List ℕ) → IsSome (state s i) → length i ≡ n) → IsFirstLater s.marks after r → IsNextDirty s after r
-by_rank s n after None ranks on = on
-by_rank s n after (Some i) ranks on =
-    (on.0, on.1, λ j later dirty. λ g. on.2 j later dirty (same_order i j (ranks i (flagged_some (state s i) on.0) ∙ sym (ranks j (flagged_some (state s j) dirty))) ∙ g))
+  told_here : (e : List ℕ × Bool) (es : List (List ℕ × Bool)) (i : List ℕ) → bytes_eq i e.0 ≡ true → told (e ∷ es) i ≡ test (Some e.1)
+  told_here e es i same = ap (λ b. test (cond b (Some e.1) (lookup (bytes_eq i) es))) same
 
--- the first entry that is flagged and comes later is the next changed chunk
-pub next_from : (s : Stored) (after : Option (List ℕ)) → AreIndexes s → IsStrictlySortedBy list_order (keys_of s.marks) → IsNextDirty s after (first_key (filter (is_later after) s.marks))
-next_from s after ranks sorted = by_rank s (length s.grid.chunk) after (first_key (filter (is_later after) s.marks)) ranks (first_later s.marks after sorted)
+  told_behind : (e : List ℕ × Bool) (es : List (List ℕ × Bool)) (i : List ℕ) → bytes_eq i e.0 ≡ false → told (e ∷ es) i ≡ told es i
+  told_behind e es i other = ap (λ b. test (cond b (Some e.1) (lookup (bytes_eq i) es))) other
+
+  -- an entry that is found has its key among the keys
+  found_key : (P : List ℕ → Type 0) (es : List (List ℕ × Bool)) (i : List ℕ) → AllByRecursion P (keys_of es) → told es i ≡ true → P i
+  found_key P [] i each h = absurd (let both : false ≡ true = sym none ∙ h in cc)
+  found_key P (e ∷ es) i each h = elim (cases_Bool (bytes_eq i e.0)) [
+    | inl same ↦ subst P (sym ((bytes_eq-Decides i e.0).0 same)) each.0
+    | inr other ↦ found_key P es i each.1 (sym (told_behind e es i other) ∙ h)
+  ]
+
+  -- what the next one is, of entries and by the keys' order
+  abbrev IsFirstLater : List (List ℕ × Bool) → Option (List ℕ) → Option (List ℕ) → Type 0
+  IsFirstLater es after None = (i : List ℕ) → ComesAfter after i → told es i ≡ false
+  IsFirstLater es after (Some i) = (told es i ≡ true) × ComesAfter after i × ((j : List ℕ) → ComesAfter after j → told es j ≡ true → list_order i j ≢ Greater)
+
+  -- one more entry in front, whose key comes first
+  first_here : (e : List ℕ × Bool) (es : List (List ℕ × Bool)) (after : Option (List ℕ)) → AllByRecursion (λ k. list_order e.0 k ≡ Less) (keys_of es) → is_later test after e ≡ true → IsFirstLater (e ∷ es) after (Some e.0)
+  first_here e es after low h =
+      let both = both_true (test (Some e.1)) (is_after after e.0) h in (
+        told_here e es e.0 ((bytes_eq-Decides e.0 e.0).1 refl) ∙ both.0,
+        after_told after e.0 both.1,
+        λ j later dirty. elim (cases_Bool (bytes_eq j e.0)) [
+          | inl same ↦ not_equal (list_order e.0 j) (same_tied e.0 j (sym ((bytes_eq-Decides j e.0).0 same)))
+          | inr other ↦ not_less (list_order e.0 j) (found_key (λ k. list_order e.0 k ≡ Less) es j low (sym (told_behind e es j other) ∙ dirty))
+        ],
+      )
+
+  -- at the key of the entry, which isn't one that is meant and comes later
+  not_here : (e : List ℕ × Bool) (after : Option (List ℕ)) (i : List ℕ) → is_later test after e ≡ false → ComesAfter after i → bytes_eq i e.0 ≡ true → test (Some e.1) ≡ true → ⊥
+  not_here e after i h later same meant =
+      let key = (bytes_eq-Decides i e.0).0 same in
+      let both : true ≡ false = sym (both_pass meant (ap (is_after after) (sym key) ∙ after_read after i later)) ∙ h in
+      cc
+
+  first_behind : (e : List ℕ × Bool) (es : List (List ℕ × Bool)) (after : Option (List ℕ)) → AllByRecursion (λ k. list_order e.0 k ≡ Less) (keys_of es) → (r : Option (List ℕ)) → is_later test after e ≡ false → IsFirstLater es after r → IsFirstLater (e ∷ es) after r
+  first_behind e es after low None h on = λ i later. elim (cases_Bool (bytes_eq i e.0)) [
+    | inl same ↦ told_here e es i same ∙ is_false (test (Some e.1)) (not_here e after i h later same)
+    | inr other ↦ told_behind e es i other ∙ on i later
+  ]
+  first_behind e es after low (Some i) h on =
+      let less = found_key (λ k. list_order e.0 k ≡ Less) es i low on.0 in (
+        told_behind e es i (less_apart e.0 i less) ∙ on.0,
+        on.1,
+        λ j later dirty. elim (cases_Bool (bytes_eq j e.0)) [
+          | inl same ↦ absurd (not_here e after j h later same (sym (told_here e es j same) ∙ dirty))
+          | inr other ↦ on.2 j later (sym (told_behind e es j other) ∙ dirty)
+        ],
+      )
+
+  first_later : (es : List (List ℕ × Bool)) (after : Option (List ℕ)) → IsStrictlySortedBy list_order (keys_of es) → IsFirstLater es after (first_key (filter (is_later test after) es))
+  first_later [] after sorted = λ i later. none
+  first_later (e ∷ es) after sorted =
+      let low = sorted_head list_order e.0 (keys_of es) sorted in
+      let rest = filter (is_later test after) es in
+      elim (cases_Bool (is_later test after e)) [
+        | inl here ↦ subst (λ (b : Bool). IsFirstLater (e ∷ es) after (first_key (cond b (e ∷ filter (is_later test after) es) (filter (is_later test after) es)))) (sym here) (first_here e es after low here)
+        | inr not ↦
+            subst (λ (b : Bool). IsFirstLater (e ∷ es) after (first_key (cond b (e ∷ filter (is_later test after) es) (filter (is_later test after) es)))) (sym not)
+            (first_behind e es after low (first_key rest) not (first_later es after (sorted_tail list_order e.0 (keys_of es) sorted)))
+      ]
+
+  meant_some : (o : Option Bool) → test o ≡ true → IsSome o
+  meant_some None h = absurd (let both : false ≡ true = sym none ∙ h in cc)
+  meant_some (Some b) h = refl
+
+  meant_index : (s : Stored) (i : List ℕ) → AreIndexes s → test (state s i) ≡ true → IsIndex s.grid.chunk i
+  meant_index s i indexes meant = indexes i (meant_some (state s i) meant)
+
+  by_rank : (s : Stored) (after : Option (List ℕ)) (r : Option (List ℕ)) → AreIndexes s → IsFirstLater s.marks after r → IsNext (λ i. test (state s i)) after r
+  by_rank s after None indexes on = on
+  by_rank s after (Some i) indexes on =
+      (on.0, on.1, λ j later meant. λ g. on.2 j later meant (same_order i j ((meant_index s i indexes on.0).rank ∙ sym (meant_index s j indexes meant).rank) ∙ g))
+
+  -- the first entry that is meant and comes later is the next chunk
+  pub next_from : (s : Stored) (after : Option (List ℕ)) → AreIndexes s → IsStrictlySortedBy list_order (keys_of s.marks) → IsNext (λ i. test (state s i)) after (first_key (filter (is_later test after) s.marks))
+  next_from s after indexes sorted = by_rank s after (first_key (filter (is_later test after) s.marks)) indexes (first_later s.marks after sorted)
+
+  pub next_known : (s : Stored) (after : Option (List ℕ)) (r : Option (List ℕ)) → IsNext (λ i. test (state s i)) after r → IfSome r (λ i. IsSome (state s i))
+  next_known s after None on = tt
+  next_known s after (Some i) on = meant_some (state s i) on.0
+
+  pub next_index : (s : Stored) (after : Option (List ℕ)) (r : Option (List ℕ)) → AreIndexes s → IsNext (λ i. test (state s i)) after r → IfSome r (λ i. IsIndex s.grid.chunk i)
+  next_index s after None indexes on = tt
+  next_index s after (Some i) indexes on = meant_index s i indexes on.0

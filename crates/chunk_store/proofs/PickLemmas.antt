@@ -45,7 +45,7 @@ each_drop P zero xs h = h
 each_drop P (suc n) [] h = tt
 each_drop P (suc n) (x ∷ xs) h = each_drop P n xs h.1
 
-each_all : {A : Type 0} (P : A → Type 0) (xs : List A) → All P xs → AllByRecursion P xs
+pub each_all : {A : Type 0} (P : A → Type 0) (xs : List A) → All P xs → AllByRecursion P xs
 each_all P [] h = tt
 each_all P (x ∷ xs) h = (All-head P x xs h, each_all P xs (All-tail P x xs h))
 
@@ -74,7 +74,7 @@ places_length from many s h =
     let room : many ≤ length (drop from (cells_of s)) = rw (length-drop from (cells_of s), cells_length s) (omega arith) in
     sym (length-take-le many (drop from (cells_of s)) room)
 
-slab_length : (b : Slab) (s : Shape) → IsSlab b → SlabIn b s → length (slab_cells b s) ≡ cell_count (extents b)
+pub slab_length : (b : Slab) (s : Shape) → IsSlab b → SlabIn b s → length (slab_cells b s) ≡ cell_count (extents b)
 slab_length b Null h k = sym k
 slab_length b Scalar h k = selected_count (axes_of b) [] h.sound k
 slab_length b (Simple dims limits) h k = selected_count (axes_of b) dims h.sound k

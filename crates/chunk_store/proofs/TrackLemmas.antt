@@ -25,7 +25,7 @@ pub each_from : {A : Type 0} (P Q : A → Type 0) → ((x : A) → P x → Q x) 
 each_from P Q h [] k = tt
 each_from P Q h (x ∷ xs) k = (h x k.0, each_from P Q h xs k.1)
 
-by_index : (P : List ℕ → Type 0) (xs : List (List ℕ)) → ((k : ℕ) → k < length xs → P (get_or xs k [])) → AllByRecursion P xs
+pub by_index : (P : List ℕ → Type 0) (xs : List (List ℕ)) → ((k : ℕ) → k < length xs → P (get_or xs k [])) → AllByRecursion P xs
 by_index P [] h = tt
 by_index P (x ∷ xs) h = (h 0 (omega arith), by_index P xs (λ k low. h (suc k) (omega (arith, low))))
 
@@ -75,7 +75,7 @@ noted_stands body touched o p h i there g on = elim g [
 
 -- ---- writes
 
-written_other : (f : List ℕ → List ℕ) (s : ℕ) (ats : List (List ℕ)) (bs x : List ℕ) → AllByRecursion (λ at. at ≡ x → ⊥) ats → written f s ats bs x ≡ f x
+pub written_other : (f : List ℕ → List ℕ) (s : ℕ) (ats : List (List ℕ)) (bs x : List ℕ) → AllByRecursion (λ at. at ≡ x → ⊥) ats → written f s ats bs x ≡ f x
 written_other f s [] bs x h = refl
 written_other f s (at ∷ ats) bs x h = written_other (put f at (take s bs)) s ats (drop s bs) x h.1 ∙ elim (put_cases f at (take s bs) x) [
   | inl same ↦ absurd (h.0 same.0)

@@ -1,5 +1,6 @@
 pub mod Cells
 pub mod Grids
+pub mod Listed
 pub mod Picked
 pub mod Kept
 pub mod Indexes

@@ -1,5 +1,5 @@
 -- Chunks that were written, and the records that stand for an array.
-use Rattle.std.specs.Prelude.{◌≡◌, ◌≢◌, ℕ, ◌+◌, ◌*◌, ◌&&◌, ◌⊎◌, Bool, true, false, cond, nat_eq, nat_lt, nat_le, min, List, [], ◌∷◌, length, take, drop, Option, Some, None, IsSome, refl}
+use Rattle.std.specs.Prelude.{◌≡◌, ◌≢◌, is_some, ℕ, ◌+◌, ◌*◌, ◌&&◌, ◌⊎◌, Bool, true, false, cond, nat_eq, nat_lt, nat_le, min, List, [], ◌∷◌, length, take, drop, Option, Some, None, IsSome, refl}
 use Rattle.std.specs.List.{flat_map, list_any}
 use Rattle.std.specs.Str.{bytes_eq}
 use Rattle.std.specs.Map.{lookup}
@@ -14,6 +14,7 @@ use Rattle.shapes.specs.Shapes.{LiesIn, lies_in, dims_of}
 use Rattle.chunk_layout.specs.Chunks.{quotients, offset_of, corner, chunk_cells}
 use Rattle.chunk_store.specs.Cells.{put}
 use Rattle.chunk_store.specs.Grids.{Grid, value_at, blank_of, with_values, coded_grid, coded_dims}
+use Rattle.chunk_store.specs.Indexes.{IsIndex}
 
 -- an array, and the chunks that were written or installed, each with whether it changed
 pub record Stored : Type 0 where
@@ -34,6 +35,10 @@ flagged (Some b) = b
 
 abbrev pub is_dirty : Stored → List ℕ → Bool
 is_dirty s i = flagged (state s i)
+
+-- something is known of the chunk
+abbrev pub is_known : Stored → List ℕ → Bool
+is_known s i = is_some (state s i)
 
 -- ---- the bytes of a chunk
 
@@ -119,11 +124,11 @@ after_cut kept (Some b) = cond kept (Some b) (Some true)
 abbrev pub MarksCut : Stored → List ℕ → Stored → Type 0
 MarksCut s dims t = (i : List ℕ) → state t i ≡ after_cut (keeps i s.grid.chunk (dims_of s.grid.shape) dims) (state s i)
 
--- each known chunk has an index with a number for each axis of a chunk
+-- the index of each known chunk, also of one outside the array, has a number for each axis, of 32 bits
 abbrev pub AreIndexes : Stored → Type 0
-AreIndexes s = (i : List ℕ) → IsSome (state s i) → length i ≡ length s.grid.chunk
+AreIndexes s = (i : List ℕ) → IsSome (state s i) → IsIndex s.grid.chunk i
 
--- ---- the changed chunks one after another
+-- ---- changed chunks, or all known ones, one after another
 
 abbrev pub ComesAfter : Option (List ℕ) → List ℕ → Type 0
 ComesAfter None i = Unit {0}
@@ -138,17 +143,26 @@ abbrev pub is_after : Option (List ℕ) → List ℕ → Bool
 is_after None i = true
 is_after (Some a) i = is_lt (slice_cmp nat_cmp a i)
 
--- the entry of a changed chunk that comes later
-abbrev pub is_later : Option (List ℕ) → List ℕ × Bool → Bool
-is_later after e = e.1 && is_after after e.0
+-- the entry of a chunk that comes later, and of which this is true
+abbrev pub is_later : (Option Bool → Bool) → Option (List ℕ) → List ℕ × Bool → Bool
+is_later test after e = test (Some e.1) && is_after after e.0
 
+-- of the chunks that are meant, the least that comes after one, or of all; none where no later one is left
+abbrev pub IsNext : (List ℕ → Bool) → Option (List ℕ) → Option (List ℕ) → Type 0
+IsNext is_meant after None = (i : List ℕ) → ComesAfter after i → is_meant i ≡ false
+IsNext is_meant after (Some i) = (is_meant i ≡ true) × ComesAfter after i × ((j : List ℕ) → ComesAfter after j → is_meant j ≡ true → slice_cmp nat_cmp i j ≢ Greater)
+
+-- the next changed chunk
 abbrev pub IsNextDirty : Stored → Option (List ℕ) → Option (List ℕ) → Type 0
-IsNextDirty s after None = (i : List ℕ) → ComesAfter after i → is_dirty s i ≡ false
-IsNextDirty s after (Some i) = (is_dirty s i ≡ true) × ComesAfter after i × ((j : List ℕ) → ComesAfter after j → is_dirty s j ≡ true → slice_cmp nat_cmp i j ≢ Greater)
+IsNextDirty s after next = IsNext (is_dirty s) after next
 
--- each changed chunk stands in the list, or comes later
-abbrev pub Covers : Stored → List (List ℕ) → Option (List ℕ) → Type 0
-Covers s done after = (i : List ℕ) → is_dirty s i ≡ true → (list_any (bytes_eq i) done ≡ true) ⊎ ComesAfter after i
+-- the next known chunk, changed or not
+abbrev pub IsNextChunk : Stored → Option (List ℕ) → Option (List ℕ) → Type 0
+IsNextChunk s after next = IsNext (is_known s) after next
+
+-- each chunk that is meant stands in the list, or comes later
+abbrev pub Covers : (List ℕ → Bool) → List (List ℕ) → Option (List ℕ) → Type 0
+Covers is_meant done after = (i : List ℕ) → is_meant i ≡ true → (list_any (bytes_eq i) done ≡ true) ⊎ ComesAfter after i
 
 -- the records after those of these chunks are written
 abbrev pub recorded : (List ℕ → List ℕ) → Grid → List (List ℕ) → List ℕ → List ℕ

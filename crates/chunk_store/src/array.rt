@@ -1,6 +1,7 @@
 //! An array and the chunks that changed.
 
-ghost use Rattle.std.specs.Prelude.{◌≡◌, ◌≤◌, ◌+◌, ◌↔◌, ℕ, List, [], All, IsSome, length, option_map, false, Some, None, Err, IfOk, IfSome, OnOk, OnErr};
+ghost use Rattle.std.specs.Prelude.{◌≡◌, ◌≤◌, ◌+◌, ◌↔◌, ℕ, List, [], All, IsSome, length, option_map, false};
+ghost use Rattle.std.specs.Prelude.{Some, None, Err, IfOk, IfSome, OnOk, OnErr};
 ghost use Rattle.hdf_types.specs.Reading.{size_of};
 ghost use Rattle.hdf_types.specs.Types.{IsSoundType};
 ghost use Rattle.hdf_types.specs.Views.{elem as kind_of};
@@ -14,10 +15,15 @@ ghost use Rattle.point_select.specs.declared.TheConstants.{MAX_POINTS};
 ghost use Rattle.chunk_store.specs.Cells.{put};
 ghost use Rattle.chunk_store.specs.Grids.{IsWhole, all_fill, cut_to, reads, with_dims, writes};
 ghost use Rattle.chunk_store.specs.Picked.{PicksIn, cells_from, picked};
-ghost use Rattle.chunk_store.specs.Marks.{Stored, AreIndexes, IsTracked, IsNextDirty, IsChunkOf, MarksBegun, MarksCut, MarksWritten, with_chunk, body_of, state, in_grid, cleared, cut};
+ghost use Rattle.chunk_store.specs.Indexes.{IsIndex};
+ghost use Rattle.chunk_store.specs.Marks.{Stored, AreIndexes, IsTracked, IsNextDirty, IsNextChunk, IsChunkOf, MarksBegun};
+ghost use Rattle.chunk_store.specs.Marks.{MarksCut, MarksWritten, with_chunk, body_of, state, in_grid};
+ghost use Rattle.chunk_store.specs.Marks.{cleared, cut};
 ghost use Rattle.chunk_store.specs.declared.array.InstallFault.TheVariants.{BadChunk, NoMemory};
 
-use crate::marks::{Marks, clear_flags, first_changed, flag_chunks, flag_cut, note_chunks};
+use crate::marks::{
+    Marks, clear_flags, first_changed, first_known, flag_chunks, flag_cut, note_chunks,
+};
 use crate::picks::Picks;
 use crate::plain::PlainArray;
 use chunk_layout::Layout;
@@ -123,7 +129,7 @@ impl Array {
     }
 
     /// What is true of every array: all parts are sound, each cell has an element's bytes, and the index of each chunk
-    /// that is known has a number for each axis.
+    /// that is known, also of one that now lies outside, has a number of 32 bits for each axis.
     pub fn is_whole(&self)
         ensures grid { IsWhole self.now.grid }
         ensures indexes { AreIndexes self.now }
@@ -223,30 +229,26 @@ impl Array {
         self.write(alloc, &Picks::Points(points.as_slice()), bytes)
     }
 
-    /// Writes elements into the `many` cells from a place on, in row-major order.
+    /// Writes elements into the cells from a place on, in row-major order.
     ///
     /// # Errors
     ///
     /// Only where memory runs out; then no cell has changed.
-    pub fn write_places(
-        &mut self,
-        alloc: Global,
-        from: u64,
-        many: u64,
-        bytes: &[u8],
-    ) -> Result<(), AllocError>
-        requires places { from + many ≤ count_of self.old.grid.shape }
-        requires encoded { AreEncoded self.old.grid.kind many bytes.now }
-        ensures done { OnOk result (self.new.grid
+    pub fn write_places(&mut self, alloc: Global, from: u64, bytes: &[u8]) -> Result<(), AllocError>
+        requires { (many : ℕ) × (from + many ≤ count_of self.old.grid.shape)
+            × AreEncoded self.old.grid.kind many bytes.now }
+        ensures done { OnOk result ((many : ℕ) → AreEncoded self.old.grid.kind many bytes.now
+            → self.new.grid
             ≡ writes self.old.grid (cells_from from many self.old.grid.shape) bytes.now) }
-        ensures marks { OnOk result (MarksWritten self.old
-            (cells_from from many self.old.grid.shape) self.new) }
+        ensures marks { OnOk result ((many : ℕ) → AreEncoded self.old.grid.kind many bytes.now
+            → MarksWritten self.old (cells_from from many self.old.grid.shape) self.new) }
         ensures kept { OnErr result (self.new.grid ≡ self.old.grid) }
-        ensures begun { OnErr result (MarksBegun self.old
-            (cells_from from many self.old.grid.shape) self.new) }
+        ensures begun { OnErr result ((many : ℕ) → AreEncoded self.old.grid.kind many bytes.now
+            → MarksBegun self.old (cells_from from many self.old.grid.shape) self.new) }
         ensures tracked { (held : List ℕ → List ℕ) → IsTracked held self.old
             → IsTracked held self.new }
     {
+        let many = self.plain.elements_in(bytes);
         self.write(alloc, &Picks::Places { from, many }, bytes)
     }
 
@@ -268,8 +270,19 @@ impl Array {
     /// The first changed chunk behind one, or of all, in row-major order.
     pub fn next_dirty(&self, after: Option<&Dims>) -> Option<Dims>
         ensures next { IsNextDirty self.now (option_map (λ d. d.now) after.entry) result }
+        ensures known { IfSome result (λ i. IsSome (state self.now i)) }
+        ensures index { IfSome result (λ i. IsIndex self.now.grid.chunk i) }
     {
         first_changed(&self.marks, after)
+    }
+
+    /// The first chunk behind one, or of all, of which anything is known, changed or not, in row-major order.
+    pub fn next_chunk(&self, after: Option<&Dims>) -> Option<Dims>
+        ensures next { IsNextChunk self.now (option_map (λ d. d.now) after.entry) result }
+        ensures known { IfSome result (λ i. IsSome (state self.now i)) }
+        ensures index { IfSome result (λ i. IsIndex self.now.grid.chunk i) }
+    {
+        first_known(&self.marks, after)
     }
 
     /// The bytes of a chunk that is known, in row-major order, with the fill in each cell outside the array; no byte

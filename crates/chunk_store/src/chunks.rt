@@ -1,6 +1,7 @@
 //! The cells of one chunk: walks over them in row-major order, those outside the shape too.
 
-ghost use Rattle.std.specs.Prelude.{◌≡◌, ◌≤◌, ◌<◌, ◌*◌, ◌^◌, ◌-◌, ◌⊎◌, ◌↔◌, ℕ, List, [], All, true, false, cond, min, length, slice_index_or, IfOk, OnOk, IsTrue};
+ghost use Rattle.std.specs.Prelude.{◌≡◌, ◌≤◌, ◌<◌, ◌*◌, ◌^◌, ◌-◌, ◌⊎◌, ◌↔◌, ℕ, List, [], All, true, false};
+ghost use Rattle.std.specs.Prelude.{cond, min, length, slice_index_or, IfOk, OnOk, IsTrue};
 ghost use Rattle.std.specs.List.{flat_map};
 ghost use Rattle.std.specs.Str.{bytes_eq};
 ghost use Rattle.hdf_values.specs.Nested.{piece_at};

@@ -10,7 +10,14 @@ mod laws;
 mod marks;
 mod picks;
 mod plain;
+#[cfg(test)]
+mod tests;
+#[cfg(test)]
+mod trials;
 mod walks;
 
 pub use array::{Array, InstallFault};
-pub use laws::{arrays_same, dirty_chunks_in_turn, records_stand};
+pub use laws::{
+    arrays_same, cells_after_calls, chunks_in_turn, chunks_installed, reads_of_cells,
+    records_stand, writes_joined,
+};

@@ -1,6 +1,7 @@
 //! Which chunks were written or installed, and which of them changed.
 
-ghost use Rattle.std.specs.Prelude.{◌≡◌, ◌<◌, ◌⊎◌, ℕ, List, [], true, false, cond, length, slice_index_or, option_map, Some, None, OnOk, OnErr};
+ghost use Rattle.std.specs.Prelude.{◌≡◌, ◌<◌, ◌⊎◌, ℕ, List, [], true, false, cond, length, slice_index_or};
+ghost use Rattle.std.specs.Prelude.{option_map, is_some, Some, None, OnOk, OnErr};
 ghost use Rattle.std.specs.List.{filter};
 ghost use Rattle.std.specs.List.Sorted.{IsStrictlySortedBy};
 ghost use Rattle.std.specs.Map.{keys_of};
@@ -8,7 +9,7 @@ ghost use Rattle.short_lists.specs.Order.{list_order};
 ghost use Rattle.shapes.specs.Shapes.{dims_of};
 ghost use Rattle.chunk_layout.specs.Chunks.{quotients};
 ghost use Rattle.chunk_store.specs.Cells.{put, find_in, has};
-ghost use Rattle.chunk_store.specs.Marks.{IsNoted, touches, after_cut, cleared, in_grid, keeps, is_after, is_later, first_key};
+ghost use Rattle.chunk_store.specs.Marks.{IsNoted, touches, after_cut, cleared, flagged, in_grid, keeps, is_after, is_later, first_key};
 ghost use Rattle.chunk_store.specs.Picked.{picked, PicksIn};
 
 use crate::picks::{Picks, many, pick};
@@ -128,11 +129,27 @@ pub(crate) fn clear_flags(marks: &mut Marks, plain: &PlainArray)
 /// The first changed chunk that comes after one, or of all.
 pub(crate) fn first_changed(marks: &Marks, after: Option<&Dims>) -> Option<Dims>
     ensures first { result
-        ≡ first_key (filter (is_later (option_map (λ d. d.now) after.entry)) marks.now.entries) }
+        ≡ first_key (filter (is_later flagged (option_map (λ d. d.now) after.entry))
+        marks.now.entries) }
     ensures ordered { IsStrictlySortedBy list_order (keys_of marks.now.entries) }
 {
     for (index, changed) in marks {
         if *changed && comes_after(after, index) {
+            return Some(*index);
+        }
+    }
+    None
+}
+
+/// The first known chunk that comes after one, or of all.
+pub(crate) fn first_known(marks: &Marks, after: Option<&Dims>) -> Option<Dims>
+    ensures first { result
+        ≡ first_key (filter (is_later is_some (option_map (λ d. d.now) after.entry))
+        marks.now.entries) }
+    ensures ordered { IsStrictlySortedBy list_order (keys_of marks.now.entries) }
+{
+    for (index, _) in marks {
+        if comes_after(after, index) {
             return Some(*index);
         }
     }

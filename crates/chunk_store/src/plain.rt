@@ -1,6 +1,7 @@
 //! Arrays, and what reads and changes them.
 
-ghost use Rattle.std.specs.Prelude.{◌≡◌, ◌≤◌, ◌+◌, ◌↔◌, ℕ, List, [], All, length, option_map, false, Some, IfOk, IfSome, IsTrue, OnOk, OnErr};
+ghost use Rattle.std.specs.Prelude.{◌≡◌, ◌≤◌, ◌+◌, ◌↔◌, ℕ, List, [], All, length, option_map, false, Some};
+ghost use Rattle.std.specs.Prelude.{IfOk, IfSome, IsTrue, OnOk, OnErr};
 ghost use Rattle.hdf_types.specs.Reading.{size_of};
 ghost use Rattle.hdf_types.specs.Types.{IsSoundType};
 ghost use Rattle.hdf_types.specs.Views.{elem as kind_of};
@@ -55,7 +56,8 @@ impl Model for PlainArray {
 
     ghost coded = { coded_grid };
 
-    ghost view = { λ a. tabulated (kind_of a.elem) a.shape a.layout.chunk (given_fill a.given a.blank.items) (value_in a.cells a.blank.items) };
+    ghost view = { λ a. tabulated (kind_of a.elem) a.shape a.layout.chunk
+        (given_fill a.given a.blank.items) (value_in a.cells a.blank.items) };
 
     ghost invariant = { λ a. IsKept (kind_of a.elem) a.shape a.layout.chunk a.given a.blank.items a.size a.cells };
 }
@@ -75,7 +77,7 @@ fn blank_bytes(alloc: Global, elem: &ElemType, fill: Option<Vec<u8>>) -> Result<
     }
 }
 
-fn are_elements(elem: &ElemType, many: u64, bytes: &[u8]) -> bool
+pub(crate) fn are_elements(elem: &ElemType, many: u64, bytes: &[u8]) -> bool
     requires { IsSoundType (kind_of elem.now) }
     ensures { IsTrue result ↔ AreEncoded (kind_of elem.now) many bytes.now }
 {
@@ -181,6 +183,13 @@ impl PlainArray {
         } else {
             None
         }
+    }
+
+    /// How many elements bytes are.
+    pub(crate) fn elements_in(&self, bytes: &[u8]) -> u64
+        ensures { (many : ℕ) → AreEncoded self.now.kind many bytes.now → result ≡ many }
+    {
+        (bytes.len() / self.size) as u64
     }
 
     /// The chunk in which a cell lies.
