@@ -1,2 +1,4 @@
+pub mod EntryLaws
 pub mod Limits
+pub mod Members
 pub mod Unions

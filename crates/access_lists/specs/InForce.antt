@@ -7,7 +7,7 @@
 --     union_holds      whether one of some entries has the right; None where there is no entry
 --     joined      the union with one entry more
 --     has      the right that is in force
-use Rattle.std.specs.Prelude.{ℕ, List, [], ◌∷◌, ◌++◌, Bool, false, ◌||◌, Option, Some, None, codes, filter_map, option_map, option_and_then}
+use Rattle.std.specs.Prelude.{ℕ, List, [], ◌∷◌, Bool, false, ◌||◌, Option, Some, None, codes, filter_map, option_map, option_and_then}
 use Rattle.std.specs.Option.{unwrap_or}
 use Rattle.std.specs.List.{list_any}
 use Rattle.std.specs.FinMap.{FinMap, get}
@@ -15,6 +15,7 @@ use Rattle.text_maps.specs.Keyed.{text_order}
 use Rattle.access_lists.specs.declared.people.Caller.{Caller}
 use Rattle.access_lists.specs.declared.right.Right.{Right}
 use Rattle.access_lists.specs.declared.rights.Rights.{Rights}
+use Rattle.access_lists.specs.GroupKeys.{group_key}
 use Rattle.access_lists.specs.RightWords.{holds}
 
 abbrev pub Entries : Type 0
@@ -30,9 +31,8 @@ anonymous_caller = record { user = None; groups = [] }
 abbrev pub own_entry : Entries → Option (List ℕ) → Option Rights
 own_entry list user = option_and_then (get list) user
 
--- a group's entry stands under `g:` and the group's name
 abbrev pub group_entries : Entries → List (List ℕ) → List Rights
-group_entries list groups = filter_map (λ group. get list (codes "g:" ++ group)) groups
+group_entries list groups = filter_map (λ group. get list (group_key group)) groups
 
 abbrev pub default_entry : Entries → Option Rights
 default_entry list = get list (codes "default")

@@ -1,7 +1,8 @@
 -- The six rights.
 --     right_name      how a right is written
 --     holds right entry      whether an entry has the right
-use Rattle.std.specs.Prelude.{ℕ, List, Bool, codes}
+--     all_rights      the entry with all six rights
+use Rattle.std.specs.Prelude.{ℕ, List, Bool, true, codes}
 use Rattle.access_lists.specs.declared.right.Right.{Right}
 use Rattle.access_lists.specs.declared.right.Right.TheVariants.{Create, Read, Update, Delete, ReadAcl, UpdateAcl}
 use Rattle.access_lists.specs.declared.rights.Rights.{Rights}
@@ -21,3 +22,6 @@ holds Update entry = entry.update
 holds Delete entry = entry.delete
 holds ReadAcl entry = entry.read_acl
 holds UpdateAcl entry = entry.update_acl
+
+abbrev pub all_rights : Rights
+all_rights = record { create = true; read = true; update = true; delete = true; read_acl = true; update_acl = true }

@@ -1,8 +1,10 @@
 ghost use Rattle.std.specs.Prelude.{◌≡◌, option_map, false};
 ghost use Rattle.std.specs.Option.{unwrap_or};
+ghost use Rattle.access_lists.specs.GroupNames.{names_of};
 ghost use Rattle.access_lists.specs.InForce.{default_entry, group_entries, has, joined, own_entry, union_holds};
 ghost use Rattle.access_lists.specs.RightWords.{holds};
 
+use crate::group::Group;
 use crate::list::AccessList;
 use crate::people::Caller;
 use crate::right::Right;
@@ -12,19 +14,16 @@ use object_ids::Name;
 /// The name of the entry for everybody who has no entry of his own and of no group.
 const DEFAULT: &str = "default";
 
-/// What stands before a group's name in a list.
-const GROUP: &str = "g:";
-
 /// Whether a list gives a caller a right. The first of these decides: the entry of the caller's user name, the union of
 /// the entries of the caller's groups, the entry `default`. Where there is none, the caller has no right. Takes no
-/// memory. It looks at each entry once for each group of the caller.
+/// memory, and looks up one entry for each group of the caller.
 pub fn decide(list: &AccessList, caller: &Caller, right: Right) -> bool
     ensures { result ≡ has list.now caller.now right }
 {
     if let Some(given) = own_gives(list, &caller.user, right) {
         return given;
     }
-    if let Some(given) = groups_give(list, caller.groups.as_slice(), right) {
+    if let Some(given) = groups_give(list, caller.groups.groups(), right) {
         return given;
     }
     default_gives(list, right)
@@ -41,12 +40,12 @@ fn own_gives(list: &AccessList, user: &Option<Name>, right: Right) -> Option<boo
 }
 
 // Whether one of the groups' entries has the right.
-fn groups_give(list: &AccessList, groups: &[Name], right: Right) -> Option<bool>
-    ensures { result ≡ union_holds right (group_entries list.now groups.now) }
+fn groups_give(list: &AccessList, groups: &[Group], right: Right) -> Option<bool>
+    ensures { result ≡ union_holds right (group_entries list.now (names_of groups.now)) }
 {
     let mut given = None;
     for group in groups {
-        given = joined(given, list.entry_joined(GROUP, group.text()), right);
+        given = joined(given, list.entry(group.key()), right);
     }
     given
 }

@@ -5,12 +5,17 @@
 #![tactic(auto)]
 
 mod decision;
+mod group;
+mod json;
+mod laws;
 mod list;
 mod people;
 mod right;
 mod rights;
 
 pub use decision::decide;
+pub use json::{acl_json, acls_json, entry_json, list_json, read_entry};
+pub use laws::{all_six_rights, entry_limit, trees_of_entries};
 pub use list::{AccessList, ListFault, MAX_ENTRIES};
 pub use people::{Caller, Names};
 pub use right::Right;

@@ -1,14 +1,16 @@
-ghost use Rattle.std.specs.Prelude.{◌≡◌, ◌↔◌, ◌≤◌, ◌++◌, OnOk, OnErr, IsErrOf, IsTrue};
+ghost use Rattle.std.specs.Prelude.{◌≡◌, ◌↔◌, ◌≤◌, OnOk, OnErr, IfOk, IsErrOf, IsTrue};
 ghost use Rattle.std.specs.FinMap as map;
 ghost use Rattle.std.specs.Option.{option_copied};
+ghost use Rattle.text_maps.specs.Nexts.{IsNext, IsKeyStep};
+ghost use Rattle.object_ids.specs.NamedEntries.{named_entries};
 ghost use Rattle.access_lists.specs.InForce.{most_entries};
 ghost use Rattle.access_lists.specs.declared.list.ListFault.TheVariants.{NoMemory};
 
 use crate::rights::Rights;
-use object_ids::Name;
+use object_ids::{Name, NameMap, Named};
 use std::alloc::{AllocError, Global};
+use std::collections::BTreeMap;
 use std::marker::Model;
-use text_maps::TextMap;
 
 /// The most entries of a list.
 pub const MAX_ENTRIES: usize = 1024;
@@ -17,7 +19,7 @@ pub const MAX_ENTRIES: usize = 1024;
 /// users of that group, and `default` for everybody else.
 #[derive(Drop)]
 pub struct AccessList {
-    entries: TextMap<Rights>,
+    entries: NameMap<Rights>,
 }
 
 impl Model for AccessList {
@@ -61,8 +63,17 @@ impl AccessList {
         ensures { result ≡ map.empty }
     {
         AccessList {
-            entries: TextMap::new(alloc),
+            entries: NameMap::new(alloc),
         }
+    }
+
+    /// A list with one entry.
+    pub fn of(alloc: Global, name: Name, rights: Rights) -> Result<AccessList, AllocError>
+        ensures { IfOk result (λ list. list ≡ map.insert map.empty name rights) }
+    {
+        let mut entries = NameMap::new(alloc);
+        entries.put(name, rights)?;
+        Ok(AccessList { entries })
     }
 
     /// How many entries the list has.
@@ -87,6 +98,17 @@ impl AccessList {
         self.entry(name.text())
     }
 
+    /// The least name behind another, in the order of their bytes, or the least of all.
+    pub fn next_name(&self, after: Option<&Name>) -> Option<&Name>
+        ensures least { IsNext self.now (option_copied after.entry) (option_copied result) }
+        ensures step { IsKeyStep self.now (option_copied after.entry) (option_copied result) }
+    {
+        match after {
+            Some(name) => self.entries.next_name(Some(name.text())),
+            None => self.entries.next_name(None),
+        }
+    }
+
     /// Puts an entry under a name, in place of any that is there. After an error the list is as it was.
     pub fn put(&mut self, name: Name, rights: Rights) -> Result<(), ListFault>
         ensures ok { OnOk result (self.new ≡ map.insert self.old name rights) }
@@ -98,16 +120,16 @@ impl AccessList {
         if self.is_full_for(name.text()) {
             return Err(ListFault::Limit);
         }
-        self.entries.put_copy(name.text(), rights)?;
+        self.entries.put(name, rights)?;
         Ok(())
     }
 
-    // Whether the text has no entry, and there is no room for one.
-    fn is_full_for(&self, text: &str) -> bool
+    /// Whether a name has no entry, and there is no room for one. Takes no memory.
+    pub fn is_full_for(&self, text: &str) -> bool
         ensures { IsTrue result
             ↔ ((map.get self.now text.now ≡ None) × (most_entries ≤ map.len self.now)) }
     {
-        !self.entries.contains_key(text) && self.entries.len() >= MAX_ENTRIES
+        self.entry(text).is_none() && self.entries.len() >= MAX_ENTRIES
     }
 
     // The entry that stands under a text.
@@ -120,13 +142,10 @@ impl AccessList {
         }
     }
 
-    // The entry that stands under one text and then another.
-    pub(crate) fn entry_joined(&self, front: &str, rest: &str) -> Option<Rights>
-        ensures { result ≡ map.get self.now (front.now ++ rest.now) }
+    // The names with their entries, in the order of the names' bytes.
+    pub(crate) fn as_tree(&self) -> &BTreeMap<String, Named<Rights>>
+        ensures { map.entries self.now ≡ named_entries result.now.entries }
     {
-        match self.entries.get_joined(front, rest) {
-            Some(rights) => Some(*rights),
-            None => None,
-        }
+        self.entries.as_tree()
     }
 }

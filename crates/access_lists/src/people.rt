@@ -1,23 +1,26 @@
 ghost use Rattle.std.specs.Prelude.{◌≡◌, [], ◌++◌, ◌∷◌, length, IfOk, OnOk, OnErr};
 ghost use Rattle.access_lists.specs.InForce.{anonymous_caller};
+ghost use Rattle.access_lists.specs.GroupNames.{names_of};
 
+use crate::group::Group;
 use object_ids::Name;
 use std::alloc::{AllocError, Global};
 use std::marker::Model;
 
-/// Some names in a row.
+/// Names of groups in a row.
 #[derive(Drop)]
 pub struct Names {
     alloc: Global,
-    names: Vec<Name>,
+    groups: Vec<Group>,
 }
 
 impl Model for Names {
     ghost use Rattle.std.specs.Prelude.{ℕ, List};
+    ghost use Rattle.access_lists.specs.GroupNames.{names_of};
 
     ghost Value = { List (List ℕ) };
 
-    ghost view = { λ a. a.names.items };
+    ghost view = { λ a. names_of a.groups.items };
 }
 
 impl Names {
@@ -27,24 +30,25 @@ impl Names {
     {
         Names {
             alloc,
-            names: Vec::new(alloc),
+            groups: Vec::new(alloc),
         }
     }
 
-    /// Adds a name at the end. An error leaves the names as they were.
+    /// Adds a name at the end, and makes the name of its entry. An error leaves the names as they were.
     pub fn push(&mut self, name: Name) -> Result<(), AllocError>
         ensures ok { OnOk result (self.new ≡ self.old ++ name ∷ []) }
         ensures err { OnErr result (self.new ≡ self.old) }
     {
-        self.names.push(name)?;
+        let group = Group::new(self.alloc, name)?;
+        self.groups.push(group)?;
         Ok(())
     }
 
-    /// The names in their order.
-    pub fn as_slice(&self) -> &[Name]
-        ensures { result.now ≡ self.now }
+    // The groups in their order.
+    pub(crate) fn groups(&self) -> &[Group]
+        ensures { names_of result.now ≡ self.now }
     {
-        self.names.as_slice()
+        self.groups.as_slice()
     }
 
     /// The same names once more.
@@ -53,17 +57,17 @@ impl Names {
     {
         Ok(Names {
             alloc: self.alloc,
-            names: copies(self.alloc, self.names.as_slice())?,
+            groups: copies(self.alloc, self.groups.as_slice())?,
         })
     }
 }
 
-fn copies(alloc: Global, names: &[Name]) -> Result<Vec<Name>, AllocError>
-    ensures { IfOk result (λ copies. copies.items ≡ names.now) }
+fn copies(alloc: Global, groups: &[Group]) -> Result<Vec<Group>, AllocError>
+    ensures { IfOk result (λ copies. names_of copies.items ≡ names_of groups.now) }
 {
     let mut copies = Vec::new(alloc);
-    for name in names {
-        copies.push(name.copy()?)?;
+    for group in groups {
+        copies.push(group.copy()?)?;
     }
     Ok(copies)
 }

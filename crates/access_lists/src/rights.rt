@@ -15,6 +15,16 @@ pub struct Rights {
 }
 
 impl Rights {
+    /// All six rights.
+    pub const ALL: Rights = Rights {
+        create: true,
+        read: true,
+        update: true,
+        delete: true,
+        read_acl: true,
+        update_acl: true,
+    };
+
     /// Whether the entry has a right.
     pub fn holds(&self, right: Right) -> bool
         ensures { result ≡ holds right self.now }

@@ -4,7 +4,9 @@ ghost use Rattle.std.specs.FinMap as map;
 ghost use Rattle.object_ids.specs.Paths.{path_of, root_path};
 ghost use Rattle.text_maps.specs.Keyed.{keyed};
 ghost use Rattle.domains.specs.Contents.{HasRoot, IsNumberFree, IsPlace, NumberFits, only_root, with_node};
-ghost use Rattle.configuration.specs.Catalogues.{ArePaths, CanBePut, catalogue_of, default_setting, domain_node, domain_nodes, folder_node, folder_nodes, has_parent, is_tree, root_of, with_nodes};
+ghost use Rattle.configuration.specs.Catalogues.{ArePaths, CanBePut, catalogue_of, default_setting};
+ghost use Rattle.configuration.specs.Catalogues.{domain_node, domain_nodes, folder_node, folder_nodes};
+ghost use Rattle.configuration.specs.Catalogues.{has_parent, is_tree, root_of, with_nodes};
 
 use crate::fault::Refusal;
 use crate::limits::{MAX_BELOW_ROOT, MAX_NAME_LEN};
@@ -172,7 +174,8 @@ fn put_domains(
     requires paths { ArePaths (keyed string_bytes domains.entries) }
     requires free { CanBePut catalogue.old (domain_nodes catalogue.old.next (keyed string_bytes domains.entries)) }
     requires few { catalogue.old.next + length (keyed string_bytes domains.entries) ≤ MAX_BELOW_ROOT + 1 }
-    ensures ok { OnOk result (catalogue.new ≡ with_nodes catalogue.old (domain_nodes catalogue.old.next (keyed string_bytes domains.entries))) }
+    ensures ok { OnOk result (catalogue.new
+        ≡ with_nodes catalogue.old (domain_nodes catalogue.old.next (keyed string_bytes domains.entries))) }
     ensures memory { ¬ (IsErrOf result Refusal.BadKey) }
 {
     'domains: for (path, setting) in domains {
@@ -225,7 +228,8 @@ fn put_new(
     requires free { IsNumberFree catalogue.old path.now class }
     requires root { HasRoot class }
     requires place { IsPlace catalogue.old path.now }
-    ensures ok { OnOk result (catalogue.new ≡ with_node catalogue.old path.now (record { class = class; owner = setting.owner; list = setting.list })) }
+    ensures ok { OnOk result (catalogue.new
+        ≡ with_node catalogue.old path.now (record { class = class; owner = setting.owner; list = setting.list })) }
     ensures memory { ¬ (IsErrOf result Refusal.BadKey) }
 {
     let path = match read_path(alloc, path) {

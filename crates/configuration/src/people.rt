@@ -1,10 +1,13 @@
-ghost use Rattle.std.specs.Prelude.{◌≡◌, ◌++◌, ◌∷◌, ◌||◌, ◌&&◌, not, [], map as mapped, List, ℕ, true, false, Some, None, IfOk, OnOk, IsErrOf, if◌then◌else◌, string_bytes};
+ghost use Rattle.std.specs.Prelude.{◌≡◌, ◌++◌, ◌∷◌, ◌||◌, ◌&&◌, not, [], map as mapped, List, ℕ, true, false};
+ghost use Rattle.std.specs.Prelude.{Some, None, IfOk, OnOk, IsErrOf, if◌then◌else◌, string_bytes};
 ghost use Rattle.std.specs.List.{list_all, list_any};
 ghost use Rattle.std.specs.FinMap as map;
 ghost use Rattle.std.specs.Str.{bytes_eq};
 ghost use Rattle.toml.specs.View.{view, table_view, array_view};
 ghost use Rattle.object_ids.specs.Names.{is_name};
-ghost use Rattle.configuration.specs.People.{is_user, user_of, users_of, Group, group_of, groups_in, groups_with, is_visible, is_token, token_of, callers_in, names_at};
+ghost use Rattle.configuration.specs.People.{is_user, user_of, users_of, Group, group_of, groups_in};
+ghost use Rattle.configuration.specs.People.{groups_with, is_visible, is_token, token_of, callers_in};
+ghost use Rattle.configuration.specs.People.{names_at};
 ghost use Rattle.configuration.specs.Tables.{all_of, elements_of};
 
 use crate::fault::Refusal;
@@ -51,7 +54,9 @@ pub fn read_name(alloc: Global, text: &str, most: usize) -> Result<Name, Refusal
 
 /// For each user that a table of groups lists, the names of the groups that list it, in their byte order.
 pub fn read_groups(alloc: Global, table: &Table) -> Result<TextMap<Names>, Refusal>
-    ensures ok { IfOk result (λ m. (groups : List Group) × (groups_in (table_view table.now) ≡ Some groups) × ((user : List ℕ) → names_at m user ≡ groups_with groups user)) }
+    ensures ok { IfOk result (λ m. (groups : List Group)
+        × (groups_in (table_view table.now) ≡ Some groups)
+        × ((user : List ℕ) → names_at m user ≡ groups_with groups user)) }
     ensures bad { IsErrOf result Refusal.BadKey → groups_in (table_view table.now) ≡ None }
 {
     let mut memberships = TextMap::new(alloc);
@@ -68,7 +73,10 @@ fn read_group(
     key: &str,
     value: &Value,
 ) -> Result<(), Refusal>
-    ensures ok { OnOk result ((group : Group) × (group_of (key.now, view value.now) ≡ Some group) × ((q : List ℕ) → names_at memberships.new q ≡ names_at memberships.old q ++ groups_with (group ∷ []) q)) }
+    ensures ok { OnOk result ((group : Group)
+        × (group_of (key.now, view value.now) ≡ Some group)
+        × ((q : List ℕ) → names_at memberships.new q
+        ≡ names_at memberships.old q ++ groups_with (group ∷ []) q)) }
     ensures bad { IsErrOf result Refusal.BadKey → group_of (key.now, view value.now) ≡ None }
 {
     let group = read_name(alloc, key, MAX_GROUP_LEN)?;
@@ -106,7 +114,8 @@ fn add_group(
     group: &Name,
     users: &[Name],
 ) -> Result<(), AllocError>
-    ensures { OnOk result ((q : List ℕ) → names_at memberships.new q ≡ names_at memberships.old q ++ (if list_any (bytes_eq q) users.now then group.now ∷ [] else [])) }
+    ensures { OnOk result ((q : List ℕ) → names_at memberships.new q
+        ≡ names_at memberships.old q ++ (if list_any (bytes_eq q) users.now then group.now ∷ [] else [])) }
 {
     let mut seen = TextMap::new(alloc);
     'users: for user in users {
@@ -124,7 +133,8 @@ fn add_once(
     user: &Name,
 ) -> Result<(), AllocError>
     ensures seen { OnOk result ((q : List ℕ) → map.contains_key seen.new q ≡ (map.contains_key seen.old q || bytes_eq q user.now)) }
-    ensures added { OnOk result ((q : List ℕ) → names_at memberships.new q ≡ names_at memberships.old q ++ (if not (map.contains_key seen.old q) && bytes_eq q user.now then group.now ∷ [] else [])) }
+    ensures added { OnOk result ((q : List ℕ) → names_at memberships.new q
+        ≡ names_at memberships.old q ++ (if not (map.contains_key seen.old q) && bytes_eq q user.now then group.now ∷ [] else [])) }
 {
     if seen.contains_key(user.text()) {
         return Ok(());
@@ -140,7 +150,8 @@ fn add_membership(
     user: &Name,
     group: &Name,
 ) -> Result<(), AllocError>
-    ensures { OnOk result ((q : List ℕ) → names_at memberships.new q ≡ names_at memberships.old q ++ (if bytes_eq q user.now then group.now ∷ [] else [])) }
+    ensures { OnOk result ((q : List ℕ) → names_at memberships.new q
+        ≡ names_at memberships.old q ++ (if bytes_eq q user.now then group.now ∷ [] else [])) }
 {
     let mut names = take_names(alloc, memberships, user);
     names.push(group.copy()?)?;

@@ -37,10 +37,8 @@ fn read_entry(alloc: Global, key: &str, value: &Value) -> Result<(Name, Rights),
     let Some(rights) = read_rights(value) else {
         return Err(Refusal::BadKey);
     };
-    match read_name(alloc, key, MAX_NAME_LEN) {
-        Ok(name) => Ok((name, rights)),
-        Err(fault) => Err(fault),
-    }
+    let name = read_name(alloc, key, MAX_NAME_LEN)?;
+    Ok((name, rights))
 }
 
 // Puts an entry into a list that has room for it.
@@ -60,10 +58,7 @@ fn put_entry(list: &mut AccessList, name: Name, rights: Rights) -> Result<(), Re
 fn read_rights(value: &Value) -> Option<Rights>
     ensures { result ≡ rights_of (view value.now) }
 {
-    match value.as_table() {
-        Some(table) => read_rights_in(table),
-        None => None,
-    }
+    read_rights_in(value.as_table()?)
 }
 
 fn read_rights_in(table: &Table) -> Option<Rights>

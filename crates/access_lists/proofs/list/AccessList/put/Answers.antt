@@ -8,9 +8,7 @@ pub invariant_of-self-2 : goal.invariant_of-self-2
 invariant_of-self-2 c =
     let Fits : Entries → Type 0 = λ m. len m ≤ 1024 in
     let list = c.args.self.now in
-    let now =
-    c.in_ok-put_copy.ensures.ok ∙ ap (λ m. insert m c.text-2.result.now c.args.rights) c.self.view_is
-    ∙ ap (λ text. insert list text c.args.rights) c.text-2.ensures.value in
+    let now = c.in_ok-put.ensures.ok ∙ ap (λ m. insert m c.args.name c.args.rights) c.self.view_is in
     subst Fits (sym now)
     (insert-fits list c.args.name c.args.rights
     (λ none. room_left c.is_full_for.result _ _ c.is_full_for.ensures c.if-is_full_for.false (ap (get list) c.text.ensures.value ∙ none))
