@@ -1,1 +1,6 @@
+pub mod ChildWalks
+pub mod Counts
+pub mod FaultLemmas
+pub mod Places
 pub mod Puts
+pub mod Removals

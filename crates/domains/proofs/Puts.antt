@@ -16,14 +16,14 @@ use Rattle.domains.specs.declared.classes.NodeClass.{NodeClass}
 use Rattle.domains.specs.declared.classes.NodeClass.TheVariants.{Folder, Domain}
 use Rattle.domains.specs.Contents.{most_nodes, Contents, IsCatalogue, IsFolderAt, IsDomainAt, IsGroupOf, HasChildren, HasRoot, IsFree, IsNumberFree, IsPlace, MayStandAt, NumberFits, class_at, only_root, raised, with_node}
 
-IsOther : List ℕ → List ℕ → Type 0
+unfoldable pub IsOther : List ℕ → List ℕ → Type 0
 IsOther q path = eq_by_cmp text_order q path ≡ false
 
-same_text : (path : List ℕ) → eq_by_cmp text_order path path ≡ true
+pub same_text : (path : List ℕ) → eq_by_cmp text_order path path ≡ true
 same_text path = is_eq-slice_cmp path path ∙ (bytes_eq-Decides path path).1 refl
 
 -- a text is another or the same
-same_or_other : (q path : List ℕ) → (q ≡ path) ⊎ IsOther q path
+pub same_or_other : (q path : List ℕ) → (q ≡ path) ⊎ IsOther q path
 unfolding IsOther
 same_or_other q path =
     ⊎_elim
@@ -31,17 +31,17 @@ same_or_other q path =
     (λ far. inr far)
     (cases_Bool (eq_by_cmp text_order q path))
 
-other_differs : (q path : List ℕ) → IsOther q path → q ≢ path
+pub other_differs : (q path : List ℕ) → IsOther q path → q ≢ path
 unfolding IsOther
 other_differs q path far e =
     let Same : List ℕ → Type 0 = λ r. eq_by_cmp text_order r path ≡ true in
     true≢false (sym (subst Same (sym e) (same_text path)) ∙ far)
 
 module _ (m : FinMap text_order Node) (path : List ℕ) (node : Node) where
-  get_here : get (insert m path node) path ≡ Some node
+  pub get_here : get (insert m path node) path ≡ Some node
   get_here = get-insert nat_list_cmp_total m path node path ∙ ap (λ b. cond b (Some node) (get m path)) (same_text path)
 
-  get_elsewhere : (q : List ℕ) → IsOther q path → get (insert m path node) q ≡ get m q
+  pub get_elsewhere : (q : List ℕ) → IsOther q path → get (insert m path node) q ≡ get m q
   unfolding IsOther
   get_elsewhere q far = get-insert nat_list_cmp_total m path node q ∙ ap (λ b. cond b (Some node) (get m q)) far
 
@@ -56,10 +56,10 @@ is_some_class : (o : Option NodeClass) (class : NodeClass) → o ≡ Some class 
 is_some_class o class e = subst IsSome (sym e) refl
 
 module _ (c : Contents) (path : List ℕ) (node : Node) where
-  class_here : class_at (with_node c path node) path ≡ Some node.class
+  pub class_here : class_at (with_node c path node) path ≡ Some node.class
   class_here = ap (option_map (λ n. n.class)) (get_here c.nodes path node)
 
-  class_elsewhere : (q : List ℕ) → IsOther q path → class_at (with_node c path node) q ≡ class_at c q
+  pub class_elsewhere : (q : List ℕ) → IsOther q path → class_at (with_node c path node) q ≡ class_at c q
   class_elsewhere q far = ap (option_map (λ n. n.class)) (get_elsewhere c.nodes path node q far)
 
   class_is : (q : List ℕ) (class : NodeClass) → q ≡ path → class_at (with_node c path node) q ≡ Some class → node.class ≡ class
@@ -211,7 +211,7 @@ module _ (node : Node) (folder : node.class ≡ Folder) where
   unfolding is_domain
   no_domain number id e = true≢false (sym (ap is_domain (sym folder ∙ e)))
 
-  no_domains : (q : List ℕ) (number : ℕ) (id : ObjectId) → IsDomainAt (only_root node) q number id → ⊥
+  pub no_domains : (q : List ℕ) (number : ℕ) (id : ObjectId) → IsDomainAt (only_root node) q number id → ⊥
   unfolding nothing
   no_domains q number id at =
       each nothing root_path node (λ r k. (n : ℕ) (i : ObjectId) → k ≡ Domain n i → ⊥)

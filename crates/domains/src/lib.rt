@@ -5,10 +5,17 @@
 #![tactic(auto)]
 
 mod catalogue;
+mod children;
 mod classes;
+mod faults;
+mod json;
+mod laws;
 
-pub use catalogue::{Catalogue, MAX_NODES};
+pub use catalogue::{Catalogue, MAX_NODES, NUMBER_LIMIT};
 pub use classes::{Node, NodeClass};
+pub use faults::CatFault;
+pub use json::node_json;
+pub use laws::{catalogue_limits, nodes_of_catalogues};
 
 #[cfg(test)]
 mod tests;

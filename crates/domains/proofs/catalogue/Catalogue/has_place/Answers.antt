@@ -1,15 +1,7 @@
-use Rattle.std.proofs.Common.{◌≡◌, ℕ, ◌<◌, List, false, is_some, Option, Some, None, option_copied, Bor, refl, ap, sym, subst, ◌∙◌, true≢false}
-use Rattle.domains.specs.declared.classes.Node.{Node}
+use Rattle.std.proofs.Common.{ℕ, ◌<◌, List, is_some, ap, sym, subst, ◌∙◌, true≢false}
 use Rattle.domains.specs.Contents.{IsFolderAt}
+use Rattle.domains.proofs.Places.{none_there, some_there}
 use Rattle.domains.proofs.catalogue.Catalogue.has_place.Goals as goal
-
-some_there : (r : Option (Bor Node)) (o : Option Node) → option_copied r ≡ o → is_some r ≡ is_some o
-some_there None o e = ap is_some e
-some_there (Some x) o e = ap is_some e
-
-none_there : (o : Option Node) → is_some o ≡ false → o ≡ None
-none_there None h = refl
-none_there (Some x) h = absurd (true≢false h)
 
 pub returns-then-is_some-clause-exact : goal.returns-then-is_some-clause-exact
 returns-then-is_some-clause-exact c = (
