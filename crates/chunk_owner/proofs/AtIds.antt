@@ -1,0 +1,211 @@
+-- What is done among objects, from what is done to one of them.
+use Rattle.std.proofs.Common.{◌≡◌, ℕ, Bool, true, false, cond, ◌==◌, IfOk, Option, Some, None, Result, Ok, Err, option_map, sym, ap, subst, refl, ◌∙◌, eqb-true, arith}
+use Rattle.std.specs.Ordering.{eq_by_cmp}
+use Rattle.std.specs.FinMap.{get, len, insert, remove, get-insert, get-remove, same_map}
+use Rattle.text_maps.proofs.ValueMaps.{insert-values, remove-values}
+use Rattle.object_ids.specs.IdOrder.{id_order, id_eq, kind_rank}
+use Rattle.object_ids.specs.IdValues.{Id}
+use Rattle.object_ids.specs.declared.ids.Kind.{Kind}
+use Rattle.object_ids.specs.declared.ids.Kind.TheVariants as kind
+use Rattle.json_trees.proofs.TreeLemmas.{both_true}
+use Rattle.object_ids.proofs.IdOrders.{id_order_once, id_order_total}
+use Rattle.object_ops.specs.declared.grants.Grant.{Grant}
+use Rattle.object_ops.specs.declared.replies.Reply.{Reply}
+use Rattle.object_ops.specs.declared.replies.Reply.TheVariants.{Done, Refused}
+use Rattle.object_ops.specs.declared.refusals.Refusal.{Refusal}
+use Rattle.object_ops.specs.declared.refusals.Refusal.TheVariants.{Root}
+use Rattle.object_ops.specs.Answers.{Follows, nothing}
+use Rattle.object_acts.specs.declared.objects.Object.{Object}
+use Rattle.object_acts.specs.declared.objects.Body.{Body}
+use Rattle.object_acts.specs.declared.objects.Body.TheVariants.{Group, Dataset, Datatype}
+use Rattle.object_acts.specs.Objects.{unmarked, unmarked_body, empty_group}
+use Rattle.object_acts.specs.Trees.{body_tree, object_tree}
+use Rattle.chunk_owner.specs.Lanes.{Objects, shown, set_at, at_id}
+use Rattle.chunk_owner.specs.Acts.{missing, held, seen, read_by, reading, is_done, left, changed_by, changing, removed, removing}
+use Rattle.chunk_owner.proofs.Eaches.{get-shown, same_id}
+
+-- to put in what is there changes nothing
+insert_same : (m : Objects) (k : Id) (v : Object) → get m k ≡ Some v → insert m k v ≡ m
+insert_same m k v there = same_map id_order_total id_order_once _ _ (λ q. get-insert id_order_total m k v q ∙ at q (eq_by_cmp id_order q k) refl) where
+  at : (q : Id) (b : Bool) → eq_by_cmp id_order q k ≡ b → cond b (Some v) (get m q) ≡ get m q
+  at q true e = sym (ap (get m) (same_id q k e) ∙ there)
+  at q false e = refl
+
+-- to take out what isn't there changes nothing
+remove_same : (m : Objects) (k : Id) → get m k ≡ None → remove m k ≡ m
+remove_same m k none = same_map id_order_total id_order_once _ _ (λ q. get-remove id_order_total m k q ∙ at q (eq_by_cmp id_order q k) refl) where
+  at : (q : Id) (b : Bool) → eq_by_cmp id_order q k ≡ b → cond b None (get m q) ≡ get m q
+  at q true e = sym (ap (get m) (same_id q k e) ∙ none)
+  at q false e = refl
+
+pub own_set : (m : Objects) (id : Id) (o : Option Object) → get m id ≡ o → set_at m id o ≡ m
+own_set m id None e = remove_same m id e
+own_set m id (Some x) e = insert_same m id x e
+
+-- ---- as requests see them
+
+pub shown-there : (m : Objects) (id : Id) (x : Object) → get m id ≡ Some x → get (shown m) id ≡ Some (unmarked x)
+shown-there m id x e = get-shown m id ∙ ap (option_map unmarked) e
+
+pub shown-none : (m : Objects) (id : Id) → get m id ≡ None → get (shown m) id ≡ None
+shown-none m id e = get-shown m id ∙ ap (option_map unmarked) e
+
+pub shown-insert : (m n : Objects) (id : Id) (x : Object) → n ≡ insert m id x → shown n ≡ insert (shown m) id (unmarked x)
+shown-insert m n id x e = ap shown e ∙ insert-values id_order_total id_order_once unmarked m id x
+
+pub shown-remove : (m n : Objects) (id : Id) → n ≡ remove m id → shown n ≡ remove (shown m) id
+shown-remove m n id e = ap shown e ∙ remove-values id_order_total id_order_once unmarked m id
+
+-- ---- a definition at an id, where this stands there
+
+at_here : {A : Type 0} (id : Id) (f : Option Object → A × Option Object) (m : Objects) (o : Option Object) → get m id ≡ o
+    → ((f o).0 ≡ (at_id id f m).0) × (set_at m id (f o).1 ≡ (at_id id f m).1)
+at_here id f m o is = (ap (λ x. (f x).0) (sym is), ap (λ x. set_at m id (f x).1) (sym is))
+
+pub follows_here : {E : Type 0} (id : Id) (f : Option Object → Reply × Option Object) (m n : Objects) (o w : Option Object) (r : Result Reply E)
+    → get m id ≡ o → n ≡ set_at m id w → Follows (f o) o r w → Follows (at_id id f m) m r n
+follows_here id f m n o w (Ok reply) is put h =
+    let here = at_here id f m o is in (h.0 ∙ here.0, put ∙ ap (set_at m id) h.1 ∙ here.1)
+follows_here id f m n o w (Err e) is put h = put ∙ ap (set_at m id) h ∙ own_set m id o is
+
+-- the same where nothing is left otherwise
+pub answers_here : (id : Id) (f : Option Object → Reply × Option Object) (m : Objects) (o : Option Object) (r : Reply)
+    → get m id ≡ o → f o ≡ (r, o) → (r ≡ (at_id id f m).0) × (m ≡ (at_id id f m).1)
+answers_here id f m o r is e =
+    let here = at_here id f m o is in
+    (sym (ap (λ p. p.0) e) ∙ here.0, sym (own_set m id o is) ∙ sym (ap (λ p. set_at m id p.1) e) ∙ here.1)
+
+-- ---- whose domain the object is of
+
+seen_own : (g : Grant) (id : Id) (o : Option Object) → (id.domain == g.number) ≡ true → seen g id o ≡ held g id o
+seen_own g id o e = ap (λ b. cond b (held g id o) None) e
+
+pub seen_foreign : (g : Grant) (id : Id) (o : Option Object) → (id.domain == g.number) ≡ false → seen g id o ≡ None
+seen_foreign g id o e = ap (λ b. cond b (held g id o) None) e
+
+pub held_root : (g : Grant) (id : Id) → id_eq id g.root ≡ true → held g id None ≡ Some empty_group
+held_root g id e = ap (λ b. cond b (Some empty_group) None) e
+
+pub held_none : (g : Grant) (id : Id) → id_eq id g.root ≡ false → held g id None ≡ None
+held_none g id e = ap (λ b. cond b (Some empty_group) None) e
+
+-- ---- an object is read
+
+pub reads_own : {E : Type 0} (g : Grant) (id : Id) (f : Object → Reply) (m : Objects) (o : Option Object) (r : Result Reply E)
+    → (id.domain == g.number) ≡ true → get m id ≡ o → IfOk r (λ y. y ≡ read_by f (missing g id) (held g id o)) → Follows (at_id id (reading g id f) m) m r m
+reads_own g id f m o (Ok y) own is said =
+    answers_here id (reading g id f) m o y is (λ i. ((ap (read_by f (missing g id)) (seen_own g id o own) ∙ sym said) i, o))
+reads_own g id f m o (Err e) own is said = refl
+
+pub reads_foreign : (g : Grant) (id : Id) (f : Object → Reply) (m : Objects) (r : Refusal)
+    → (id.domain == g.number) ≡ false → r ≡ missing g id → (Refused r ≡ (at_id id (reading g id f) m).0) × (m ≡ (at_id id (reading g id f) m).1)
+reads_foreign g id f m r foreign said =
+    answers_here id (reading g id f) m (get m id) (Refused r) refl (λ i. ((ap (read_by f (missing g id)) (seen_foreign g id (get m id) foreign) ∙ ap Refused (sym said)) i, get m id))
+
+-- ---- an object is changed
+
+changed_held : {E : Type 0} (p : Reply × Object) (x y : Object) (r : Result Reply E) → Follows p x r y → Follows (left (Some x) p) (Some x) r (Some y)
+changed_held p x y (Ok reply) h = (h.0, ap (λ o. Some o) h.1)
+changed_held p x y (Err e) h = ap (λ o. Some o) h
+
+changing_as : (g : Grant) (id : Id) (f : Object → Reply × Object) (o s : Option Object) → seen g id o ≡ s → changed_by f (missing g id) o s ≡ changing g id f o
+changing_as g id f o s e = ap (changed_by f (missing g id) o) (sym e)
+
+pub changed_there : {E : Type 0} (g : Grant) (id : Id) (f : Object → Reply × Object) (m n : Objects) (x y : Object) (r : Result Reply E)
+    → (id.domain == g.number) ≡ true → get m id ≡ Some x → n ≡ insert m id y → Follows (f (unmarked x)) (unmarked x) r (unmarked y)
+    → Follows (at_id id (changing g id f) (shown m)) (shown m) r (shown n)
+changed_there g id f m n x y r own there put h =
+    follows_here id (changing g id f) (shown m) (shown n) (Some (unmarked x)) (Some (unmarked y)) r (shown-there m id x there) (shown-insert m n id y put)
+    (subst (λ p. Follows p (Some (unmarked x)) r (Some (unmarked y))) (changing_as g id f (Some (unmarked x)) (Some (unmarked x)) (seen_own g id (Some (unmarked x)) own))
+    (changed_held (f (unmarked x)) (unmarked x) (unmarked y) r h))
+
+pub changes_foreign : (g : Grant) (id : Id) (f : Object → Reply × Object) (m : Objects) (r : Refusal)
+    → (id.domain == g.number) ≡ false → r ≡ missing g id → (Refused r ≡ (at_id id (changing g id f) m).0) × (m ≡ (at_id id (changing g id f) m).1)
+changes_foreign g id f m r foreign said =
+    answers_here id (changing g id f) m (get m id) (Refused r) refl
+    (sym (changing_as g id f (get m id) None (seen_foreign g id (get m id) foreign)) ∙ (λ i. (Refused (sym said i), get m id)))
+
+pub changes_absent : (g : Grant) (id : Id) (f : Object → Reply × Object) (m : Objects) (r : Refusal)
+    → (id.domain == g.number) ≡ true → id_eq id g.root ≡ false → get m id ≡ None → r ≡ missing g id
+    → (Refused r ≡ (at_id id (changing g id f) (shown m)).0) × (shown m ≡ (at_id id (changing g id f) (shown m)).1)
+changes_absent g id f m r own other none said =
+    answers_here id (changing g id f) (shown m) None (Refused r) (shown-none m id none)
+    (sym (changing_as g id f None None (seen_own g id None own ∙ held_none g id other)) ∙ (λ i. (Refused (sym said i), None)))
+
+left-reply : (reply : Reply) (o : Object) → (left None (reply, o)).0 ≡ reply
+left-reply (Done status body) o = refl
+left-reply (Refused r) o = refl
+
+-- a root that wasn't held
+pub changes_root : {E : Type 0} (g : Grant) (id : Id) (f : Object → Reply × Object) (m n : Objects) (y : Object) (reply : Reply) (r : Result Reply E)
+    → (id.domain == g.number) ≡ true → id_eq id g.root ≡ true → get m id ≡ None → reply ≡ (f empty_group).0 → unmarked y ≡ (f empty_group).1
+    → Follows (reply, set_at (shown m) id (left None (reply, unmarked y)).1) (shown m) r (shown n)
+    → Follows (at_id id (changing g id f) (shown m)) (shown m) r (shown n)
+changes_root g id f m n y reply (Ok said) own root none done left_there h =
+    let e : left None (reply, unmarked y) ≡ changing g id f None =
+    (λ i. left None (done i, left_there i)) ∙ changing_as g id f None (Some empty_group) (seen_own g id None own ∙ held_root g id root) in
+    let here = at_here id (changing g id f) (shown m) None (shown-none m id none) in
+    (h.0 ∙ sym (left-reply reply (unmarked y)) ∙ ap (λ p. p.0) e ∙ here.0, h.1 ∙ ap (λ p. set_at (shown m) id p.1) e ∙ here.1)
+changes_root g id f m n y reply (Err e) own root none done left_there h = h
+
+-- ---- an object is put where none was
+
+pub puts_refused : (m : Objects) (id : Id) (o : Object) (reply : Reply) → get m id ≡ None → is_done reply ≡ false → shown m ≡ set_at (shown m) id (left None (reply, o)).1
+puts_refused m id o (Done status body) none e = absurd (cc)
+puts_refused m id o (Refused r) none e = sym (own_set (shown m) id None (shown-none m id none))
+
+pub puts_done : (m n : Objects) (id : Id) (o : Object) (reply : Reply) → n ≡ insert m id o → is_done reply ≡ true → shown n ≡ set_at (shown m) id (left None (reply, unmarked o)).1
+puts_done m n id o (Done status body) put e = shown-insert m n id o put
+puts_done m n id o (Refused r) put e = absurd (cc)
+
+-- an object is written as requests see it
+tree-unmarked : (id root : Id) (n : ℕ) (b : Body) → body_tree id root n (unmarked_body b) ≡ body_tree id root n b
+tree-unmarked id root n (Group links) = refl
+tree-unmarked id root n (Dataset array) = refl
+tree-unmarked id root n (Datatype type) = refl
+
+pub object_tree-unmarked : (id root : Id) (o new : Object) → unmarked o ≡ new → object_tree id root o ≡ object_tree id root new
+object_tree-unmarked id root o new e = sym (tree-unmarked id root (len o.attributes) o.body) ∙ ap (object_tree id root) e
+
+group_rank : (k : Kind) → kind_rank k ≡ 0 → k ≡ kind.Group
+group_rank kind.Group e = refl
+group_rank kind.Dataset e = absurd (omega arith)
+group_rank kind.Datatype e = absurd (omega arith)
+
+-- a root is a group
+pub root_kind : (id root : Id) → id_eq id root ≡ true → root.kind ≡ kind.Group → id.kind ≡ kind.Group
+root_kind id root e group = group_rank id.kind (eqb-true (kind_rank id.kind) (kind_rank root.kind) (both_true _ _ e).0 ∙ ap kind_rank group)
+
+-- ---- an object is removed
+
+pub removing-other : (g : Grant) (id : Id) (o s : Option Object) → id_eq id g.root ≡ false → seen g id o ≡ s → removing g id o ≡ removed (missing g id) o s
+removing-other g id o s other e =
+    ap (λ b. cond b (Refused Root, o) (removed (missing g id) o (seen g id o))) other ∙ ap (removed (missing g id) o) e
+
+pub drops_root : (g : Grant) (id : Id) (m : Objects) → id_eq id g.root ≡ true
+    → (Refused Root ≡ (at_id id (removing g id) m).0) × (m ≡ (at_id id (removing g id) m).1)
+drops_root g id m root =
+    let o = get m id in
+    answers_here id (removing g id) m o (Refused Root) refl (ap (λ b. cond b (Refused Root, o) (removed (missing g id) o (seen g id o))) root)
+
+pub drops_foreign : (g : Grant) (id : Id) (m : Objects) (r : Refusal) → (id.domain == g.number) ≡ false → id_eq id g.root ≡ false → r ≡ missing g id
+    → (Refused r ≡ (at_id id (removing g id) m).0) × (m ≡ (at_id id (removing g id) m).1)
+drops_foreign g id m r foreign other said =
+    answers_here id (removing g id) m (get m id) (Refused r) refl
+    (removing-other g id (get m id) None other (seen_foreign g id (get m id) foreign) ∙ (λ i. (Refused (sym said i), get m id)))
+
+pub drops_there : (g : Grant) (id : Id) (m n : Objects) (x : Object) (r : Reply) → (id.domain == g.number) ≡ true → id_eq id g.root ≡ false
+    → get m id ≡ Some x → n ≡ remove m id → r ≡ Done 200 nothing
+    → (r ≡ (at_id id (removing g id) (shown m)).0) × (shown n ≡ (at_id id (removing g id) (shown m)).1)
+drops_there g id m n x r own other there gone said =
+    let here = at_here id (removing g id) (shown m) (Some (unmarked x)) (shown-there m id x there) in
+    let e = removing-other g id (Some (unmarked x)) (Some (unmarked x)) other (seen_own g id (Some (unmarked x)) own) in
+    (said ∙ sym (ap (λ p. p.0) e) ∙ here.0, shown-remove m n id gone ∙ sym (ap (λ p. set_at (shown m) id p.1) e) ∙ here.1)
+
+pub drops_absent : (g : Grant) (id : Id) (m n : Objects) (r : Refusal) → (id.domain == g.number) ≡ true → id_eq id g.root ≡ false
+    → get m id ≡ None → n ≡ remove m id → r ≡ missing g id
+    → (Refused r ≡ (at_id id (removing g id) (shown m)).0) × (shown n ≡ (at_id id (removing g id) (shown m)).1)
+drops_absent g id m n r own other none gone said =
+    let here = at_here id (removing g id) (shown m) None (shown-none m id none) in
+    let e = removing-other g id None None other (seen_own g id None own ∙ held_none g id other) in
+    (ap (λ x. Refused x) said ∙ sym (ap (λ p. p.0) e) ∙ here.0, shown-remove m n id gone ∙ sym (ap (λ p. set_at (shown m) id p.1) e) ∙ here.1)

@@ -1,0 +1,89 @@
+-- The laws of all steps.
+use Rattle.std.proofs.Common.{◌≡◌, ◌<◌, ◌⊎◌, inl, inr, ⊎_elim, Bool, true, false, ◌&&◌, ◌||◌, ◌==◌, nat_lt, cond, Option, Some, None, sym, ap, refl, ◌∙◌, eq-eqb, ne_eqb, eqb-true, lt-ltb, ltb-true}
+use Rattle.std.specs.Ordering.{eq_by_cmp}
+use Rattle.std.specs.FinMap.{get, get-insert, get-remove}
+use Rattle.json_trees.proofs.TreeLemmas.{both_true}
+use Rattle.object_ids.specs.IdOrder.{id_order}
+use Rattle.object_ids.specs.IdValues.{Id}
+use Rattle.object_ids.proofs.IdOrders.{id_order_total}
+use Rattle.object_ops.specs.declared.grants.Grant.{Grant}
+use Rattle.object_ops.specs.declared.refusals.Refusal.TheVariants.{NoObject, Gone}
+use Rattle.object_ops.specs.declared.replies.Reply.{Reply}
+use Rattle.object_ops.specs.declared.replies.Reply.TheVariants.{Refused}
+use Rattle.object_acts.specs.declared.objects.Object.{Object}
+use Rattle.chunk_owner.specs.Lanes.{Objects, set_at}
+use Rattle.chunk_owner.specs.Acts.{is_used, missing, act, on_touched, read_by, changed_by, touched}
+use Rattle.chunk_owner.specs.Laws.{GoneWhereGiven, NoObjectElsewhere, OthersAreHidden, OthersStay, WasGiven}
+use Rattle.chunk_owner.proofs.AtIds.{seen_foreign}
+use Rattle.chunk_owner.proofs.Eaches.{same_id}
+
+either_true : (a b : Bool) → (a || b) ≡ true → (a ≡ true) ⊎ (b ≡ true)
+either_true true b e = inl refl
+either_true false b e = inr e
+
+left_true : (a b : Bool) → a ≡ true → (a || b) ≡ true
+left_true true b e = refl
+left_true false b e = absurd (cc)
+
+right_true : (a b : Bool) → b ≡ true → (a || b) ≡ true
+right_true true b e = refl
+right_true false b e = e
+
+and_true : (a b : Bool) → a ≡ true → b ≡ true → (a && b) ≡ true
+and_true true b e f = f
+and_true false b e f = absurd (cc)
+
+is_gone : (b : Bool) (id : Id) → cond b (Gone id) (NoObject id) ≡ Gone id → b ≡ true
+is_gone true id e = refl
+is_gone false id e = let both : NoObject id ≡ Gone id = e in absurd (cc)
+
+used_given : (g : Grant) (id : Id) → is_used g id ≡ true → (id.run < g.run) ⊎ ((id.run ≡ g.run) × (id.serial < g.serial))
+used_given g id e = ⊎_elim
+    (λ (r : nat_lt id.run g.run ≡ true). inl (ltb-true id.run g.run r))
+    (λ (s : (id.run == g.run && nat_lt id.serial g.serial) ≡ true). let p = both_true (id.run == g.run) (nat_lt id.serial g.serial) s in inr (eqb-true id.run g.run p.0, ltb-true id.serial g.serial p.1))
+    (either_true (nat_lt id.run g.run) (id.run == g.run && nat_lt id.serial g.serial) e)
+
+given_used : (g : Grant) (id : Id) → ((id.run < g.run) ⊎ ((id.run ≡ g.run) × (id.serial < g.serial))) → is_used g id ≡ true
+given_used g id h = ⊎_elim
+    (λ (r : id.run < g.run). left_true (nat_lt id.run g.run) (id.run == g.run && nat_lt id.serial g.serial) (lt-ltb id.run g.run r))
+    (λ (s : (id.run ≡ g.run) × (id.serial < g.serial)). right_true (nat_lt id.run g.run) (id.run == g.run && nat_lt id.serial g.serial)
+    (and_true (id.run == g.run) (nat_lt id.serial g.serial) (eq-eqb id.run g.run s.0) (lt-ltb id.serial g.serial s.1)))
+    h
+
+test_given : (g : Grant) (id : Id) → (id.domain == g.number && is_used g id) ≡ true → WasGiven g id
+test_given g id e = let p = both_true (id.domain == g.number) (is_used g id) e in (eqb-true id.domain g.number p.0, used_given g id p.1)
+
+pub gone_where_given : GoneWhereGiven
+gone_where_given g id = (
+  λ e. test_given g id (is_gone (id.domain == g.number && is_used g id) id e),
+  λ h. ap (λ b. cond b (Gone id) (NoObject id)) (and_true (id.domain == g.number) (is_used g id) (eq-eqb id.domain g.number h.0) (given_used g id h.1)),
+)
+
+pub refuted : (b : Bool) (P : Type 0) → (b ≡ true → P) → (P → ⊥) → b ≡ false
+refuted true P f none = absurd (none (f refl))
+refuted false P f none = refl
+
+pub no_object_elsewhere : NoObjectElsewhere
+no_object_elsewhere g id never =
+    ap (λ b. cond b (Gone id) (NoObject id)) (refuted (id.domain == g.number && is_used g id) (WasGiven g id) (test_given g id) never)
+
+pub others_are_hidden : OthersAreHidden
+others_are_hidden g id o f h other =
+    let none = seen_foreign g id o (ne_eqb id.domain g.number other) in
+    let said = no_object_elsewhere g id (λ w. other w.0) in
+    (λ i. ((ap (read_by f (missing g id)) none ∙ ap Refused said) i, o), ap (changed_by h (missing g id) o) none ∙ (λ i. (Refused (said i), o)))
+
+passed_over : (b : Bool) (v w : Option Object) → (b ≡ true → ⊥) → cond b v w ≡ w
+passed_over true v w never = absurd (never refl)
+passed_over false v w never = refl
+
+set_other : (m : Objects) (at : Id) (o : Option Object) (id : Id) → (at ≡ id → ⊥) → get (set_at m at o) id ≡ get m id
+set_other m at None id other = get-remove id_order_total m at id ∙ passed_over (eq_by_cmp id_order id at) None (get m id) (λ e. other (sym (same_id id at e)))
+set_other m at (Some o) id other = get-insert id_order_total m at o id ∙ passed_over (eq_by_cmp id_order id at) (Some o) (get m id) (λ e. other (sym (same_id id at e)))
+
+others_at : (t : Option Id) (f : Id → Option Object → Reply × Option Object) (m : Objects) (id : Id) → (t ≡ Some id → ⊥) → get (on_touched t f m).1 id ≡ get m id
+others_at None f m id other = refl
+others_at (Some at) f m id other = set_other m at (f at (get m at)).1 id (λ e. other (ap (λ x. Some x) e))
+
+pub others_stay : OthersStay
+others_stay g op s objects id other = others_at (touched g op s) (act g op s) objects id other

@@ -1,0 +1,61 @@
+-- What an owner is: its lane, how many lanes there are, and its objects by their ids.
+use Rattle.std.specs.Prelude.{◌≡◌, ℕ, ◌<◌, ◌==◌, Option, Some, None, if◌then◌else◌}
+use Rattle.std.specs.FinMap.{FinMap, get, insert, remove}
+use Rattle.text_maps.specs.Keyed.{with_values}
+use Rattle.object_ids.specs.IdOrder.{id_order}
+use Rattle.object_ids.specs.IdValues.{Id}
+use Rattle.object_ids.specs.Ids.{lane_of}
+use Rattle.object_acts.specs.declared.objects.Object.{Object}
+use Rattle.object_acts.specs.Objects.{unmarked, IsOfKind}
+
+abbrev pub Objects : Type 0
+Objects = FinMap id_order Object
+
+-- the objects as requests see them
+abbrev pub shown : Objects → Objects
+shown = with_values unmarked
+
+pub record Lane : Type 0 where
+  pub lane : ℕ
+  pub lanes : ℕ
+  pub objects : Objects
+
+-- each object stands so at its id
+abbrev pub Each : (Id → Object → Type 0) → Objects → Type 0
+Each P objects = (id : Id) (o : Object) → get objects id ≡ Some o → P id o
+
+-- each object is of its id's kind
+abbrev pub AreOfKind : Objects → Type 0
+AreOfKind = Each (λ id o. IsOfKind id.kind o)
+
+-- an id of the lane, with an object of the id's kind
+pub record StandsIn (lane lanes : ℕ) (id : Id) (o : Object) : Type 0 where
+  pub own : lane_of lanes id ≡ lane
+  pub kind : IsOfKind id.kind o
+
+-- the lane is one of the lanes, and each object stands in it
+pub record IsWhole (l : Lane) : Type 0 where
+  pub lane : l.lane < l.lanes
+  pub own : Each (StandsIn l.lane l.lanes) l.objects
+
+-- it is the same lane of as many
+pub record IsSameLane (old new : Lane) : Type 0 where
+  pub lane : new.lane ≡ old.lane
+  pub lanes : new.lanes ≡ old.lanes
+
+-- ---- one of the objects
+
+-- the objects with this at an id, or with none there
+abbrev pub set_at : Objects → Id → Option Object → Objects
+set_at m id None = remove m id
+set_at m id (Some o) = insert m id o
+
+-- what `f` answers and leaves at one id; all others stay
+abbrev pub at_id : {A : Type 0} → Id → (Option Object → A × Option Object) → Objects → A × Objects
+at_id id f m = ((f (get m id)).0, set_at m id (f (get m id)).1)
+
+-- ---- the objects of one domain
+
+-- the objects of a domain's number are gone, and all others stay
+abbrev pub Forgets : ℕ → Objects → Objects → Type 0
+Forgets number old new = (id : Id) → get new id ≡ (if id.domain == number then None else get old id)

@@ -1,0 +1,147 @@
+//! What is answered to operations that change one object, and what they leave.
+
+ghost use Rattle.std.specs.Prelude.{◌≡◌};
+ghost use Rattle.hdf_values.specs.Attributes.{content, IsSoundAttribute};
+ghost use Rattle.groups_links.specs.Titles.{IsGoodTitle};
+ghost use Rattle.groups_links.specs.Targets.{IsSoundLink};
+ghost use Rattle.groups_links.specs.declared.target.LinkTo.TheVariants.{Hard};
+ghost use Rattle.object_ids.specs.declared.ids.Kind.{Kind};
+ghost use Rattle.object_ops.specs.Answers.{Follows};
+ghost use Rattle.object_ops.specs.Conditions.{IsSoundOp, AreDims};
+ghost use Rattle.array_acts.specs.Arrays.{shape_changed, value_written};
+ghost use Rattle.object_acts.specs.Objects.{unmarked, IsOfKind, KeepsTrack};
+ghost use Rattle.object_acts.specs.Acts.{change_of, drop_from, link_put, on_array, on_links};
+
+use crate::attribute_acts::{drop_attribute, put_attribute};
+use crate::link_acts::{drop_link, put_link};
+use crate::objects::{Body, Object};
+use array_acts::{change_shape, write_value};
+use groups_links::LinkTo;
+use json_trees::Tree;
+use object_ids::{Name, ObjectId};
+use object_ops::{Op, Part, Refusal, Reply};
+use shapes::Dims;
+use std::alloc::{AllocError, Global};
+
+/// The answer to an operation that changes an object, and the object that follows. An error leaves the object as it was,
+/// but for what is known of the chunks of an array.
+///
+/// # Errors
+///
+/// Only where memory runs out.
+pub fn change(alloc: Global, object: &mut Object, op: &Op) -> Result<Reply, AllocError>
+    requires { IsSoundOp op.now }
+    ensures acts { Follows (change_of op.now (unmarked object.old)) (unmarked object.old)
+        result (unmarked object.new) }
+    ensures kind { (k : Kind) → IsOfKind k object.old → IsOfKind k object.new }
+    ensures tracked { KeepsTrack object.old.body object.new.body }
+{
+    match op {
+        Op::PutLink { id, title, link } => link_put(alloc, object, id, title, link),
+        Op::DropLink { id, title } => link_dropped(alloc, object, id, title),
+        Op::PutAttribute {
+            name,
+            attribute,
+            ..
+        } => put_attribute(alloc, &mut object.attributes, name, attribute),
+        Op::DropAttribute { name, .. } => drop_attribute(alloc, &mut object.attributes, name),
+        Op::PutShape { id, dims } => Ok(shape_put(alloc, object, id, dims)),
+        Op::PutValue { id, part, value } => value_put(alloc, object, id, part, value),
+        _ => Ok(Reply::done(alloc, 200)),
+    }
+}
+
+/// The link of a group to an object that is to be made.
+///
+/// # Errors
+///
+/// Only where memory runs out.
+pub fn link_made(
+    alloc: Global,
+    object: &mut Object,
+    id: &ObjectId,
+    title: &Name,
+    fresh: ObjectId,
+) -> Result<Reply, AllocError>
+    requires { IsGoodTitle title.now }
+    ensures acts { Follows (on_links id.now (link_put title.now (Hard fresh))
+        (unmarked object.old).attributes (unmarked object.old).body) (unmarked object.old)
+        result (unmarked object.new) }
+    ensures kind { (k : Kind) → IsOfKind k object.old → IsOfKind k object.new }
+    ensures tracked { KeepsTrack object.old.body object.new.body }
+{
+    link_put(alloc, object, id, title, &LinkTo::Hard(fresh))
+}
+
+fn link_put(
+    alloc: Global,
+    object: &mut Object,
+    id: &ObjectId,
+    title: &Name,
+    link: &LinkTo,
+) -> Result<Reply, AllocError>
+    requires title { IsGoodTitle title.now }
+    requires link { IsSoundLink link.now }
+    ensures acts { Follows (on_links id.now (link_put title.now link.now)
+        (unmarked object.old).attributes (unmarked object.old).body) (unmarked object.old)
+        result (unmarked object.new) }
+    ensures kind { (k : Kind) → IsOfKind k object.old → IsOfKind k object.new }
+    ensures tracked { KeepsTrack object.old.body object.new.body }
+{
+    match &mut object.body {
+        Body::Group(links) => put_link(alloc, links, title, link),
+        _ => Ok(Reply::Refused(Refusal::NoObject { id: *id })),
+    }
+}
+
+fn link_dropped(
+    alloc: Global,
+    object: &mut Object,
+    id: &ObjectId,
+    title: &Name,
+) -> Result<Reply, AllocError>
+    ensures acts { Follows (on_links id.now (drop_from title.now)
+        (unmarked object.old).attributes (unmarked object.old).body) (unmarked object.old)
+        result (unmarked object.new) }
+    ensures kind { (k : Kind) → IsOfKind k object.old → IsOfKind k object.new }
+    ensures tracked { KeepsTrack object.old.body object.new.body }
+{
+    match &mut object.body {
+        Body::Group(links) => drop_link(alloc, links, title),
+        _ => Ok(Reply::Refused(Refusal::NoObject { id: *id })),
+    }
+}
+
+fn shape_put(alloc: Global, object: &mut Object, id: &ObjectId, dims: &Dims) -> Reply
+    requires { AreDims dims.now }
+    ensures reply { result ≡ (on_array id.now (shape_changed dims.now)
+        (unmarked object.old).attributes (unmarked object.old).body).0 }
+    ensures rest { unmarked object.new ≡ (on_array id.now (shape_changed dims.now)
+        (unmarked object.old).attributes (unmarked object.old).body).1 }
+    ensures kind { (k : Kind) → IsOfKind k object.old → IsOfKind k object.new }
+    ensures tracked { KeepsTrack object.old.body object.new.body }
+{
+    match &mut object.body {
+        Body::Dataset(array) => change_shape(array, alloc, dims),
+        _ => Reply::Refused(Refusal::NoObject { id: *id }),
+    }
+}
+
+fn value_put(
+    alloc: Global,
+    object: &mut Object,
+    id: &ObjectId,
+    part: &Part,
+    value: &Tree,
+) -> Result<Reply, AllocError>
+    ensures acts { Follows (on_array id.now (value_written part.now value.now)
+        (unmarked object.old).attributes (unmarked object.old).body) (unmarked object.old)
+        result (unmarked object.new) }
+    ensures kind { (k : Kind) → IsOfKind k object.old → IsOfKind k object.new }
+    ensures tracked { KeepsTrack object.old.body object.new.body }
+{
+    match &mut object.body {
+        Body::Dataset(array) => write_value(alloc, array, part, value),
+        _ => Ok(Reply::Refused(Refusal::NoObject { id: *id })),
+    }
+}

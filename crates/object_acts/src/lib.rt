@@ -1,0 +1,18 @@
+//! Objects, which are groups, datasets and committed datatypes with their attributes, and what each operation answers
+//! and changes of one of them (HDF REST API, "Group", "Dataset", "Datatype", "Link", "Attribute").
+#![tactic(auto)]
+
+mod attribute_acts;
+mod changing;
+mod laws;
+mod link_acts;
+mod names;
+mod objects;
+mod reading;
+mod trees;
+
+pub use changing::{change, link_made};
+pub use laws::refusals_leave_the_object;
+pub use objects::{Body, Object};
+pub use reading::reply;
+pub use trees::object_json;

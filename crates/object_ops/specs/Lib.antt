@@ -1,0 +1,13 @@
+pub mod Answers
+pub mod Conditions
+pub mod Parts
+pub mod Words
+pub mod Refusals
+pub mod Needs
+pub use Rattle.json_trees.specs.CodedData
+pub use Rattle.object_ids.specs.Ids
+pub use Rattle.object_ids.specs.IdValues
+pub use Rattle.access_lists.specs.RightWords
+pub use Rattle.hdf_types.specs.Elems
+pub use Rattle.serde_json.specs.View
+pub use Rattle.serde_json.specs.Data

@@ -1,0 +1,23 @@
+//! The words of requests and replies (HDF REST API): what can be asked of a folder, a domain or an object, what is
+//! answered, why a request is refused, and which right each request needs.
+#![tactic(auto)]
+
+mod grants;
+mod ops;
+mod refusal_trees;
+mod refusals;
+mod replies;
+mod rights;
+mod select_trees;
+#[cfg(test)]
+mod tests;
+mod value_trees;
+mod words;
+
+pub use grants::{Grant, Step};
+pub use ops::{LinkPlace, Make, Op, Part, Request, SelectText};
+pub use refusal_trees::refusal_json;
+pub use refusals::Refusal;
+pub use replies::Reply;
+pub use rights::{On, needs, on_text};
+pub use words::{FieldWord, SelectWord, ShapeWord, ValueWord};
