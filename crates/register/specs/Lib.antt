@@ -1,0 +1,4 @@
+pub mod Tickets
+pub mod Decided
+pub mod Grants
+pub mod Looks

@@ -1,0 +1,72 @@
+-- What a request meets at the node that decides over it, and what its parts then leave before the place is counted.
+use Rattle.std.specs.Prelude.{◌≡◌, ℕ, List, Option, Some, None, true, if◌then◌else◌}
+use Rattle.access_lists.specs.declared.people.Caller.{Caller}
+use Rattle.access_lists.specs.InForce.{has}
+use Rattle.access_lists.specs.declared.rights.Rights.{Rights}
+use Rattle.domains.specs.Contents.{NumberFits}
+use Rattle.domains.specs.declared.classes.Node.{Node}
+use Rattle.domains.specs.declared.faults.CatFault.{CatFault}
+use Rattle.domains.specs.declared.faults.CatFault.TheVariants as cat
+use Rattle.object_ops.specs.Needs.{right_for}
+use Rattle.object_ops.specs.declared.ops.Op.{Op}
+use Rattle.object_ops.specs.declared.ops.Request.{Request}
+use Rattle.object_ops.specs.declared.replies.Reply.{Reply}
+use Rattle.object_ops.specs.declared.replies.Reply.TheVariants.{Done}
+use Rattle.object_ops.specs.declared.refusals.Refusal.{Refusal}
+use Rattle.object_ops.specs.declared.refusals.Refusal.TheVariants.{NoName}
+use Rattle.register.specs.declared.verdicts.Verdict.{Verdict}
+use Rattle.register.specs.declared.verdicts.Verdict.TheVariants.{Answered, Refused, NoMemory}
+use Rattle.register.specs.declared.looking.Looked.{Looked}
+use Rattle.register.specs.declared.looking.Looked.TheVariants as seen
+use Rattle.register.specs.Decided.{Door, IsDenial, acl_body, cat_refusal, decided, fits, is_of_nodes, passed}
+
+abbrev pub looked : Caller → Op → Option Node → Looked
+looked caller op None = seen.Missing
+looked caller op (Some node) =
+    if fits op node.class then (if has node.list caller (right_for op) then seen.Allowed node.class else seen.Denied) else seen.Missing
+
+-- what is met fits what is asked
+abbrev pub IsFitting : Op → Looked → Type 0
+IsFitting op seen.Missing = Unit {0}
+IsFitting op seen.Denied = Unit {0}
+IsFitting op (seen.Allowed class) = (fits op class ≡ true) × NumberFits class
+
+-- answered so, or there was no memory
+abbrev pub Answers : Reply → Verdict → Type 0
+Answers reply NoMemory = Unit {0}
+Answers reply verdict = verdict ≡ Answered reply
+
+-- refused so, or there was no memory
+abbrev pub Refuses : Refusal → Verdict → Type 0
+Refuses refusal NoMemory = Unit {0}
+Refuses refusal verdict = verdict ≡ Refused refusal
+
+-- a fault of the catalogue is refused so; want of memory stays what it is
+abbrev pub RefusesFault : List ℕ → CatFault → Verdict → Type 0
+RefusesFault path cat.NoMemory verdict = verdict ≡ NoMemory
+RefusesFault path fault verdict = Refuses (cat_refusal path fault) verdict
+
+-- an entry is answered, or the name is refused
+abbrev pub Reads : List ℕ → Option Rights → Verdict → Type 0
+Reads name None = Refuses (NoName name)
+Reads name (Some rights) = Answers (Done 200 (acl_body name rights))
+
+-- a call that takes no memory settles as a definition says; the place is counted afterwards
+abbrev pub Settles : Verdict × Door → Verdict → Door → Type 0
+Settles p NoMemory new = ⊥
+Settles p verdict new = (verdict, passed new) ≡ p
+
+-- a call that takes memory settles so, or leaves all as it was
+abbrev pub MaySettle : Verdict × Door → Door → Verdict → Door → Type 0
+MaySettle p old NoMemory new = new ≡ old
+MaySettle p old verdict new = (verdict, passed new) ≡ p
+
+-- the same of any operation: memory is taken on those on folders, domains and access lists alone
+abbrev pub SettlesOp : Op → Verdict × Door → Door → Verdict → Door → Type 0
+SettlesOp op p old NoMemory new = (is_of_nodes op ≡ true) × (new ≡ old)
+SettlesOp op p old verdict new = (verdict, passed new) ≡ p
+
+-- a request is decided, but for the place
+abbrev pub Leaves : Door → Caller → Request → Verdict → Door → Type 0
+Leaves d caller request NoMemory new = (is_of_nodes request.op ≡ true) × (IsDenial (decided d caller request).0 → ⊥) × (new ≡ d)
+Leaves d caller request verdict new = (verdict, passed new) ≡ decided d caller request

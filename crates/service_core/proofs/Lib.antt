@@ -1,0 +1,9 @@
+pub mod WholeLemmas
+pub mod ForgetLemmas
+pub mod TurnLemmas
+pub mod GivenLemmas
+pub mod DecideLemmas
+pub mod WorldLemmas
+pub mod ReplayLemmas
+pub mod NextLemmas
+pub mod KeepLemmas

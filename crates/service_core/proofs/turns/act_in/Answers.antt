@@ -1,0 +1,30 @@
+use Rattle.std.proofs.Common.{get_or, sym, ap}
+use Rattle.chunk_owner.specs.Acts.{act, touched}
+use Rattle.service_core.proofs.WholeLemmas.{follows_whole, fresh_here, lane_after, touched_own}
+use Rattle.service_core.proofs.turns.act_in.Goals as goal
+
+pub act-requires-clause-touched : goal.act-requires-clause-touched
+act-requires-clause-touched c =
+    let ls = c.args.owners.now in
+    let l = get_or ls c.args.lane c.index-owners-lane.result in
+    touched_own _ c.args.lane ls l l c.requires.lanes c.requires.lane (sym (ap (get_or ls c.args.lane) c.index-owners-lane.is)) (touched c.args.grant.now c.args.op.now c.args.step) c.requires.ready.touches
+
+pub act-requires-clause-fresh : goal.act-requires-clause-fresh
+act-requires-clause-fresh c =
+    let ls = c.args.owners.now in
+    let l = get_or ls c.args.lane c.index-owners-lane.result in
+    fresh_here _ c.args.lane ls l l c.requires.lanes c.requires.lane (sym (ap (get_or ls c.args.lane) c.index-owners-lane.is)) c.args.grant.now c.args.op.now c.requires.ready.fresh
+
+pub returns-clause-acts : goal.returns-clause-acts
+returns-clause-acts c =
+    let ls = c.args.owners.now in
+    let l = get_or ls c.args.lane c.index-owners-lane.result in
+    follows_whole _ c.args.lane ls l c.act.new.self c.requires.lanes c.requires.lane (sym (ap (get_or ls c.args.lane) c.index-owners-lane.is))
+    (touched c.args.grant.now c.args.op.now c.args.step) (act c.args.grant.now c.args.op.now c.args.step) c.act.result c.requires.ready.touches c.act.ensures.acts
+
+pub returns-clause-lanes : goal.returns-clause-lanes
+returns-clause-lanes c =
+    let ls = c.args.owners.now in
+    let l = get_or ls c.args.lane c.index-owners-lane.result in
+    lane_after _ c.args.lane ls l c.act.new.self c.requires.lanes c.requires.lane (sym (ap (get_or ls c.args.lane) c.index-owners-lane.is))
+    (touched c.args.grant.now c.args.op.now c.args.step) (act c.args.grant.now c.args.op.now c.args.step) c.act.result c.requires.ready.touches c.act.ensures.same c.act.ensures.acts

@@ -1,0 +1,27 @@
+use Rattle.std.proofs.Common.{ℕ, Ok, sym, subst, ◌∙◌}
+use Rattle.std.specs.declared.alloc.AllocError.{AllocError}
+use Rattle.object_ops.specs.declared.grants.Grant.{Grant}
+use Rattle.service_core.specs.Joined.{AreLanes, whole}
+use Rattle.service_core.specs.Steps.{Takes}
+use Rattle.service_core.proofs.TurnLemmas.{ended, more, ready_next, stopped}
+use Rattle.service_core.proofs.turns.run_turns.Goals as goal
+
+pub turns-preserved : goal.turns-preserved
+turns-preserved c =
+    let i = c.turns.invariant in
+    let is_done = sym c.is_done.ensures ∙ c.turns-test.true in
+    let did = subst (λ (g : Grant). Takes {E = AllocError} g c.args.op.now c.in-Some.turn.step (whole c.turns.owners) (Ok c.in_ok-reply.reply) (whole c.take_turn.new.owners)) i.1 c.in_ok-reply.ensures.acts in (
+      c.next.ensures.grant ∙ i.0,
+      i.1,
+      c.take_turn.auto.owners ∙ i.2,
+      subst (λ (n : ℕ). AreLanes n 0 c.take_turn.new.owners) i.2 c.in_ok-reply.ensures.lanes,
+      ready_next c.args.tickets.now.grant c.args.op.now _ AllocError (whole c.turns.owners) (whole c.take_turn.new.owners) c.in_ok-reply.reply c.turns.tickets.left c.next.new.self.left c.in-Some.turn
+          c.in-Some.ensures.turn (i.4 is_done) did,
+      more c.args.tickets.now.grant c.args.op.now c.args.tickets.now.left (whole c.args.owners.now) AllocError c.turns.reply c.in_ok-reply.reply (whole c.turns.owners) (whole c.take_turn.new.owners)
+          c.turns.tickets.left c.next.new.self.left c.in-Some.turn c.in-Some.ensures.turn is_done did i.5,
+    )
+
+pub returns-clause-runs : goal.returns-clause-runs
+returns-clause-runs c =
+    ended c.args.tickets.now.grant c.args.op.now c.args.tickets.now.left (whole c.args.owners.now) c.turns.reply (whole c.turns.owners) c.turns.tickets.left
+    (stopped c.args.tickets.now.grant c.args.op.now (c.turns.reply, whole c.turns.owners) c.turns.tickets.left (sym c.is_done.ensures ∙ c.turns-test.false)) c.turns.invariant.5

@@ -1,0 +1,21 @@
+use Rattle.std.proofs.Common.{List, length, sym, subst, ap, ◌∙◌, OnOk, OnErr, ◌≡◌}
+use Rattle.std.specs.FinMap.{insert}
+use Rattle.object_acts.specs.Objects.{unmarked}
+use Rattle.chunk_owner.specs.Lanes.{Lane}
+use Rattle.service_core.specs.Joined.{AreLanes, whole}
+use Rattle.service_core.specs.Steps.{IsGiven, World}
+use Rattle.service_core.specs.Worlds.{IsBuilt}
+use Rattle.service_core.proofs.WorldLemmas.{built_put, written}
+use Rattle.service_core.proofs.world.World.put_object.Goals as goal
+
+pub invariant_of-self : goal.invariant_of-self
+invariant_of-self c =
+    let left = c.put_in.new.owners in
+    let items = c.self.inside.owners.items in
+    let value = c.as_mut_slice.ensures.value in
+    let lanes = subst (λ (ls : List Lane). AreLanes (length ls) 0 left) value c.put_in.ensures.lanes in
+    let ok = subst (λ (ls : List Lane). OnOk c.put_in.result (whole left ≡ insert (whole ls) c.args.id (unmarked c.args.object))) value c.put_in.ensures.ok in
+    let err = subst (λ (ls : List Lane). OnErr c.put_in.result (whole left ≡ whole ls)) value c.put_in.ensures.err in
+    let given = subst (λ (w : World). IsGiven w.door c.args.id) (sym c.self.view_is) c.requires.given in
+    subst (IsBuilt c.self.inside.register) (sym (written _ left _ (c.put_in.auto.owners ∙ c.as_mut_slice.ensures.len)))
+    (built_put c.self.inside.register items left c.args.id (unmarked c.args.object) c.put_in.result c.self.invariant given (c.put_in.auto.owners ∙ ap length value) lanes ok err)

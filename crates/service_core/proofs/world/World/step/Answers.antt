@@ -1,0 +1,34 @@
+use Rattle.std.proofs.Common.{List, length, sym, subst, ap, ◌∙◌}
+use Rattle.chunk_owner.specs.Lanes.{Lane}
+use Rattle.service_core.specs.Joined.{AreLanes, whole}
+use Rattle.service_core.specs.Steps.{Obeys}
+use Rattle.service_core.specs.Turns.{IsServable}
+use Rattle.service_core.specs.Worlds.{IsBuilt}
+use Rattle.service_core.proofs.WorldLemmas.{built_after, servable_now, steps_said, written}
+use Rattle.service_core.proofs.world.World.step.Goals as goal
+
+pub obey-what-requires-clause-ready : goal.obey-what-requires-clause-ready
+obey-what-requires-clause-ready c =
+    subst (λ (ls : List Lane). IsServable (length ls) c.args.request.now.op c.decide-verdict.result (whole ls)) (sym c.as_mut_slice.ensures.value)
+    (servable_now c.self.inside.register c.self.inside.owners.items c.args.caller.now c.args.request.now c.is_sound.ensures.door c.is_sound.ensures.catalogue c.self.invariant
+    c.decide-verdict.result c.decide-verdict.new.self c.decide-verdict.ensures.decides)
+
+pub invariant_of-self : goal.invariant_of-self
+invariant_of-self c =
+    let left = c.obey-what.new.owners in
+    let items = c.self.inside.owners.items in
+    let value = c.as_mut_slice.ensures.value in
+    let obeys = subst (λ (ls : List Lane). Obeys c.args.request.now.op c.decide-verdict.result (whole ls) c.obey-what.result (whole left)) value c.obey-what.ensures.obeys in
+    let lanes = subst (λ (ls : List Lane). AreLanes (length ls) 0 left) value c.obey-what.ensures.lanes in
+    subst (IsBuilt c.decide-verdict.new.self) (sym (written _ left _ (c.obey-what.auto.owners ∙ c.as_mut_slice.ensures.len)))
+    (built_after c.self.inside.register items c.args.caller.now c.args.request.now c.is_sound.ensures.door c.is_sound.ensures.catalogue c.self.invariant
+    c.decide-verdict.result c.obey-what.result c.decide-verdict.new.self left c.decide-verdict.ensures.decides obeys (c.obey-what.auto.owners ∙ ap length value) lanes)
+
+pub returns : goal.returns
+returns c =
+    let left = c.obey-what.new.owners in
+    let value = c.as_mut_slice.ensures.value in
+    let obeys = subst (λ (ls : List Lane). Obeys c.args.request.now.op c.decide-verdict.result (whole ls) c.obey-what.result (whole left)) value c.obey-what.ensures.obeys in
+    steps_said c.self.inside.register c.decide-verdict.new.self c.self.inside.owners.items left _ c.args.self.now c.args.caller.now c.args.request.now c.decide-verdict.result
+    (record { place = c.places-place.result; what = c.obey-what.result }) c.self.view_is (written _ left _ (c.obey-what.auto.owners ∙ c.as_mut_slice.ensures.len))
+    c.places-place.ensures c.decide-verdict.ensures.decides obeys

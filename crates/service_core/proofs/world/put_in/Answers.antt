@@ -1,0 +1,37 @@
+use Rattle.std.proofs.Common.{get_or, sym, ap}
+use Rattle.object_acts.specs.Objects.{unmarked}
+use Rattle.service_core.proofs.WholeLemmas.{home_by_lane, kept_whole, lane_put, none_here, put_whole}
+use Rattle.service_core.proofs.world.put_in.Goals as goal
+
+pub put_object-requires-clause-lane : goal.put_object-requires-clause-lane
+put_object-requires-clause-lane c =
+    let ls = c.args.owners.now in
+    let l = get_or ls c.args.lane c.index-owners-lane.result in
+    home_by_lane _ c.args.lane ls l l c.requires.lanes c.requires.lane (sym (ap (get_or ls c.args.lane) c.index-owners-lane.is)) c.args.id (unmarked c.args.object) c.requires.home
+
+pub put_object-requires-clause-new : goal.put_object-requires-clause-new
+put_object-requires-clause-new c =
+    let ls = c.args.owners.now in
+    let l = get_or ls c.args.lane c.index-owners-lane.result in
+    none_here _ c.args.lane ls l l c.requires.lanes c.requires.lane (sym (ap (get_or ls c.args.lane) c.index-owners-lane.is)) c.args.id c.requires.new
+
+pub returns-clause-ok : goal.returns-clause-ok
+returns-clause-ok c =
+    let ls = c.args.owners.now in
+    let l = get_or ls c.args.lane c.index-owners-lane.result in
+    put_whole _ c.args.lane ls l c.put_object.new.self c.requires.lanes c.requires.lane (sym (ap (get_or ls c.args.lane) c.index-owners-lane.is)) c.args.id (unmarked c.args.object) c.requires.home
+    c.put_object.result c.put_object.ensures.ok
+
+pub returns-clause-err : goal.returns-clause-err
+returns-clause-err c =
+    let ls = c.args.owners.now in
+    let l = get_or ls c.args.lane c.index-owners-lane.result in
+    kept_whole _ c.args.lane ls l c.put_object.new.self c.requires.lanes c.requires.lane (sym (ap (get_or ls c.args.lane) c.index-owners-lane.is)) c.args.id (unmarked c.args.object) c.requires.home
+    c.put_object.result c.put_object.ensures.err
+
+pub returns-clause-lanes : goal.returns-clause-lanes
+returns-clause-lanes c =
+    let ls = c.args.owners.now in
+    let l = get_or ls c.args.lane c.index-owners-lane.result in
+    lane_put _ c.args.lane ls l c.put_object.new.self c.requires.lanes c.requires.lane (sym (ap (get_or ls c.args.lane) c.index-owners-lane.is)) c.args.id (unmarked c.args.object) c.requires.home
+    c.put_object.result c.put_object.ensures.same c.put_object.ensures.ok c.put_object.ensures.err

@@ -1,0 +1,6 @@
+pub mod Joined
+pub mod Steps
+pub mod Turns
+pub mod Worlds
+pub mod Replays
+pub mod Keeps

@@ -1,0 +1,37 @@
+-- How a world is built from its parts.
+use Rattle.std.specs.Prelude.{◌≡◌, ℕ, List, length, Option, Some, None, if◌then◌else◌}
+use Rattle.std.specs.FinMap.{empty, insert}
+use Rattle.std.specs.Ordering.{is_lt}
+use Rattle.object_ids.specs.IdOrder.{id_order}
+use Rattle.object_ids.specs.IdValues.{Id}
+use Rattle.object_acts.specs.declared.objects.Object.{Object}
+use Rattle.chunk_owner.specs.Lanes.{Lane}
+use Rattle.register.specs.Decided.{Door}
+use Rattle.service_core.specs.Joined.{AreLanes, whole}
+use Rattle.service_core.specs.Steps.{IsWorld, World}
+
+-- one owner for each lane, in order, and all that they hold was given
+pub record IsBuilt (door : Door) (owners : List Lane) : Type 0 where
+  pub count : length owners ≡ length door.issued
+  pub lanes : AreLanes (length owners) 0 owners
+  pub world : IsWorld (record { door = door; objects = whole owners })
+
+-- an owner for each of so many lanes, without objects
+pub record IsNew (many : ℕ) (owners : List Lane) : Type 0 where
+  pub count : length owners ≡ many
+  pub lanes : AreLanes many 0 owners
+  pub empty : whole owners ≡ empty
+
+-- a world with another register
+abbrev pub with_door : World → Door → World
+with_door w door = record w { door = door }
+
+-- a world with an object at an id
+abbrev pub with_object : World → Id → Object → World
+with_object w id object = record w { objects = insert w.objects id object }
+
+-- the lesser of two ids, where there are two
+abbrev pub lesser : Option Id → Option Id → Option Id
+lesser None other = other
+lesser (Some first) None = Some first
+lesser (Some first) (Some second) = if is_lt (id_order second first) then Some second else Some first

@@ -1,0 +1,571 @@
+//! Tables of requests on a world, and the texts of their answers.
+
+ghost use Rattle.std.specs.Prelude.{◌≡◌, ◌≤◌, length};
+ghost use Rattle.groups_links.specs.Titles.{IsGoodTitle};
+ghost use Rattle.object_ids.specs.declared.ids.Kind.TheVariants.{Dataset};
+ghost use Rattle.object_ops.specs.Conditions.{IsSoundOp, IsSoundPlace};
+
+use crate::{What, World};
+use access_lists::{Caller, Names, Rights};
+use chunk_layout::default_layout;
+use domains::Catalogue;
+use groups_links::good_title;
+use hdf_types::read_type;
+use hdf_values::read_attribute;
+use json_trees::Tree;
+use object_ids::{Kind, Name, ObjectId, read_path};
+use object_ops::{
+    LinkPlace, Make, Op, Part, Refusal, Reply, Request, SelectText, on_text, refusal_json,
+};
+use register::Register;
+use serde_json::Value;
+use shapes::{read_dims, read_shape};
+use std::alloc::{AllocError, Global};
+use std::process::Abort;
+use std::test::Fail;
+
+const NONE: Rights = Rights {
+    create: false,
+    read: false,
+    update: false,
+    delete: false,
+    read_acl: false,
+    update_acl: false,
+};
+
+const READ: Rights = Rights { read: true, ..NONE };
+
+const UPDATE: Rights = Rights {
+    update: true,
+    ..NONE
+};
+
+const NO_UPDATE: Rights = Rights {
+    update: false,
+    ..Rights::ALL
+};
+
+/// What is asked. Objects are named by the numbers of their domains and the serials; they were made in the run 1.
+#[derive(Clone, Copy)]
+enum Ask {
+    Node,
+    Folder,
+    Domain,
+    DropNode,
+    Entry(&'static str, Rights),
+    Group,
+    Linked(&'static str),
+    GetGroup(u8, u8),
+    DropGroup(u8, u8),
+    DropDataset(u8, u8),
+    Resize(u8, u8),
+    Write(u8, u8),
+    Hours,
+    Notes,
+    Unit(u8, u8),
+    WriteYear(u8, u8),
+    Select(u8, u8, &'static str),
+}
+
+fn id(kind: Kind, domain: u8, serial: u8) -> ObjectId
+    ensures { result.kind ≡ kind }
+{
+    ObjectId {
+        kind,
+        domain: u64::from(domain),
+        run: 1,
+        serial: u64::from(serial),
+    }
+}
+
+fn tree(rt: &(impl Abort + AllocGlobal), text: &str) -> Value {
+    Value::from_str(rt.alloc(), text).expect(rt, "JSON")
+}
+
+fn name(rt: &(impl Abort + AllocGlobal), text: &str) -> Name
+    ensures { length result ≤ 255 }
+{
+    Name::read(rt.alloc(), text, 255).expect(rt, "a name")
+}
+
+fn title(rt: &(impl Abort + AllocGlobal), text: &str) -> Name
+    ensures { IsGoodTitle result }
+{
+    let title = Name::read(rt.alloc(), text, 255).expect(rt, "a name");
+    assert!(rt; good_title(&title), "no title: {text}");
+    title
+}
+
+/// A user of the group `lab`, or nobody; bob is also of `ops`.
+fn caller(alloc: Global, user: &str) -> Result<Caller, Fail> {
+    if user.is_empty() {
+        return Ok(Caller::anonymous(alloc));
+    }
+    let mut groups = Names::new(alloc);
+    groups.push(Name::read(alloc, "lab", 255)?)?;
+    if user == "bob" {
+        groups.push(Name::read(alloc, "ops", 255)?)?;
+    }
+    Ok(Caller {
+        user: Some(Name::read(alloc, user, 255)?),
+        groups,
+    })
+}
+
+/// A world of two lanes in run 1 over the folder `/`, where everybody has all rights.
+fn opened(alloc: Global) -> Result<World, Fail> {
+    let mut catalogue = Catalogue::new(alloc, Name::read(alloc, "default", 255)?)?;
+    let root = read_path(alloc, "/")?;
+    let everybody = Name::read(alloc, "default", 255)?;
+    match catalogue.set_entry(&root, &everybody, Rights::ALL) {
+        Ok(()) => {}
+        Err(fault) => return Err(Fail::from(fault)),
+    }
+    Ok(World::new(alloc, Register::new(alloc, catalogue, 2, 1))?)
+}
+
+fn resize(rt: &(impl Abort + AllocGlobal), id: ObjectId) -> Op
+    requires { id.kind ≡ Dataset }
+    ensures { IsSoundOp result }
+{
+    Op::PutShape {
+        id,
+        dims: read_dims(&tree(rt, "[1]")).expect(rt, "dims"),
+    }
+}
+
+fn write(rt: &(impl Abort + AllocGlobal), id: ObjectId, text: &str) -> Op
+    requires { id.kind ≡ Dataset }
+    ensures { IsSoundOp result }
+{
+    Op::PutValue {
+        id,
+        part: Part::Slab {
+            start: None,
+            stop: None,
+            step: None,
+        },
+        value: Tree::new(tree(rt, text)),
+    }
+}
+
+fn select(rt: &(impl Abort + AllocGlobal), id: ObjectId, text: &str) -> Op
+    requires { id.kind ≡ Dataset }
+    ensures { IsSoundOp result }
+{
+    let text = String::from_str(rt.alloc(), text).expect(rt, "a text");
+    Op::GetValue {
+        id,
+        select: Some(SelectText::from_string(text)),
+    }
+}
+
+fn group(place: Option<LinkPlace>) -> Op
+    requires { IsSoundPlace place }
+    ensures { IsSoundOp result }
+{
+    Op::MakeObject {
+        make: Make::Group,
+        link: place,
+    }
+}
+
+/// A new group, to which the root of the domain 1 gets a link.
+fn linked(rt: &(impl Abort + AllocGlobal), text: &str) -> Op
+    ensures { IsSoundOp result }
+{
+    group(Some(LinkPlace {
+        group: id(Kind::Group, 1, 0),
+        title: title(rt, text),
+    }))
+}
+
+/// A type, a shape, and the title of the link in which a dataset is made.
+struct Made {
+    kind: &'static str,
+    shape: &'static str,
+    group: u8,
+    title: &'static str,
+}
+
+const HOURS: Made = Made {
+    kind: r#""H5T_STD_I32LE""#,
+    shape: "[365,24]",
+    group: 1,
+    title: "hours",
+};
+
+const NOTES: Made = Made {
+    kind: r#"{"class":"H5T_COMPOUND","fields":[{"name":"day","type":"H5T_STD_I32LE"},{"name":"note","type":{"class":"H5T_STRING","length":16}}]}"#,
+    shape: "[100]",
+    group: 2,
+    title: "notes",
+};
+
+fn dataset(rt: &(impl Abort + AllocGlobal), made: &Made) -> Op
+    ensures { IsSoundOp result }
+{
+    let kind = read_type(rt.alloc(), &tree(rt, made.kind)).expect(rt, "a type");
+    let shape = read_shape(Some(&tree(rt, made.shape)), None).expect(rt, "a shape");
+    let layout = default_layout(&shape, kind.size());
+    Op::MakeObject {
+        make: Make::Dataset {
+            elem: kind,
+            shape,
+            layout,
+            fill: None,
+        },
+        link: Some(LinkPlace {
+            group: id(Kind::Group, 1, made.group),
+            title: title(rt, made.title),
+        }),
+    }
+}
+
+fn unit(rt: &(impl Abort + AllocGlobal), id: ObjectId) -> Op
+    ensures { IsSoundOp result }
+{
+    let text = r#"{"type":{"class":"H5T_STRING","length":3},"value":"mm"}"#;
+    Op::PutAttribute {
+        id,
+        name: name(rt, "unit"),
+        attribute: read_attribute(rt.alloc(), &tree(rt, text)).expect(rt, "an attribute"),
+    }
+}
+
+/// The hours of each day of a year, counted from the first.
+fn year(alloc: Global) -> Result<String, AllocError> {
+    let mut text = String::new(alloc);
+    let mut hour = 0u32;
+    let mut before = "[[";
+    for _ in 0..365u16 {
+        for _ in 0..24u8 {
+            let number = format!(in alloc; "{before}{hour}")?;
+            text.push_str(number.as_str())?;
+            before = ",";
+            hour = hour.saturating_add(1);
+        }
+        before = "],[";
+    }
+    text.push_str("]]")?;
+    Ok(text)
+}
+
+/// The hours of a year as a value.
+fn write_year(rt: &(impl Abort + AllocGlobal), id: ObjectId) -> Op
+    requires { id.kind ≡ Dataset }
+    ensures { IsSoundOp result }
+{
+    let text = year(rt.alloc()).expect(rt, "a text");
+    write(rt, id, text.as_str())
+}
+
+fn op(rt: &(impl Abort + AllocGlobal), ask: Ask) -> Op
+    ensures { IsSoundOp result }
+{
+    match ask {
+        Ask::Node => Op::GetNode,
+        Ask::Folder => Op::PutNode { folder: true },
+        Ask::Domain => Op::PutNode { folder: false },
+        Ask::DropNode => Op::DropNode,
+        Ask::Entry(user, rights) => Op::PutAcl {
+            name: name(rt, user),
+            rights,
+        },
+        Ask::Group => group(None),
+        Ask::Linked(text) => linked(rt, text),
+        Ask::GetGroup(domain, serial) => Op::GetObject {
+            id: id(Kind::Group, domain, serial),
+        },
+        Ask::DropGroup(domain, serial) => Op::DropObject {
+            id: id(Kind::Group, domain, serial),
+        },
+        Ask::DropDataset(domain, serial) => Op::DropObject {
+            id: id(Kind::Dataset, domain, serial),
+        },
+        Ask::Resize(domain, serial) => resize(rt, id(Kind::Dataset, domain, serial)),
+        Ask::Write(domain, serial) => write(rt, id(Kind::Dataset, domain, serial), "1"),
+        Ask::Hours => dataset(rt, &HOURS),
+        Ask::Notes => dataset(rt, &NOTES),
+        Ask::Unit(domain, serial) => unit(rt, id(Kind::Dataset, domain, serial)),
+        Ask::WriteYear(domain, serial) => write_year(rt, id(Kind::Dataset, domain, serial)),
+        Ask::Select(domain, serial, text) => select(rt, id(Kind::Dataset, domain, serial), text),
+    }
+}
+
+fn refused(alloc: Global, path: &str, refusal: &Refusal) -> Result<String, AllocError> {
+    let status = refusal.status();
+    let text = refusal_json(alloc, path, refusal)?.to_string(alloc)?;
+    format!(in alloc; "{status} {text}")
+}
+
+fn replied(alloc: Global, path: &str, reply: &Reply) -> Result<String, AllocError> {
+    match reply {
+        Reply::Done { status, body } => {
+            let text = body.value().to_string(alloc)?;
+            format!(in alloc; "{status} {text}")
+        }
+        Reply::Refused(refusal) => refused(alloc, path, refusal),
+    }
+}
+
+/// The status and the body of an answer.
+fn told(alloc: Global, path: &str, what: &What) -> Result<String, AllocError> {
+    match what {
+        What::Replied(reply) => replied(alloc, path, reply),
+        What::Denied { right } => refused(alloc, path, &Refusal::Forbidden { right: *right }),
+        What::NoMemory => String::from_str(alloc, "no memory"),
+    }
+}
+
+/// A row of a table: who asks what at which path, and what is answered.
+type Row = (&'static str, &'static str, Ask, &'static str);
+
+fn step(
+    rt: &(impl Abort + AllocGlobal),
+    world: &mut World,
+    caller: &Caller,
+    request: &Request,
+) -> Result<String, AllocError>
+    requires { IsSoundOp request.now.op }
+{
+    assert!(rt; world.has_room());
+    let answer = world.step(caller, request);
+    told(rt.alloc(), on_text(request), &answer.what)
+}
+
+fn try_rows(rt: &(impl Abort + AllocGlobal), world: &mut World, rows: &[Row]) -> Result<(), Fail> {
+    for (user, path, ask, wanted) in rows {
+        let caller = caller(rt.alloc(), user)?;
+        let request = Request {
+            path: read_path(rt.alloc(), path)?,
+            op: op(rt, *ask),
+        };
+        let text = step(rt, world, &caller, &request)?;
+        assert!(rt; text.as_str() == *wanted, "{text} in place of {wanted}");
+    }
+    Ok(())
+}
+
+#[test]
+fn the_list_in_force_decides(rt: HostRuntime) -> Result<(), Fail> {
+    let mut world = opened(rt.alloc())?;
+    let lab = "/home/lab";
+    let denied = r#"403 {"domain":"/home/lab","reason":"forbidden","right":"read"}"#;
+    let rows: [Row; 16] = [
+        (
+            "alice",
+            "/home",
+            Ask::Folder,
+            r#"201 {"class":"folder","owner":"alice"}"#,
+        ),
+        (
+            "alice",
+            lab,
+            Ask::Domain,
+            r#"201 {"class":"domain","owner":"alice","root":"g-00000000-0001-8000-8000-010000000000"}"#,
+        ),
+        ("alice", lab, Ask::Entry("carol", NONE), "201 {}"),
+        ("alice", lab, Ask::Entry("g:lab", READ), "201 {}"),
+        ("alice", lab, Ask::Entry("g:ops", UPDATE), "201 {}"),
+        ("carol", lab, Ask::Node, denied),
+        ("", lab, Ask::Node, denied),
+        (
+            "bob",
+            lab,
+            Ask::Node,
+            r#"200 {"class":"domain","owner":"alice","root":"g-00000000-0001-8000-8000-010000000000"}"#,
+        ),
+        (
+            "bob",
+            lab,
+            Ask::Resize(1, 1),
+            r#"404 {"id":"d-00000000-0001-8000-8000-010000000001","reason":"no-object"}"#,
+        ),
+        (
+            "bob",
+            lab,
+            Ask::DropDataset(1, 1),
+            r#"403 {"domain":"/home/lab","reason":"forbidden","right":"delete"}"#,
+        ),
+        ("alice", lab, Ask::Entry("alice", NO_UPDATE), "201 {}"),
+        (
+            "alice",
+            lab,
+            Ask::Write(1, 1),
+            r#"403 {"domain":"/home/lab","reason":"forbidden","right":"update"}"#,
+        ),
+        (
+            "alice",
+            lab,
+            Ask::Domain,
+            r#"409 {"name":"/home/lab","reason":"taken"}"#,
+        ),
+        (
+            "alice",
+            "/home",
+            Ask::DropNode,
+            r#"409 {"domain":"/home","reason":"not-empty"}"#,
+        ),
+        (
+            "alice",
+            lab,
+            Ask::DropGroup(1, 0),
+            r#"409 {"reason":"root"}"#,
+        ),
+        (
+            "alice",
+            "/home/none",
+            Ask::Node,
+            r#"404 {"domain":"/home/none","reason":"no-domain"}"#,
+        ),
+    ];
+    try_rows(&rt, &mut world, rows.as_slice())?;
+    assert_eq!(rt; world.places(), 16);
+    assert_eq!(rt; world.run(), 1);
+    assert_eq!(rt; world.serials_left(), 1_099_511_627_775);
+    assert!(rt; world.node(&read_path(rt.alloc(), lab)?).is_some());
+    assert_eq!(rt; world.catalogue().domains(), 1);
+    Ok(())
+}
+
+#[test]
+fn objects_take_serials(rt: HostRuntime) -> Result<(), Fail> {
+    let mut world = opened(rt.alloc())?;
+    let lab = "/home/lab";
+    let gone = r#"404 {"domain":"/home/lab","reason":"no-domain"}"#;
+    let rows: [Row; 10] = [
+        (
+            "alice",
+            "/home",
+            Ask::Folder,
+            r#"201 {"class":"folder","owner":"alice"}"#,
+        ),
+        (
+            "alice",
+            lab,
+            Ask::Domain,
+            r#"201 {"class":"domain","owner":"alice","root":"g-00000000-0001-8000-8000-010000000000"}"#,
+        ),
+        (
+            "alice",
+            lab,
+            Ask::Linked("a"),
+            r#"201 {"attributeCount":0,"id":"g-00000000-0001-8000-8000-010000000001","linkCount":0,"root":"g-00000000-0001-8000-8000-010000000000"}"#,
+        ),
+        (
+            "alice",
+            lab,
+            Ask::Linked("a"),
+            r#"409 {"name":"a","reason":"taken"}"#,
+        ),
+        (
+            "alice",
+            lab,
+            Ask::Group,
+            r#"201 {"attributeCount":0,"id":"g-00000000-0001-8000-8000-010000000003","linkCount":0,"root":"g-00000000-0001-8000-8000-010000000000"}"#,
+        ),
+        (
+            "alice",
+            lab,
+            Ask::GetGroup(1, 2),
+            r#"410 {"id":"g-00000000-0001-8000-8000-010000000002","reason":"gone"}"#,
+        ),
+        (
+            "alice",
+            lab,
+            Ask::GetGroup(1, 4),
+            r#"404 {"id":"g-00000000-0001-8000-8000-010000000004","reason":"no-object"}"#,
+        ),
+        (
+            "alice",
+            lab,
+            Ask::GetGroup(1, 0),
+            r#"200 {"attributeCount":0,"id":"g-00000000-0001-8000-8000-010000000000","linkCount":1,"root":"g-00000000-0001-8000-8000-010000000000"}"#,
+        ),
+        (
+            "alice",
+            "/home/two",
+            Ask::Domain,
+            r#"201 {"class":"domain","owner":"alice","root":"g-00000000-0002-8000-8000-010000000004"}"#,
+        ),
+        (
+            "alice",
+            "/home/two",
+            Ask::GetGroup(1, 1),
+            r#"404 {"id":"g-00000000-0001-8000-8000-010000000001","reason":"no-object"}"#,
+        ),
+    ];
+    try_rows(&rt, &mut world, rows.as_slice())?;
+    let first = id(Kind::Group, 1, 1);
+    assert!(rt; world.object(&first).is_some());
+    assert_eq!(rt; world.next_id(Some(&first)), Some(id(Kind::Group, 1, 3)));
+    let rows: [Row; 2] = [
+        ("alice", lab, Ask::DropNode, "200 {}"),
+        ("alice", lab, Ask::GetGroup(1, 1), gone),
+    ];
+    try_rows(&rt, &mut world, rows.as_slice())?;
+    assert!(rt; world.object(&first).is_none());
+    assert!(rt; world.next_id(None).is_none());
+    Ok(())
+}
+
+#[test]
+fn a_day_of_measurements(rt: HostRuntime) -> Result<(), Fail> {
+    let mut world = opened(rt.alloc())?;
+    let met = "/home/met";
+    let rows: [Row; 11] = [
+        (
+            "alice",
+            "/home",
+            Ask::Folder,
+            r#"201 {"class":"folder","owner":"alice"}"#,
+        ),
+        (
+            "alice",
+            met,
+            Ask::Domain,
+            r#"201 {"class":"domain","owner":"alice","root":"g-00000000-0001-8000-8000-010000000000"}"#,
+        ),
+        (
+            "alice",
+            met,
+            Ask::Linked("raw"),
+            r#"201 {"attributeCount":0,"id":"g-00000000-0001-8000-8000-010000000001","linkCount":0,"root":"g-00000000-0001-8000-8000-010000000000"}"#,
+        ),
+        (
+            "alice",
+            met,
+            Ask::Linked("log"),
+            r#"201 {"attributeCount":0,"id":"g-00000000-0001-8000-8000-010000000002","linkCount":0,"root":"g-00000000-0001-8000-8000-010000000000"}"#,
+        ),
+        (
+            "alice",
+            met,
+            Ask::Linked("doc"),
+            r#"201 {"attributeCount":0,"id":"g-00000000-0001-8000-8000-010000000003","linkCount":0,"root":"g-00000000-0001-8000-8000-010000000000"}"#,
+        ),
+        (
+            "alice",
+            met,
+            Ask::Hours,
+            r#"201 {"attributeCount":0,"creationProperties":{"layout":{"class":"H5D_CHUNKED","dims":[365,24]}},"id":"d-00000000-0001-8000-8000-010000000004","root":"g-00000000-0001-8000-8000-010000000000","shape":{"class":"H5S_SIMPLE","dims":[365,24],"maxdims":[365,24]},"type":{"base":"H5T_STD_I32LE","class":"H5T_INTEGER"}}"#,
+        ),
+        (
+            "alice",
+            met,
+            Ask::Notes,
+            r#"201 {"attributeCount":0,"creationProperties":{"layout":{"class":"H5D_CHUNKED","dims":[100]}},"id":"d-00000000-0001-8000-8000-010000000005","root":"g-00000000-0001-8000-8000-010000000000","shape":{"class":"H5S_SIMPLE","dims":[100],"maxdims":[100]},"type":{"class":"H5T_COMPOUND","fields":[{"name":"day","type":{"base":"H5T_STD_I32LE","class":"H5T_INTEGER"}},{"name":"note","type":{"charSet":"H5T_CSET_ASCII","class":"H5T_STRING","length":16,"strPad":"H5T_STR_NULLTERM"}}]}}"#,
+        ),
+        ("alice", met, Ask::Unit(1, 4), "201 {}"),
+        ("alice", met, Ask::WriteYear(1, 4), "200 {}"),
+        ("alice", met, Ask::Entry("g:lab", READ), "201 {}"),
+        (
+            "bob",
+            met,
+            Ask::Select(1, 4, "[0:365:73,0:24:12]"),
+            r#"200 {"value":[[0,12],[1752,1764],[3504,3516],[5256,5268],[7008,7020]]}"#,
+        ),
+    ];
+    try_rows(&rt, &mut world, rows.as_slice())
+}
