@@ -10,11 +10,12 @@ use Rattle.access_lists.specs.declared.right.Right.TheVariants.{Read}
 use Rattle.access_lists.specs.InForce.{has}
 use Rattle.domains.specs.declared.classes.Node.{Node}
 use Rattle.domains.specs.Contents.{Contents}
+use Rattle.domains.specs.NodeTrees.{node_tree}
 use Rattle.bearer_tokens.specs.Bearer.{TokenTable, caller_of}
 use Rattle.node_requests.specs.declared.refusal.Refusal.{Refusal}
 use Rattle.node_requests.specs.declared.refusal.Refusal.TheVariants.{BadToken, NoDomain, Forbidden}
 use Rattle.node_requests.specs.Refusals.{status_of}
-use Rattle.node_requests.specs.Bodies.{node_tree, refusal_tree}
+use Rattle.node_requests.specs.Bodies.{refusal_tree}
 
 -- what a lent answer points to
 abbrev pub lent : Result (Bor Node) Refusal → Result Node Refusal

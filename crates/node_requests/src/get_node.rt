@@ -2,7 +2,8 @@ ghost use Rattle.std.specs.Prelude.{◌≡◌, false, IfOk, string_bytes};
 ghost use Rattle.std.specs.Option.{option_copied};
 ghost use Rattle.serde_json.specs.Written.{compact_text};
 ghost use Rattle.http_replies.specs.Reply.{reply_bytes};
-ghost use Rattle.node_requests.specs.Bodies.{node_tree, refusal_tree};
+ghost use Rattle.domains.specs.NodeTrees.{node_tree};
+ghost use Rattle.node_requests.specs.Bodies.{refusal_tree};
 ghost use Rattle.node_requests.specs.Refusals.{status_of};
 ghost use Rattle.node_requests.specs.Requests.{node_for, answer_to, answer_bytes, lent};
 

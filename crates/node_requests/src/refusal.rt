@@ -1,8 +1,9 @@
 ghost use Rattle.std.specs.Prelude.{◌≡◌};
-ghost use Rattle.node_requests.specs.Refusals.{status_of};
+ghost use Rattle.node_requests.specs.Refusals.{status_of, told};
 
 use access_lists::Right;
 use http_replies::ReplyStatus;
+use object_ops::Refusal as Told;
 
 /// Why a request is refused.
 #[derive(Clone, Copy, Debug, PartialEq, Eq)]
@@ -27,6 +28,17 @@ impl Refusal {
             Refusal::BadToken => ReplyStatus::Unauthorized,
             Refusal::NoDomain => ReplyStatus::NotFound,
             Refusal::Forbidden { .. } => ReplyStatus::Forbidden,
+        }
+    }
+
+    /// The refusal as answers tell it.
+    pub(crate) fn told(self) -> Told
+        ensures { result ≡ told self }
+    {
+        match self {
+            Refusal::BadToken => Told::BadToken,
+            Refusal::NoDomain => Told::NoDomain,
+            Refusal::Forbidden { right } => Told::Forbidden { right },
         }
     }
 }
