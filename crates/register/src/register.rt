@@ -70,7 +70,12 @@ impl Model for Register {
     ghost view = { λ a. record { catalogue = a.catalogue; run = a.run; serial = a.serial; places = a.places; issued = a.issued } };
 
     ghost invariant = { λ a. IsDoor (record {
-        catalogue = a.catalogue; run = a.run; serial = a.serial; places = a.places; issued = a.issued }) };
+      catalogue = a.catalogue;
+      run = a.run;
+      serial = a.serial;
+      places = a.places;
+      issued = a.issued;
+    }) };
 }
 
 impl Register {
