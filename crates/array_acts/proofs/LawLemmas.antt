@@ -1,6 +1,7 @@
 -- What is written and read back, and what a refusal leaves.
-use Rattle.std.proofs.Common.{◌≡◌, ℕ, suc, ◌*◌, ◌<◌, cond, Bool, true, false, nat_le, List, [], ◌∷◌, ◌++◌, length, take, drop, get_or, Option, Some, None, Result, Ok, Err, codes, All, refl, sym, ap, subst, ◌∙◌, inl, inr, arith}
-use Rattle.std.specs.List.{AllByRecursion, flat_map}
+use Rattle.std.proofs.Common.{◌≡◌, ℕ, suc, ◌*◌, ◌<◌, cond, Bool, true, false, nat_le, List, [], ◌∷◌, ◌++◌, length, take, drop, get_or, Option, Some, None, Result, Ok, Err, codes, All, refl, sym, ap, subst, ◌∙◌, inl, inr, arith, mul-one}
+use Rattle.std.specs.List.{AllByRecursion, AllZip, flat_map}
+use Rattle.std.proofs.lemmas.Bool.{cases_order}
 use Rattle.std.proofs.lemmas.List.{length-drop, take-append-drop}
 use Rattle.std.proofs.lemmas.List.Elements.{All-head, All-tail}
 use Rattle.serde_json.specs.Data.{Data}
@@ -9,7 +10,8 @@ use Rattle.hdf_types.specs.Reading.{size_of}
 use Rattle.hdf_values.specs.declared.faults.ValueFault.{ValueFault}
 use Rattle.hdf_values.specs.Nested.{FitsNested, nested_bytes, nested_decoded, nested_normal, nested_from}
 use Rattle.hdf_values.proofs.NestedLemmas.{nested_back, nested_read, are_encoded}
-use Rattle.shapes.specs.Places.{cell_count}
+use Rattle.json_trees.specs.Trees.{list_of}
+use Rattle.shapes.specs.Places.{IsInside, cell_count}
 use Rattle.shapes.specs.declared.Shape.{Shape}
 use Rattle.shapes.specs.declared.Shape.TheVariants.{Null, Scalar, Simple}
 use Rattle.shapes.specs.Shapes.{LiesIn, resized_of}
@@ -21,7 +23,9 @@ use Rattle.hyperslab.specs.Selected.{AreApart, IsSlab, SlabIn, extents, slab_cel
 use Rattle.hyperslab.proofs.CellLemmas.{cells_counted, cells_apart, cells_within}
 use Rattle.point_select.specs.declared.PointFault.{PointFault}
 use Rattle.point_select.specs.Faults.{points_of}
+use Rattle.point_select.specs.Points.{IsPoint, SpellsPoints}
 use Rattle.chunk_store.specs.Cells.{put}
+use Rattle.chunk_store.specs.Listed.{IsOnce}
 use Rattle.chunk_store.specs.Grids.{Grid, IsWhole, value_at, reads, written, writes}
 use Rattle.chunk_store.proofs.KeyLemmas.{put_here, put_cases}
 use Rattle.chunk_store.proofs.GridLemmas.{reads_same, value-tabulated}
@@ -32,7 +36,7 @@ use Rattle.object_ops.specs.declared.refusals.Refusal.TheVariants.{TooMany}
 use Rattle.object_ops.specs.declared.replies.Reply.TheVariants.{Done, Refused}
 use Rattle.object_ops.specs.Answers.{nothing, only}
 use Rattle.array_acts.specs.Faults.{most_bytes}
-use Rattle.array_acts.specs.Arrays.{bytes_for, bytes_read, bytes_written, dims_taken, nested_by, or_refused, part_read, part_tree, points_written, selected_by, shape_changed, slab_written, tree_written, value_read, value_written}
+use Rattle.array_acts.specs.Arrays.{bytes_for, bytes_read, bytes_written, dims_taken, nested_by, or_refused, part_read, part_tree, points_read, points_read_in, points_tree, points_written, selected_by, shape_changed, slab_written, tree_written, value_read, value_written}
 
 -- ---- cells apart
 
@@ -79,12 +83,12 @@ reads-writes g s bs slab inside size =
 -- ---- a write that was done
 
 -- the tree was read, and its bytes went to the cells
-written_done : (g : Grid) (ats : List (List ℕ)) (r : Result (List ℕ) Refusal) → (bytes_written g ats r).0 ≡ Done 200 nothing
+pub written_done : (g : Grid) (ats : List (List ℕ)) (r : Result (List ℕ) Refusal) → (bytes_written g ats r).0 ≡ Done 200 nothing
     → (bs : List ℕ) × (r ≡ Ok bs) × ((bytes_written g ats r).1 ≡ writes g ats bs)
 written_done g ats (Err refusal) done = absurd cc
 written_done g ats (Ok bs) done = (bs, refl, refl)
 
-limited_ok : (few : Bool) (r : Result (List ℕ) ValueFault) (refusal : Refusal) (bs : List ℕ) → cond few (or_refused r) (Err refusal) ≡ Ok bs → (few ≡ true) × (r ≡ Ok bs)
+pub limited_ok : (few : Bool) (r : Result (List ℕ) ValueFault) (refusal : Refusal) (bs : List ℕ) → cond few (or_refused r) (Err refusal) ≡ Ok bs → (few ≡ true) × (r ≡ Ok bs)
 limited_ok true (Ok xs) refusal bs e =
     let same : xs ≡ bs = cc in
     (refl, ap (λ x. Ok x) same)
@@ -136,6 +140,61 @@ slab_back g s start stop step select d whole slab inside lists selects fits done
     let P : Result Slab SlabFault → Type 0 = λ r.
     (slab_written g d r).0 ≡ Done 200 nothing → value_read select (slab_written g d r).1 ≡ Done 200 (only (codes "value") (nested_normal g.kind (extents s) d)) in
     subst P (sym lists) (part_back g s select d whole slab inside some selects fits) done
+
+-- ---- points
+
+each_inside : (dims : List ℕ) (ds : List Data) (ps : List (List ℕ)) → AllZip (IsPoint dims) ds ps → AllByRecursion (λ at. IsInside at dims) ps
+each_inside dims [] [] h = tt
+each_inside dims [] (p ∷ ps) h = absurd h
+each_inside dims (d ∷ ds) [] h = absurd h
+each_inside dims (d ∷ ds) (p ∷ ps) h = (h.0.1, each_inside dims ds ps h.1)
+
+-- what a tree spells lies in the shape
+pub spelled_inside : (d : Data) (shape : Shape) (ps : List (List ℕ)) → SpellsPoints d shape ps → AllByRecursion (λ at. LiesIn at shape) ps
+spelled_inside d Null ps h = absurd h
+spelled_inside d Scalar ps h = absurd h
+spelled_inside d (Simple dims limits) ps h = each_inside dims (list_of h.0) ps h.3
+
+reads-points : (g : Grid) (ps : List (List ℕ)) (bs : List ℕ) → AllByRecursion (λ at. LiesIn at g.shape) ps → AreApart ps → length bs ≡ length ps * size_of g.kind → reads (writes g ps bs) ps ≡ bs
+reads-points g ps bs inside apart size =
+    let f = written (value_at g) (size_of g.kind) ps bs in
+    reads_same (λ at. LiesIn at g.shape) (value_at (writes g ps bs)) f (λ at h. value-tabulated g.kind g.shape g.chunk g.fill f at h) ps inside
+    ∙ read-written (size_of g.kind) ps (value_at g) bs apart size
+
+points_done : (g : Grid) (ps : List (List ℕ)) → nat_le (bytes_for g (length ps)) most_bytes ≡ true → points_read_in g (Ok ps) ≡ Done 200 (only (codes "value") (points_tree g ps))
+points_done g ps few = rw few refl
+
+-- points that are apart have the elements that were written
+once_apart : (ats : List (List ℕ)) → IsOnce ats → AreApart ats
+once_apart ats once p q low_p low_q e =
+    elim (cases_order p q) [
+      | inl same ↦ same
+      | inr rest ↦ elim rest [ inl less ↦ absurd (once p q less low_q e) | inr more ↦ absurd (once q p more low_p (sym e)) ]
+    ]
+
+apart_back : (g : Grid) (points d : Data) (ps : List (List ℕ)) → IsWhole g → points_of points g.shape ≡ Ok ps → AllByRecursion (λ at. LiesIn at g.shape) ps → IsOnce ps
+    → FitsNested g.kind (length ps ∷ []) d → (tree_written g ps (length ps ∷ []) d).0 ≡ Done 200 nothing
+    → points_read points (tree_written g ps (length ps ∷ []) d).1 ≡ Done 200 (only (codes "value") (nested_normal g.kind (length ps ∷ []) d))
+apart_back g points d ps whole spelled inside once fits done =
+    let dims = length ps ∷ [] in
+    let (bs, read, left) = written_done g ps (bytes_read g (length ps) dims d) done in
+    let (few, ok) = limited_ok (nat_le (bytes_for g (length ps)) most_bytes) (nested_from g.kind dims 0 d) (TooMany (bytes_for g (length ps)) most_bytes) bs read in
+    let exact : nested_from g.kind dims 0 d ≡ Ok (nested_bytes g.kind dims d) = nested_read g.kind dims 0 d fits in
+    let same : bs ≡ nested_bytes g.kind dims d = cc in
+    let whole_size : length bs ≡ length ps * 1 * size_of g.kind = ap length same ∙ (are_encoded g.kind dims d whole.kind fits).whole in
+    let size : length bs ≡ length ps * size_of g.kind = whole_size ∙ ap (λ n. n * size_of g.kind) (mul-one (length ps)) in
+    let after = writes g ps bs in
+    let tree : points_tree after ps ≡ nested_normal g.kind dims d =
+    ap (nested_decoded g.kind dims) (reads-points g ps bs inside (once_apart ps once) size ∙ same) ∙ nested_back g.kind dims d whole.kind fits in
+    ap (points_read points) left ∙ ap (points_read_in after) spelled ∙ points_done after ps few ∙ ap (λ t. Done 200 (only (codes "value") t)) tree
+
+pub points_back : (g : Grid) (points d : Data) (ps : List (List ℕ)) → IsWhole g → points_of points g.shape ≡ Ok ps → AllByRecursion (λ at. LiesIn at g.shape) ps → IsOnce ps
+    → FitsNested g.kind (length ps ∷ []) d → (value_written (part.Points points) d g).0 ≡ Done 200 nothing
+    → points_read points (value_written (part.Points points) d g).1 ≡ Done 200 (only (codes "value") (nested_normal g.kind (length ps ∷ []) d))
+points_back g points d ps whole spelled inside once fits done =
+    let P : Result (List (List ℕ)) PointFault → Type 0 = λ r.
+    (points_written g d r).0 ≡ Done 200 nothing → points_read points (points_written g d r).1 ≡ Done 200 (only (codes "value") (nested_normal g.kind (length ps ∷ []) d)) in
+    subst P (sym spelled) (apart_back g points d ps whole spelled inside once fits) done
 
 -- ---- refusals
 

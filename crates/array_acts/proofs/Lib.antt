@@ -1,2 +1,3 @@
 mod LawLemmas
 mod SlabLemmas
+mod WriteLemmas

@@ -2,3 +2,4 @@ pub mod Faults
 pub mod Stops
 pub mod Creation
 pub mod Arrays
+pub mod Writes

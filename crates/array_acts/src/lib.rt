@@ -12,7 +12,9 @@ mod tests;
 mod writes;
 
 pub use creation::creation_json;
-pub use laws::{limits, refusals_leave_the_array, written_reads_back};
+pub use laws::{
+    limits, points_read_back, refusals_leave_the_array, writes_done_or_refused, written_reads_back,
+};
 pub use reads::{read_points, read_shape, read_type, read_value};
 pub use writes::{change_shape, write_value};
 

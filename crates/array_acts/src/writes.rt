@@ -5,7 +5,6 @@ ghost use Rattle.serde_json.specs.View.{view};
 ghost use Rattle.json_trees.specs.Shown.{shown};
 ghost use Rattle.json_trees.specs.Faults.{Gives};
 ghost use Rattle.shapes.specs.Places.{cell_count};
-ghost use Rattle.shapes.specs.Shapes.{IsSound};
 ghost use Rattle.shapes.specs.declared.TheConstants.{MAX_EXTENT};
 ghost use Rattle.hyperslab.specs.declared.TheConstants.{MAX_SELECTED};
 ghost use Rattle.hyperslab.specs.Judged.{lists_slab};

@@ -178,28 +178,33 @@ root_kind id root e group = group_rank id.kind (eqb-true (kind_rank id.kind) (ki
 
 -- ---- an object is removed
 
-pub removing-other : (g : Grant) (id : Id) (o s : Option Object) → id_eq id g.root ≡ false → seen g id o ≡ s → removing g id o ≡ removed (missing g id) o s
-removing-other g id o s other e =
-    ap (λ b. cond b (Refused Root, o) (removed (missing g id) o (seen g id o))) other ∙ ap (removed (missing g id) o) e
+removing-as : (g : Grant) (id : Id) (o s : Option Object) (b : Bool) → id_eq id g.root ≡ b → seen g id o ≡ s → removing g id o ≡ removed b (missing g id) o s
+removing-as g id o s b root e = λ i. removed (root i) (missing g id) o (e i)
 
-pub drops_root : (g : Grant) (id : Id) (m : Objects) → id_eq id g.root ≡ true
-    → (Refused Root ≡ (at_id id (removing g id) m).0) × (m ≡ (at_id id (removing g id) m).1)
-drops_root g id m root =
-    let o = get m id in
-    answers_here id (removing g id) m o (Refused Root) refl (ap (λ b. cond b (Refused Root, o) (removed (missing g id) o (seen g id o))) root)
+pub removing-foreign : (g : Grant) (id : Id) (o : Option Object) → (id.domain == g.number) ≡ false → removing g id o ≡ (Refused (missing g id), o)
+removing-foreign g id o foreign = removing-as g id o None (id_eq id g.root) refl (seen_foreign g id o foreign)
 
-pub drops_foreign : (g : Grant) (id : Id) (m : Objects) (r : Refusal) → (id.domain == g.number) ≡ false → id_eq id g.root ≡ false → r ≡ missing g id
+removed_root : (g : Grant) (id : Id) (o : Option Object) → id_eq id g.root ≡ true → removed true (missing g id) o (held g id o) ≡ (Refused Root, o)
+removed_root g id None root = ap (removed true (missing g id) None) (held_root g id root)
+removed_root g id (Some x) root = refl
+
+pub drops_foreign : (g : Grant) (id : Id) (m : Objects) (r : Refusal) → (id.domain == g.number) ≡ false → r ≡ missing g id
     → (Refused r ≡ (at_id id (removing g id) m).0) × (m ≡ (at_id id (removing g id) m).1)
-drops_foreign g id m r foreign other said =
-    answers_here id (removing g id) m (get m id) (Refused r) refl
-    (removing-other g id (get m id) None other (seen_foreign g id (get m id) foreign) ∙ (λ i. (Refused (sym said i), get m id)))
+drops_foreign g id m r foreign said =
+    answers_here id (removing g id) m (get m id) (Refused r) refl (removing-foreign g id (get m id) foreign ∙ (λ i. (Refused (sym said i), get m id)))
+
+pub drops_root : (g : Grant) (id : Id) (m : Objects) → (id.domain == g.number) ≡ true → id_eq id g.root ≡ true
+    → (Refused Root ≡ (at_id id (removing g id) m).0) × (m ≡ (at_id id (removing g id) m).1)
+drops_root g id m own root =
+    let o = get m id in
+    answers_here id (removing g id) m o (Refused Root) refl (removing-as g id o (held g id o) true root (seen_own g id o own) ∙ removed_root g id o root)
 
 pub drops_there : (g : Grant) (id : Id) (m n : Objects) (x : Object) (r : Reply) → (id.domain == g.number) ≡ true → id_eq id g.root ≡ false
     → get m id ≡ Some x → n ≡ remove m id → r ≡ Done 200 nothing
     → (r ≡ (at_id id (removing g id) (shown m)).0) × (shown n ≡ (at_id id (removing g id) (shown m)).1)
 drops_there g id m n x r own other there gone said =
     let here = at_here id (removing g id) (shown m) (Some (unmarked x)) (shown-there m id x there) in
-    let e = removing-other g id (Some (unmarked x)) (Some (unmarked x)) other (seen_own g id (Some (unmarked x)) own) in
+    let e = removing-as g id (Some (unmarked x)) (Some (unmarked x)) false other (seen_own g id (Some (unmarked x)) own) in
     (said ∙ sym (ap (λ p. p.0) e) ∙ here.0, shown-remove m n id gone ∙ sym (ap (λ p. set_at (shown m) id p.1) e) ∙ here.1)
 
 pub drops_absent : (g : Grant) (id : Id) (m n : Objects) (r : Refusal) → (id.domain == g.number) ≡ true → id_eq id g.root ≡ false
@@ -207,5 +212,5 @@ pub drops_absent : (g : Grant) (id : Id) (m n : Objects) (r : Refusal) → (id.d
     → (Refused r ≡ (at_id id (removing g id) (shown m)).0) × (shown n ≡ (at_id id (removing g id) (shown m)).1)
 drops_absent g id m n r own other none gone said =
     let here = at_here id (removing g id) (shown m) None (shown-none m id none) in
-    let e = removing-other g id None None other (seen_own g id None own ∙ held_none g id other) in
+    let e = removing-as g id None None false other (seen_own g id None own ∙ held_none g id other) in
     (ap (λ x. Refused x) said ∙ sym (ap (λ p. p.0) e) ∙ here.0, shown-remove m n id gone ∙ sym (ap (λ p. set_at (shown m) id p.1) e) ∙ here.1)

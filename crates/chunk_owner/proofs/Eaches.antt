@@ -2,7 +2,7 @@
 use Rattle.std.proofs.Common.{◌≡◌, Bool, true, false, cond, Option, Some, None, option_map, IfSome, sym, ap, subst, refl, ◌∙◌}
 use Rattle.std.specs.Cmp.{Equal-is}
 use Rattle.std.specs.Ordering.{eq_by_cmp}
-use Rattle.std.specs.FinMap.{empty, get, insert, remove, get-empty, get-insert, get-remove}
+use Rattle.std.specs.FinMap.{empty, get, insert, remove, get-empty, get-insert, get-remove, same_map}
 use Rattle.text_maps.proofs.ValueMaps.{get-values}
 use Rattle.object_ids.specs.IdOrder.{id_order}
 use Rattle.object_ids.specs.IdValues.{Id}
@@ -63,6 +63,23 @@ if_kind m id (Some x) e kinds = kinds id x (sym e)
 
 pub get-shown : (m : Objects) (id : Id) → get (shown m) id ≡ option_map unmarked (get m id)
 get-shown m id = get-values id_order_total unmarked m id
+
+body-unmarked : (b : Body) → unmarked_body (unmarked_body b) ≡ unmarked_body b
+body-unmarked (Group links) = refl
+body-unmarked (Dataset array) = refl
+body-unmarked (Datatype type) = refl
+
+unmarked-unmarked : (o : Object) → unmarked (unmarked o) ≡ unmarked o
+unmarked-unmarked o = ap (λ (b : Body). record o { body = b }) (body-unmarked o.body)
+
+option-unmarked : (w : Option Object) → option_map unmarked (option_map unmarked w) ≡ option_map unmarked w
+option-unmarked None = refl
+option-unmarked (Some o) = ap (λ (x : Object). Some x) (unmarked-unmarked o)
+
+-- what is shown is shown as it is
+pub shown-shown : (m : Objects) → shown (shown m) ≡ shown m
+shown-shown m = same_map id_order_total id_order_once _ _ (λ q.
+    get-shown (shown m) q ∙ ap (option_map unmarked) (get-shown m q) ∙ option-unmarked (get m q) ∙ sym (get-shown m q))
 
 there : (w : Option Object) (o : Object) → option_map unmarked w ≡ Some o → (x : Object) × (w ≡ Some x) × (unmarked x ≡ o)
 there None o e = absurd (none_there o e)

@@ -1,7 +1,6 @@
 -- What a step leaves that is refused, that reads, or that names an object of another domain.
-use Rattle.std.proofs.Common.{◌≡◌, ℕ, Bool, true, false, cond, ◌==◌, List, Option, Some, None, option_map, sym, ap, subst, refl, ◌∙◌, eqb-true, ne_eqb}
+use Rattle.std.proofs.Common.{◌≡◌, ℕ, Bool, true, false, cond, ◌==◌, List, Option, Some, None, option_map, sym, ap, subst, refl, ◌∙◌, ne_eqb}
 use Rattle.std.specs.FinMap.{get}
-use Rattle.json_trees.proofs.TreeLemmas.{both_true}
 use Rattle.object_ids.specs.IdOrder.{id_eq}
 use Rattle.object_ids.specs.IdValues.{Id}
 use Rattle.groups_links.specs.declared.target.LinkTo.{LinkTo}
@@ -25,9 +24,9 @@ use Rattle.object_acts.proofs.LawLemmas.{Keeps}
 use Rattle.chunk_owner.specs.Lanes.{Objects, shown, at_id}
 use Rattle.chunk_owner.specs.Acts.{act, changed_by, changing, left, link_to, linking, make_act, making, missing, on_touched, reading, removed, removing, seen, touched}
 use Rattle.chunk_owner.specs.Laws.{RefusalsLeaveAll, ReadsLeaveAll, OthersAreLeft, OthersAreUnlinked}
-use Rattle.chunk_owner.proofs.AtIds.{answers_here, own_set, removing-other, seen_foreign}
+use Rattle.chunk_owner.proofs.AtIds.{answers_here, own_set, removing-foreign}
 use Rattle.chunk_owner.proofs.Eaches.{get-shown}
-use Rattle.chunk_owner.proofs.LawLemmas.{no_object_elsewhere, others_are_hidden, refuted}
+use Rattle.chunk_owner.proofs.LawLemmas.{no_object_elsewhere, others_are_hidden}
 
 -- ---- refusals
 
@@ -52,15 +51,13 @@ changing_kept : (g : Grant) (id : Id) (f : Object → Reply × Object) (w : Opti
 changing_kept g id f None kept = changed_none f (missing g id) (seen g id None)
 changing_kept g id f (Some x) kept = changed_some f (missing g id) (unmarked x) (id.domain == g.number) (kept x)
 
-removed_kept : (absent : Refusal) (old s : Option Object) → Keeps old (removed absent old s)
-removed_kept absent old None refusal e = refl
-removed_kept absent old (Some o) refusal e = absurd (cc)
+removed_kept : (is_root : Bool) (absent : Refusal) (old s : Option Object) → Keeps old (removed is_root absent old s)
+removed_kept is_root absent old None refusal e = refl
+removed_kept true absent old (Some o) refusal e = refl
+removed_kept false absent old (Some o) refusal e = absurd (cc)
 
 removing_kept : (g : Grant) (id : Id) (o : Option Object) → Keeps o (removing g id o)
-removing_kept g id o = at (id_eq id g.root) where
-  at : (b : Bool) → Keeps o (cond b (Refused Root, o) (removed (missing g id) o (seen g id o)))
-  at true refusal e = refl
-  at false refusal e = removed_kept (missing g id) o (seen g id o) refusal e
+removing_kept g id o = removed_kept (id_eq id g.root) (missing g id) o (seen g id o)
 
 making_kept : (g : Grant) (make : Make) (fresh : Option Id) (o : Option Object) → Keeps o (making g make fresh o)
 making_kept g make None o refusal e = refl
@@ -121,25 +118,20 @@ reads_kept g op s objects reads = touched_read (touched g op s) (act g op s) obj
 answered_at : (id : Id) (f : Option Object → Reply × Option Object) (m : Objects) (r : Reply) → f (get m id) ≡ (r, get m id) → at_id id f m ≡ (r, m)
 answered_at id f m r e = let here = answers_here id f m (get m id) r refl e in λ i. (sym here.0 i, sym here.1 i)
 
-not_root : (g : Grant) (id : Id) → g.root.domain ≡ g.number → (id.domain ≡ g.number → ⊥) → id_eq id g.root ≡ false
-not_root g id root other = refuted (id_eq id g.root) (id.domain ≡ g.number)
-    (λ e. eqb-true id.domain g.root.domain (both_true _ _ (both_true _ _ e).1).0 ∙ root) other
-
-removing_other : (g : Grant) (id : Id) (o : Option Object) → g.root.domain ≡ g.number → (id.domain ≡ g.number → ⊥) → removing g id o ≡ (Refused (NoObject id), o)
-removing_other g id o root other =
-    removing-other g id o None (not_root g id root other) (seen_foreign g id o (ne_eqb id.domain g.number other))
-    ∙ (λ i. (Refused (no_object_elsewhere g id (λ w. other w.0) i), o))
+removing_other : (g : Grant) (id : Id) (o : Option Object) → (id.domain ≡ g.number → ⊥) → removing g id o ≡ (Refused (NoObject id), o)
+removing_other g id o other =
+    removing-foreign g id o (ne_eqb id.domain g.number other) ∙ (λ i. (Refused (no_object_elsewhere g id (λ w. other w.0) i), o))
 
 object_other : (g : Grant) (op : Op) (id : Id) (o : Option Object) (b : Bool) → (id.domain ≡ g.number → ⊥)
     → cond b (reading g id (reply_of g.root op) o) (changing g id (change_of op) o) ≡ (Refused (NoObject id), o)
 object_other g op id o true other = (others_are_hidden g id o (reply_of g.root op) (change_of op) other).0
 object_other g op id o false other = (others_are_hidden g id o (reply_of g.root op) (change_of op) other).1
 
-act_other : (g : Grant) (op : Op) (s : Step) (id : Id) (o : Option Object) → g.root.domain ≡ g.number → id_of op ≡ Some id → (id.domain ≡ g.number → ⊥)
+act_other : (g : Grant) (op : Op) (s : Step) (id : Id) (o : Option Object) → id_of op ≡ Some id → (id.domain ≡ g.number → ⊥)
     → act g op s id o ≡ (Refused (NoObject id), o)
-act_other g (MakeObject make place) s id o root names other = absurd (cc)
-act_other g (DropObject at) s id o root names other = removing_other g id o root other
-act_other g op s id o root names other = object_other g op id o (reads_object op) other
+act_other g (MakeObject make place) s id o names other = absurd (cc)
+act_other g (DropObject at) s id o names other = removing_other g id o other
+act_other g op s id o names other = object_other g op id o (reads_object op) other
 
 -- an operation on one object touches it
 pub touched_named : (g : Grant) (op : Op) (s : Step) (id : Id) → id_of op ≡ Some id → touched g op s ≡ Some id
@@ -147,9 +139,9 @@ touched_named g (MakeObject make place) s id names = absurd (cc)
 touched_named g op s id names = names
 
 pub others_left : OthersAreLeft
-others_left g op s objects id root names other =
+others_left g op s objects id names other =
     ap (λ (t : Option Id). on_touched t (act g op s) objects) (touched_named g op s id names)
-    ∙ answered_at id (act g op s id) objects (Refused (NoObject id)) (act_other g op s id (get objects id) root names other)
+    ∙ answered_at id (act g op s id) objects (Refused (NoObject id)) (act_other g op s id (get objects id) names other)
 
 pub others_unlinked : OthersAreUnlinked
 others_unlinked g make place fresh objects has other =

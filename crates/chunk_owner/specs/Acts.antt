@@ -68,13 +68,13 @@ changed_by f absent old (Some o) = left old (f o)
 abbrev pub changing : Grant → Id → (Object → Reply × Object) → Option Object → Reply × Option Object
 changing g id f o = changed_by f (missing g id) o (seen g id o)
 
-abbrev pub removed : Refusal → Option Object → Option Object → Reply × Option Object
-removed absent old None = (Refused absent, old)
-removed absent old (Some o) = (Done 200 nothing, None)
-
 -- a root is never removed
+abbrev pub removed : Bool → Refusal → Option Object → Option Object → Reply × Option Object
+removed is_root absent old None = (Refused absent, old)
+removed is_root absent old (Some o) = if is_root then (Refused Root, old) else (Done 200 nothing, None)
+
 abbrev pub removing : Grant → Id → Option Object → Reply × Option Object
-removing g id o = if id_eq id g.root then (Refused Root, o) else removed (missing g id) o (seen g id o)
+removing g id o = removed (id_eq id g.root) (missing g id) o (seen g id o)
 
 abbrev pub placing : Id → Id → Object → Option Object → Reply × Option Object
 placing id root new o = (Done 201 (object_tree id root new), Some new)

@@ -15,6 +15,10 @@ Objects = FinMap id_order Object
 abbrev pub shown : Objects → Objects
 shown = with_values unmarked
 
+-- no chunk of them is marked as changed, so they are seen as they are
+abbrev pub AreShown : Objects → Type 0
+AreShown m = shown m ≡ m
+
 pub record Lane : Type 0 where
   pub lane : ℕ
   pub lanes : ℕ

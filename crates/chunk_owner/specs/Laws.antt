@@ -49,9 +49,9 @@ RefusalsLeaveAll = (g : Grant) (op : Op) (s : Step) (objects : Objects) (refusal
 abbrev pub ReadsLeaveAll : Type 0
 ReadsLeaveAll = (g : Grant) (op : Op) (s : Step) (objects : Objects) → reads_object op ≡ true → (acted g op s objects).1 ≡ objects
 
--- an operation on one object of another domain is answered that there is none, and all objects stay; the root is one of the domain's
+-- an operation on one object of another domain is answered that there is none, and all objects stay
 abbrev pub OthersAreLeft : Type 0
-OthersAreLeft = (g : Grant) (op : Op) (s : Step) (objects : Objects) (id : Id) → g.root.domain ≡ g.number → id_of op ≡ Some id → (id.domain ≡ g.number → ⊥)
+OthersAreLeft = (g : Grant) (op : Op) (s : Step) (objects : Objects) (id : Id) → id_of op ≡ Some id → (id.domain ≡ g.number → ⊥)
     → acted g op s objects ≡ (Refused (NoObject id), objects)
 
 -- so is a link to a new object, in a group of another domain

@@ -1,8 +1,8 @@
 //! Ids without an object.
 
-ghost use Rattle.std.specs.Prelude.{◌≡◌, ◌==◌, None, IfOk};
+ghost use Rattle.std.specs.Prelude.{◌≡◌, ◌==◌, true, None, IfOk};
 ghost use Rattle.object_ids.specs.IdOrder.{id_eq};
-ghost use Rattle.object_acts.specs.Acts.{reply_of};
+ghost use Rattle.object_acts.specs.Acts.{reads_object, reply_of};
 ghost use Rattle.chunk_owner.specs.Acts.{is_used, missing, held, read_by};
 
 use object_acts::{Object, reply};
@@ -51,6 +51,7 @@ pub(crate) fn read_absent(
     id: &ObjectId,
     grant: &Grant,
 ) -> Result<Reply, AllocError>
+    requires { reads_object op.now ≡ true }
     ensures { IfOk result (λ r. r ≡ read_by (reply_of grant.now.root op.now)
         (missing grant.now id.now) (held grant.now id.now None)) }
 {

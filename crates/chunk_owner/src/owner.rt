@@ -9,7 +9,7 @@ ghost use Rattle.object_ids.specs.declared.ids.Kind.TheVariants.{Group};
 ghost use Rattle.object_ops.specs.Answers.{Follows};
 ghost use Rattle.object_ops.specs.Conditions.{IsSoundOp};
 ghost use Rattle.object_acts.specs.Objects.{unmarked, IsOfKind};
-ghost use Rattle.chunk_owner.specs.Lanes.{IsWhole, IsSameLane, Forgets};
+ghost use Rattle.chunk_owner.specs.Lanes.{AreShown, IsWhole, IsSameLane, Forgets};
 ghost use Rattle.chunk_owner.specs.Acts.{acted, touched, HasFresh, IsStepOf, IsTouchedIn};
 
 use crate::forgetting::forget_in;
@@ -64,9 +64,10 @@ impl Owner {
         }
     }
 
-    /// That each object is of the lane and of its id's kind.
+    /// That each object is of the lane and of its id's kind, and is seen without marks.
     pub fn is_whole(&self)
-        ensures { IsWhole self.now }
+        ensures own { IsWhole self.now }
+        ensures shown { AreShown self.now.objects }
     {
         let _lane = self.lane;
     }

@@ -504,6 +504,46 @@ fn attributes_of_a_root_that_is_not_held(rt: HostRuntime) -> Result<(), AllocErr
     Ok(())
 }
 
+/// Puts an attribute with a number in its name.
+fn put_numbered(
+    rt: &(impl Abort + AllocGlobal),
+    owner: &mut Owner,
+    number: u16,
+) -> Result<String, AllocError>
+    requires lane { owner.old.lane ≡ 0 }
+    requires lanes { owner.old.lanes ≡ 1 }
+    ensures same { IsSameLane owner.old owner.new }
+{
+    let (alloc, id, granted) = (rt.alloc(), made(0), grant(1));
+    let text = format!(in alloc; "a{number}")?;
+    let op = Op::PutAttribute {
+        id,
+        name: name(rt, text.as_str()),
+        attribute: attribute(rt),
+    };
+    tried(alloc, owner, op, Step::Only, &granted)
+}
+
+#[test]
+fn an_object_has_at_most_1024_attributes(rt: HostRuntime) -> Result<(), AllocError> {
+    let mut owner = Owner::new(rt.alloc(), 0, 1);
+    for number in 0..1_024u16 {
+        let got = put_numbered(&rt, &mut owner, number)?;
+        assert!(rt; got.as_str() == "201 {}", "{got}");
+    }
+    for (last, want) in [
+        (1_023u16, r#"409 {"name":"a1023","reason":"taken"}"#),
+        (
+            1_024,
+            r#"409 {"limit":1024,"reason":"limit","what":"attributes"}"#,
+        ),
+    ] {
+        let got = put_numbered(&rt, &mut owner, last)?;
+        assert!(rt; got.as_str() == want, "{got}");
+    }
+    Ok(())
+}
+
 #[test]
 fn ids_come_in_order_and_a_domain_is_forgotten(rt: HostRuntime) -> Result<(), AllocError> {
     let mut owner = Owner::new(rt.alloc(), 0, 1);

@@ -1,13 +1,12 @@
 //! What one step answers and leaves of one object among others.
 
-ghost use Rattle.std.specs.Prelude.{◌≡◌, ◌==◌, None, IsTrue};
+ghost use Rattle.std.specs.Prelude.{◌≡◌, ◌==◌, true, None, IsTrue};
 ghost use Rattle.std.specs.FinMap.{get};
 ghost use Rattle.groups_links.specs.Titles.{IsGoodTitle};
-ghost use Rattle.groups_links.specs.declared.target.LinkTo.TheVariants.{Hard};
 ghost use Rattle.object_ids.specs.declared.ids.Kind.TheVariants.{Group};
 ghost use Rattle.object_ops.specs.Answers.{Follows};
 ghost use Rattle.object_ops.specs.Conditions.{IsSoundOp};
-ghost use Rattle.object_acts.specs.Acts.{reply_of, change_of};
+ghost use Rattle.object_acts.specs.Acts.{reads_object, reply_of, changes_object, change_of};
 ghost use Rattle.chunk_owner.specs.Lanes.{shown, at_id, AreOfKind};
 ghost use Rattle.chunk_owner.specs.Acts.{reading, changing, removing, link_to};
 
@@ -26,7 +25,8 @@ pub(crate) fn read_in(
     id: &ObjectId,
     grant: &Grant,
 ) -> Result<Reply, AllocError>
-    requires { AreOfKind objects.now }
+    requires reads { reads_object op.now ≡ true }
+    requires kinds { AreOfKind objects.now }
     ensures { Follows
         (at_id id.now (reading grant.now id.now (reply_of grant.now.root op.now)) (shown objects.now))
         (shown objects.now) result (shown objects.now) }
@@ -48,6 +48,7 @@ pub(crate) fn change_in(
     id: &ObjectId,
     grant: &Grant,
 ) -> Result<Reply, AllocError>
+    requires changes { changes_object op.now ≡ true }
     requires op { IsSoundOp op.now }
     requires root { grant.now.root.kind ≡ Group }
     requires kinds { AreOfKind objects.old }
@@ -73,6 +74,7 @@ fn change_absent(
     id: &ObjectId,
     grant: &Grant,
 ) -> Result<Reply, AllocError>
+    requires changes { changes_object op.now ≡ true }
     requires op { IsSoundOp op.now }
     requires own { IsTrue (id.now.domain == grant.now.number) }
     requires root { grant.now.root.kind ≡ Group }
@@ -159,11 +161,11 @@ pub(crate) fn drop_in(
         ≡ (at_id id.now (removing grant.now id.now) (shown objects.old)).1 }
     ensures kinds { AreOfKind objects.new }
 {
-    if is_root(grant, id) {
-        return Reply::Refused(Refusal::Root);
-    }
     if !is_own(grant, id) {
         return Reply::Refused(missing(grant, id));
+    }
+    if is_root(grant, id) {
+        return Reply::Refused(Refusal::Root);
     }
     let Some(_) = objects.remove(id) else {
         return Reply::Refused(missing(grant, id));

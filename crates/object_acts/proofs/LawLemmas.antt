@@ -9,6 +9,8 @@ use Rattle.object_ids.specs.declared.limits.LimitKind.TheVariants as limit
 use Rattle.object_ids.specs.declared.puts.PutFault.{PutFault}
 use Rattle.object_ids.specs.declared.puts.PutFault.TheVariants as put
 use Rattle.object_ids.specs.Puts.{put_fault}
+use Rattle.attributes.specs.AttributeMaps.{most_attributes}
+use Rattle.groups_links.specs.GroupLinks.{most_links}
 use Rattle.groups_links.specs.declared.target.LinkTo.{LinkTo}
 use Rattle.chunk_store.specs.Grids.{Grid}
 use Rattle.object_ops.specs.declared.ops.Part.{Part}
@@ -66,7 +68,7 @@ attributes_kept f o kept refusal e = ap (λ (names : Names). record { attributes
 
 pub link_kept : (id : Id) (title : List ℕ) (link : LinkTo) (o : Object) → Keeps o (on_links id (link_put title link) o.attributes o.body)
 link_kept id title link o = links_kept id (link_put title link) o.attributes o.body
-    (λ links. put_kept 65536 limit.Links title link links (put_fault 65536 links title))
+    (λ links. put_kept most_links limit.Links title link links (put_fault most_links links title))
 
 -- where a refused request leaves the array
 module _ (value : (g : Grid) (part : Part) (d : Data) → Keeps g (value_written part d g)) (dims : (g : Grid) (ds : List ℕ) → Keeps g (shape_changed ds g)) where
@@ -74,7 +76,7 @@ module _ (value : (g : Grid) (part : Part) (d : Data) → Keeps g (value_written
   change_kept (PutLink id title link) o = link_kept id title link (unmarked o)
   change_kept (DropLink id title) o = links_kept id (drop_from title) o.attributes (unmarked_body o.body) (drop_kept title)
   change_kept (PutAttribute id name attribute) o = attributes_kept (attribute_put name attribute) (unmarked o)
-      (λ names. put_kept 1024 limit.Attributes name attribute names (put_fault 1024 names name))
+      (λ names. put_kept most_attributes limit.Attributes name attribute names (put_fault most_attributes names name))
   change_kept (DropAttribute id name) o = attributes_kept (drop_from name) (unmarked o) (drop_kept name)
   change_kept (PutShape id ds) o = array_kept id (shape_changed ds) o.attributes o.body (λ g. dims g ds)
   change_kept (PutValue id part d) o = array_kept id (value_written part d) o.attributes o.body (λ g. value g part d)

@@ -1,10 +1,9 @@
 -- What each operation answers and leaves of one object.
-use Rattle.std.specs.Prelude.{◌≡◌, ℕ, List, Bool, true, false, ◌&&◌, ◌||◌, ◌==◌, nat_lt, Option, Some, None, Result, Ok, Err, codes, if◌then◌else◌}
+use Rattle.std.specs.Prelude.{ℕ, List, Bool, true, false, Option, Some, None, codes, if◌then◌else◌}
 use Rattle.std.specs.FinMap.{FinMap, get, insert, remove, contains_key}
 use Rattle.serde_json.specs.Data.{Data}
 use Rattle.text_maps.specs.Keyed.{text_order}
 use Rattle.object_ids.specs.IdValues.{Id}
-use Rattle.object_ids.specs.IdOrder.{id_eq}
 use Rattle.object_ids.specs.declared.limits.LimitKind.{LimitKind}
 use Rattle.object_ids.specs.declared.limits.LimitKind.TheVariants as limit
 use Rattle.object_ids.specs.declared.puts.PutFault.{PutFault}
@@ -13,9 +12,10 @@ use Rattle.object_ids.specs.Puts.{put_fault}
 use Rattle.shapes.specs.declared.printing.Form.TheVariants.{Rest}
 use Rattle.hdf_values.specs.declared.attributes.Attribute.{Attribute}
 use Rattle.hdf_values.specs.Attributes.{content}
+use Rattle.attributes.specs.AttributeMaps.{most_attributes}
 use Rattle.attributes.specs.AttributeTrees.{attribute_tree, attributes_list}
 use Rattle.groups_links.specs.declared.target.LinkTo.{LinkTo}
-use Rattle.groups_links.specs.declared.target.LinkTo.TheVariants.{Hard}
+use Rattle.groups_links.specs.GroupLinks.{most_links}
 use Rattle.groups_links.specs.Printed.{link_tree, links_list}
 use Rattle.chunk_store.specs.Grids.{Grid}
 use Rattle.object_ops.specs.declared.ops.Op.{Op}
@@ -50,10 +50,10 @@ abbrev pub drop_from : {X : Type 0} → List ℕ → FinMap text_order X → Rep
 drop_from name m = if contains_key m name then (Done 200 nothing, remove m name) else (Refused (NoName name), m)
 
 abbrev pub link_put : List ℕ → LinkTo → Titles → Reply × Titles
-link_put title link links = put_in 65536 limit.Links title link links (put_fault 65536 links title)
+link_put title link links = put_in most_links limit.Links title link links (put_fault most_links links title)
 
 abbrev pub attribute_put : List ℕ → Attribute → Names → Reply × Names
-attribute_put name attribute names = put_in 1024 limit.Attributes name attribute names (put_fault 1024 names name)
+attribute_put name attribute names = put_in most_attributes limit.Attributes name attribute names (put_fault most_attributes names name)
 
 -- ---- what is read
 
@@ -79,7 +79,7 @@ of_array id f (Group links) = Refused (NoObject id)
 of_array id f (Dataset array) = f array.grid
 of_array id f (Datatype type) = Refused (NoObject id)
 
--- what is answered to an operation that reads an object, in a domain with this root
+-- what is answered to an operation that reads an object, in a domain with this root; the last case is for all others, which `reads_object` leaves out
 abbrev pub reply_of : Id → Op → Object → Reply
 reply_of root (GetObject id) o = Done 200 (object_tree id root o)
 reply_of root (ListLinks id) o = of_links id (λ links. Done 200 (only (codes "links") (links_list links Rest))) o.body
@@ -107,7 +107,7 @@ on_array id f names (Datatype type) = (Refused (NoObject id), record { attribute
 abbrev pub on_attributes : (Names → Reply × Names) → Object → Reply × Object
 on_attributes f o = ((f o.attributes).0, record { attributes = (f o.attributes).1; body = o.body })
 
--- what is answered to an operation that changes an object, and the object that follows
+-- what is answered to an operation that changes an object, and the object that follows; the last case is for all others, which `changes_object` leaves out
 abbrev pub change_of : Op → Object → Reply × Object
 change_of (PutLink id title link) o = on_links id (link_put title link) o.attributes o.body
 change_of (DropLink id title) o = on_links id (drop_from title) o.attributes o.body

@@ -1,7 +1,6 @@
 -- What an object is.
-use Rattle.std.specs.Prelude.{◌≡◌, ℕ, List, [], Option}
+use Rattle.std.specs.Prelude.{◌≡◌, ℕ, List, []}
 use Rattle.std.specs.FinMap.{empty}
-use Rattle.hdf_types.specs.declared.types.ElemType.{ElemType}
 use Rattle.hdf_types.specs.Views.{elem}
 use Rattle.hdf_types.specs.Types.{IsSoundType}
 use Rattle.object_ids.specs.declared.ids.Kind.{Kind}

@@ -10,7 +10,7 @@ ghost use Rattle.object_ops.specs.declared.replies.Reply.TheVariants.{Done};
 ghost use Rattle.object_acts.specs.Acts.{attribute_put, attribute_read, drop_from};
 
 use crate::names::{no_name, taken};
-use attributes::{Attributes, NoName, PutFault, attribute_json};
+use attributes::{Attributes, MAX_ATTRIBUTES, NoName, PutFault, attribute_json};
 use hdf_values::Attribute;
 use object_ids::{LimitKind, Name};
 use object_ops::{Refusal, Reply};
@@ -34,7 +34,7 @@ pub(crate) fn put_attribute(
         Ok(()) => Ok(Reply::done(alloc, 201)),
         Err(PutFault::Taken) => taken(name),
         Err(PutFault::Limit) => Ok(Reply::Refused(Refusal::Limit {
-            limit: 1_024,
+            limit: MAX_ATTRIBUTES as u64,
             what: LimitKind::Attributes,
         })),
         Err(PutFault::NoMemory) => Err(AllocError),

@@ -1,7 +1,6 @@
 //! What is answered to operations that change one object, and what they leave.
 
-ghost use Rattle.std.specs.Prelude.{◌≡◌};
-ghost use Rattle.hdf_values.specs.Attributes.{content, IsSoundAttribute};
+ghost use Rattle.std.specs.Prelude.{◌≡◌, true};
 ghost use Rattle.groups_links.specs.Titles.{IsGoodTitle};
 ghost use Rattle.groups_links.specs.Targets.{IsSoundLink};
 ghost use Rattle.groups_links.specs.declared.target.LinkTo.TheVariants.{Hard};
@@ -10,7 +9,8 @@ ghost use Rattle.object_ops.specs.Answers.{Follows};
 ghost use Rattle.object_ops.specs.Conditions.{IsSoundOp, AreDims};
 ghost use Rattle.array_acts.specs.Arrays.{shape_changed, value_written};
 ghost use Rattle.object_acts.specs.Objects.{unmarked, IsOfKind, KeepsTrack};
-ghost use Rattle.object_acts.specs.Acts.{change_of, drop_from, link_put, on_array, on_links};
+ghost use Rattle.object_acts.specs.Acts.{change_of, changes_object, drop_from, link_put};
+ghost use Rattle.object_acts.specs.Acts.{on_array, on_links};
 
 use crate::attribute_acts::{drop_attribute, put_attribute};
 use crate::link_acts::{drop_link, put_link};
@@ -23,14 +23,15 @@ use object_ops::{Op, Part, Refusal, Reply};
 use shapes::Dims;
 use std::alloc::{AllocError, Global};
 
-/// The answer to an operation that changes an object, and the object that follows. An error leaves the object as it was,
-/// but for what is known of the chunks of an array.
+/// The answer to an operation that changes an object, and the object that follows. No other operation is given. An error
+/// leaves the object as it was, but for what is known of the chunks of an array.
 ///
 /// # Errors
 ///
 /// Only where memory runs out.
 pub fn change(alloc: Global, object: &mut Object, op: &Op) -> Result<Reply, AllocError>
-    requires { IsSoundOp op.now }
+    requires changes { changes_object op.now ≡ true }
+    requires sound { IsSoundOp op.now }
     ensures acts { Follows (change_of op.now (unmarked object.old)) (unmarked object.old)
         result (unmarked object.new) }
     ensures kind { (k : Kind) → IsOfKind k object.old → IsOfKind k object.new }

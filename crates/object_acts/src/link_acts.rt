@@ -10,7 +10,7 @@ ghost use Rattle.object_ops.specs.declared.replies.Reply.TheVariants.{Done};
 ghost use Rattle.object_acts.specs.Acts.{link_put, link_read, drop_from};
 
 use crate::names::{no_name, taken};
-use groups_links::{LinkTo, Links, NoName, PutFault, link_json};
+use groups_links::{LinkTo, Links, MAX_LINKS, NoName, PutFault, link_json};
 use object_ids::{LimitKind, Name};
 use object_ops::{Refusal, Reply};
 use shapes::Form;
@@ -32,7 +32,7 @@ pub(crate) fn put_link(
         Ok(()) => Ok(Reply::done(alloc, 201)),
         Err(PutFault::Taken) => taken(title),
         Err(PutFault::Limit) => Ok(Reply::Refused(Refusal::Limit {
-            limit: 65_536,
+            limit: MAX_LINKS as u64,
             what: LimitKind::Links,
         })),
         Err(PutFault::NoMemory) => Err(AllocError),

@@ -1,13 +1,13 @@
 //! What is answered to operations that read one object.
 
-ghost use Rattle.std.specs.Prelude.{◌≡◌, IfOk, codes};
+ghost use Rattle.std.specs.Prelude.{◌≡◌, true, IfOk, codes};
 ghost use Rattle.shapes.specs.declared.printing.Form.TheVariants.{Rest};
 ghost use Rattle.groups_links.specs.Printed.{links_list};
 ghost use Rattle.object_ops.specs.Answers.{only};
 ghost use Rattle.object_ops.specs.declared.replies.Reply.TheVariants.{Done};
 ghost use Rattle.array_acts.specs.Arrays.{value_read, points_read, shape_read, type_read};
 ghost use Rattle.object_acts.specs.Objects.{unmarked, IsSoundBody};
-ghost use Rattle.object_acts.specs.Acts.{of_array, of_links, link_read, reply_of};
+ghost use Rattle.object_acts.specs.Acts.{of_array, of_links, link_read, reads_object, reply_of};
 
 use crate::attribute_acts::{get_attribute, list_attributes};
 use crate::link_acts::{get_link, list_links};
@@ -19,13 +19,14 @@ use object_ids::{Name, ObjectId};
 use object_ops::{Op, Refusal, Reply, SelectText};
 use std::alloc::{AllocError, Global};
 
-/// The answer to an operation that reads an object, in a domain with this root.
+/// The answer to an operation that reads an object, in a domain with this root. No other operation is given.
 ///
 /// # Errors
 ///
 /// Only where memory runs out.
 pub fn reply(alloc: Global, object: &Object, op: &Op, root: &ObjectId) -> Result<Reply, AllocError>
-    requires { IsSoundBody object.now.body }
+    requires reads { reads_object op.now ≡ true }
+    requires sound { IsSoundBody object.now.body }
     ensures { IfOk result (λ r. r ≡ reply_of root.now op.now (unmarked object.now)) }
 {
     match op {

@@ -1,5 +1,5 @@
 -- The statuses, the reasons and the bodies of refusals.
-use Rattle.std.specs.Prelude.{ℕ, List, Option, Some, None, codes}
+use Rattle.std.specs.Prelude.{ℕ, List, Bool, true, false, Option, Some, None, codes}
 use Rattle.serde_json.specs.Data.{Data, Members, unsigned, object, string, number, member, no_members}
 use Rattle.object_ids.specs.Ids.{text_of_id}
 use Rattle.object_ids.specs.Limits.{limit_word}
@@ -83,32 +83,39 @@ abbrev pub maybe_member : List ℕ → Option ℕ → Members → Members
 maybe_member key None rest = rest
 maybe_member key (Some n) rest = number_member key n rest
 
--- the members of a body: its reason, and what the reason speaks of, in byte order of the keys
-abbrev pub refusal_members : List ℕ → Refusal → Members
-refusal_members path (BadField field) = text_member (codes "field") (field_word field) (reason_alone (codes "bad-field"))
-refusal_members path (UnsupportedType class) = text_member (codes "class") (class_name class) (reason_alone (codes "unsupported-type"))
-refusal_members path (BadShape fault) = text_member (codes "fault") (shape_word fault) (reason_alone (codes "bad-shape"))
-refusal_members path NoDomain = text_member (codes "domain") path (reason_alone (codes "no-domain"))
-refusal_members path (Forbidden right) =
-    text_member (codes "domain") path (text_member (codes "reason") (codes "forbidden") (text_member (codes "right") (right_name right) no_members))
-refusal_members path (NoObject id) = text_member (codes "id") (text_of_id id) (reason_alone (codes "no-object"))
-refusal_members path (Gone id) = text_member (codes "id") (text_of_id id) (reason_alone (codes "gone"))
-refusal_members path (BadSelect fault axis byte index) =
+-- the members of a body with this reason: it, and what it speaks of, in byte order of the keys
+abbrev pub members_with : List ℕ → List ℕ → Refusal → Members
+members_with word path (BadField field) = text_member (codes "field") (field_word field) (reason_alone word)
+members_with word path (UnsupportedType class) = text_member (codes "class") (class_name class) (reason_alone word)
+members_with word path (BadShape fault) = text_member (codes "fault") (shape_word fault) (reason_alone word)
+members_with word path NoDomain = text_member (codes "domain") path (reason_alone word)
+members_with word path (Forbidden right) =
+    text_member (codes "domain") path (text_member (codes "reason") word (text_member (codes "right") (right_name right) no_members))
+members_with word path (NoObject id) = text_member (codes "id") (text_of_id id) (reason_alone word)
+members_with word path (Gone id) = text_member (codes "id") (text_of_id id) (reason_alone word)
+members_with word path (BadSelect fault axis byte index) =
     maybe_member (codes "axis") axis (maybe_member (codes "byte") byte (text_member (codes "fault") (select_word fault)
-    (maybe_member (codes "index") index (reason_alone (codes "bad-select")))))
-refusal_members path (TooMany count limit) = number_member (codes "count") count (number_member (codes "limit") limit (reason_alone (codes "too-many")))
-refusal_members path (BadValue fault place got want) =
+    (maybe_member (codes "index") index (reason_alone word))))
+members_with word path (TooMany count limit) = number_member (codes "count") count (number_member (codes "limit") limit (reason_alone word))
+members_with word path (BadValue fault place got want) =
     text_member (codes "fault") (value_word fault) (maybe_member (codes "got") got (maybe_member (codes "place") place
-    (text_member (codes "reason") (codes "bad-value") (maybe_member (codes "want") want no_members))))
-refusal_members path (Taken name) = text_member (codes "name") name (reason_alone (codes "taken"))
-refusal_members path NotEmpty = text_member (codes "domain") path (reason_alone (codes "not-empty"))
-refusal_members path (NoName name) = text_member (codes "name") name (reason_alone (codes "no-name"))
-refusal_members path (Limit limit what) =
-    number_member (codes "limit") limit (text_member (codes "reason") (codes "limit") (text_member (codes "what") (limit_word what) no_members))
-refusal_members path (JournalFull end need room) =
-    number_member (codes "end") end (number_member (codes "need") need (text_member (codes "reason") (codes "journal-full") (number_member (codes "room") room no_members)))
-refusal_members path refusal = reason_alone (reason_of refusal)
+    (text_member (codes "reason") word (maybe_member (codes "want") want no_members))))
+members_with word path (Taken name) = text_member (codes "name") name (reason_alone word)
+members_with word path NotEmpty = text_member (codes "domain") path (reason_alone word)
+members_with word path (NoName name) = text_member (codes "name") name (reason_alone word)
+members_with word path (Limit limit what) =
+    number_member (codes "limit") limit (text_member (codes "reason") word (text_member (codes "what") (limit_word what) no_members))
+members_with word path (JournalFull end need room) =
+    number_member (codes "end") end (number_member (codes "need") need (text_member (codes "reason") word (number_member (codes "room") room no_members)))
+members_with word path refusal = reason_alone word
 
 -- the body of a refusal at a path
 abbrev pub refusal_tree : List ℕ → Refusal → Data
-refusal_tree path refusal = object (refusal_members path refusal)
+refusal_tree path refusal = object (members_with (reason_of refusal) path refusal)
+
+-- what is refused over a folder, a domain or an access list, and so speaks of its path
+abbrev pub speaks_of_path : Refusal → Bool
+speaks_of_path NoDomain = true
+speaks_of_path (Forbidden right) = true
+speaks_of_path NotEmpty = true
+speaks_of_path refusal = false

@@ -3,6 +3,7 @@
 #![tactic(auto)]
 
 mod grants;
+mod laws;
 mod ops;
 mod refusal_trees;
 mod refusals;
@@ -15,6 +16,7 @@ mod value_trees;
 mod words;
 
 pub use grants::{Grant, Step};
+pub use laws::bodies_of_refusals;
 pub use ops::{LinkPlace, Make, Op, Part, Request, SelectText};
 pub use refusal_trees::refusal_json;
 pub use refusals::Refusal;

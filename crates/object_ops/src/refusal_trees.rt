@@ -5,6 +5,7 @@ ghost use Rattle.serde_json.specs.View.{view};
 ghost use Rattle.serde_json.specs.Data.{object, no_members};
 ghost use Rattle.object_ids.specs.Ids.{text_of_id};
 ghost use Rattle.object_ids.specs.Limits.{limit_word};
+ghost use Rattle.access_lists.specs.RightWords.{right_name};
 ghost use Rattle.object_ops.specs.Words.{class_name};
 ghost use Rattle.object_ops.specs.Refusals.{refusal_tree, reason_alone, text_member, number_member};
 
@@ -26,35 +27,37 @@ use std::alloc::{AllocError, Global};
 pub fn refusal_json(alloc: Global, path: &str, refusal: &Refusal) -> Result<Value, AllocError>
     ensures { IfOk result (λ tree. view tree ≡ refusal_tree path.now refusal.now) }
 {
+    let reason = refusal.reason();
     match refusal {
-        Refusal::BadField { field } => of_field(alloc, field.word(), "bad-field"),
-        Refusal::UnsupportedType { class } => {
-            of_class(alloc, class_name(*class), "unsupported-type")
-        }
-        Refusal::BadShape { fault } => of_fault(alloc, fault.word(), "bad-shape"),
-        Refusal::NoDomain => of_domain(alloc, path, "no-domain"),
-        Refusal::Forbidden { right } => forbidden(alloc, path, *right),
-        Refusal::NoObject { id } => of_id(alloc, id, "no-object"),
-        Refusal::Gone { id } => of_id(alloc, id, "gone"),
+        Refusal::BadField { field } => of_field(alloc, field.word(), reason),
+        Refusal::UnsupportedType { class } => of_class(alloc, class_name(*class), reason),
+        Refusal::BadShape { fault } => of_fault(alloc, fault.word(), reason),
+        Refusal::NoDomain => of_domain(alloc, path, reason),
+        Refusal::Forbidden { right } => forbidden(alloc, path, reason, *right),
+        Refusal::NoObject { id } => of_id(alloc, id, reason),
+        Refusal::Gone { id } => of_id(alloc, id, reason),
         Refusal::BadSelect {
             fault,
             axis,
             byte,
             index,
-        } => select_json(alloc, fault.word(), axis.map(u64::from), *byte, *index),
-        Refusal::TooMany { count, limit } => too_many(alloc, *count, *limit),
+        } => {
+            let axis = axis.map(u64::from);
+            select_json(alloc, fault.word(), reason, axis, *byte, *index)
+        }
+        Refusal::TooMany { count, limit } => too_many(alloc, reason, *count, *limit),
         Refusal::BadValue {
             fault,
             place,
             got,
             want,
-        } => value_json(alloc, fault.word(), *got, *place, *want),
-        Refusal::Taken { name } => of_name(alloc, name.text(), "taken"),
-        Refusal::NotEmpty => of_domain(alloc, path, "not-empty"),
-        Refusal::NoName { name } => of_name(alloc, name.text(), "no-name"),
-        Refusal::Limit { limit, what } => limit_json(alloc, *limit, *what),
-        Refusal::JournalFull { end, need, room } => full_json(alloc, *end, *need, *room),
-        other => alone(alloc, other.reason()),
+        } => value_json(alloc, fault.word(), reason, *got, *place, *want),
+        Refusal::Taken { name } => of_name(alloc, name.text(), reason),
+        Refusal::NotEmpty => of_domain(alloc, path, reason),
+        Refusal::NoName { name } => of_name(alloc, name.text(), reason),
+        Refusal::Limit { limit, what } => limit_json(alloc, reason, *limit, *what),
+        Refusal::JournalFull { end, need, room } => full_json(alloc, reason, *end, *need, *room),
+        _ => alone(alloc, reason),
     }
 }
 
@@ -130,33 +133,41 @@ fn of_id(alloc: Global, id: &ObjectId, reason: &str) -> Result<Value, AllocError
     of_id_text(alloc, text.as_str(), reason)
 }
 
-fn forbidden(alloc: Global, path: &str, right: Right) -> Result<Value, AllocError>
-    ensures { IfOk result (λ tree. view tree ≡ refusal_tree path.now (Refusal.Forbidden right)) }
+fn forbidden(alloc: Global, path: &str, reason: &str, right: Right) -> Result<Value, AllocError>
+    ensures { IfOk result (λ tree. view tree ≡ object (text_member (codes "domain") path.now
+        (text_member (codes "reason") reason.now
+        (text_member (codes "right") (right_name right) no_members)))) }
 {
     let word = right.name();
-    json!(in alloc; {"domain": path, "reason": "forbidden", "right": word})
+    json!(in alloc; {"domain": path, "reason": reason, "right": word})
 }
 
-fn too_many(alloc: Global, count: u64, limit: u64) -> Result<Value, AllocError>
+fn too_many(alloc: Global, reason: &str, count: u64, limit: u64) -> Result<Value, AllocError>
     ensures { IfOk result (λ tree. view tree ≡ object (number_member (codes "count") count
-        (number_member (codes "limit") limit (reason_alone (codes "too-many"))))) }
+        (number_member (codes "limit") limit (reason_alone reason.now)))) }
 {
-    json!(in alloc; {"count": count, "limit": limit, "reason": "too-many"})
+    json!(in alloc; {"count": count, "limit": limit, "reason": reason})
 }
 
-fn limit_json(alloc: Global, limit: u64, what: LimitKind) -> Result<Value, AllocError>
+fn limit_json(alloc: Global, reason: &str, limit: u64, what: LimitKind) -> Result<Value, AllocError>
     ensures { IfOk result (λ tree. view tree ≡ object (number_member (codes "limit") limit
-        (text_member (codes "reason") (codes "limit")
+        (text_member (codes "reason") reason.now
         (text_member (codes "what") (limit_word what) no_members)))) }
 {
     let word = what.word();
-    json!(in alloc; {"limit": limit, "reason": "limit", "what": word})
+    json!(in alloc; {"limit": limit, "reason": reason, "what": word})
 }
 
-fn full_json(alloc: Global, end: u64, need: u64, room: u64) -> Result<Value, AllocError>
+fn full_json(
+    alloc: Global,
+    reason: &str,
+    end: u64,
+    need: u64,
+    room: u64,
+) -> Result<Value, AllocError>
     ensures { IfOk result (λ tree. view tree ≡ object (number_member (codes "end") end
-        (number_member (codes "need") need (text_member (codes "reason") (codes "journal-full")
+        (number_member (codes "need") need (text_member (codes "reason") reason.now
         (number_member (codes "room") room no_members))))) }
 {
-    json!(in alloc; {"end": end, "need": need, "reason": "journal-full", "room": room})
+    json!(in alloc; {"end": end, "need": need, "reason": reason, "room": room})
 }

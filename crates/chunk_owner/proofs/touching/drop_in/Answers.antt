@@ -6,19 +6,19 @@ use Rattle.chunk_owner.proofs.touching.drop_in.Goals as goal
 
 pub returns-then-not-is_own-clause-reply : goal.returns-then-not-is_own-clause-reply
 returns-then-not-is_own-clause-reply c =
-    (drops_foreign c.args.grant.now c.args.id.now (shown c.args.objects.now) _ (sym c.is_own.ensures ∙ c.if-not-is_own.true) (sym c.is_root.ensures ∙ c.if-is_root.false) c.missing.ensures).0
+    (drops_foreign c.args.grant.now c.args.id.now (shown c.args.objects.now) _ (sym c.is_own.ensures ∙ c.if-not-is_own.true) c.missing.ensures).0
 
 pub returns-then-not-is_own-clause-rest : goal.returns-then-not-is_own-clause-rest
 returns-then-not-is_own-clause-rest c =
-    (drops_foreign c.args.grant.now c.args.id.now (shown c.args.objects.now) _ (sym c.is_own.ensures ∙ c.if-not-is_own.true) (sym c.is_root.ensures ∙ c.if-is_root.false) c.missing.ensures).1
+    (drops_foreign c.args.grant.now c.args.id.now (shown c.args.objects.now) _ (sym c.is_own.ensures ∙ c.if-not-is_own.true) c.missing.ensures).1
 
 pub returns-then-is_root-clause-reply : goal.returns-then-is_root-clause-reply
 returns-then-is_root-clause-reply c =
-    (drops_root c.args.grant.now c.args.id.now (shown c.args.objects.now) (sym c.is_root.ensures ∙ c.if-is_root.true)).0
+    (drops_root c.args.grant.now c.args.id.now (shown c.args.objects.now) (sym c.is_own.ensures ∙ c.if-not-is_own.false) (sym c.is_root.ensures ∙ c.if-is_root.true)).0
 
 pub returns-then-is_root-clause-rest : goal.returns-then-is_root-clause-rest
 returns-then-is_root-clause-rest c =
-    (drops_root c.args.grant.now c.args.id.now (shown c.args.objects.now) (sym c.is_root.ensures ∙ c.if-is_root.true)).1
+    (drops_root c.args.grant.now c.args.id.now (shown c.args.objects.now) (sym c.is_own.ensures ∙ c.if-not-is_own.false) (sym c.is_root.ensures ∙ c.if-is_root.true)).1
 
 pub returns-in_default-clause-reply : goal.returns-in_default-clause-reply
 returns-in_default-clause-reply c =

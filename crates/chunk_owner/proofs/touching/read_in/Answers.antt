@@ -8,8 +8,8 @@ pub returns-then-not-is_own : goal.returns-then-not-is_own
 returns-then-not-is_own c =
     reads_foreign c.args.grant.now c.args.id.now (reply_of c.args.grant.now.root c.args.op.now) (shown c.args.objects.now) _ (sym c.is_own.ensures ∙ c.if-not-is_own.true) c.missing.ensures
 
-pub reply-requires : goal.reply-requires
-reply-requires c = (c.requires c.args.id.now c.in-Some.object.now (sym c.in-Some.ensures)).sound
+pub reply-requires-clause-sound : goal.reply-requires-clause-sound
+reply-requires-clause-sound c = (c.requires.kinds c.args.id.now c.in-Some.object.now (sym c.in-Some.ensures)).sound
 
 pub returns-in-Some : goal.returns-in-Some
 returns-in-Some c =
