@@ -1,5 +1,5 @@
 -- What granted requests are given.
-use Rattle.std.proofs.Common.{◌≡◌, ℕ, ◌+◌, ◌<◌, List, [], ◌∷◌, length, Bool, true, false, Option, Some, None, if◌then◌else◌, refl, ap, sym, subst, arith}
+use Rattle.std.proofs.Common.{◌≡◌, ℕ, suc, ◌+◌, ◌<◌, List, [], ◌∷◌, length, Bool, true, false, Option, Some, None, if◌then◌else◌, refl, ap, sym, subst, arith}
 use Rattle.std.specs.Prelude.{nat_lt}
 use Rattle.access_lists.specs.declared.people.Caller.{Caller}
 use Rattle.access_lists.specs.declared.rights.Rights.{Rights}
@@ -26,11 +26,12 @@ use Rattle.object_ops.specs.declared.replies.Reply.TheVariants.{Done}
 use Rattle.object_ops.specs.declared.refusals.Refusal.TheVariants.{Limit, NoDomain}
 use Rattle.groups_links.specs.declared.target.LinkTo.{LinkTo}
 use Rattle.std.specs.FinMap.{get}
-use Rattle.register.specs.Tickets.{AreInLanes, Issue, turns_from}
+use Rattle.register.specs.Tickets.{AreEach, AreInLanes, Issue, turns_from}
 use Rattle.register.specs.declared.verdicts.Verdict.{Verdict}
 use Rattle.register.specs.declared.verdicts.Verdict.TheVariants.{Granted, Answered, Denied, Refused, NoMemory}
 use Rattle.register.specs.Decided.{Decides, Door, at_maybe, domain_made, entry_put, entry_read, fits, folder_made, foreign, grant_of, granted, in_domain, make_granted, make_steps, most_of, node_made, node_removed, object_granted, passed, refused, serial_limit}
 use Rattle.register.specs.Grants.{AreAtHome, AreBare, IfGranted, IsIssueOf}
+use Rattle.register.specs.Laws.{GrantsAreIssues}
 use Rattle.register.proofs.Counting.{lane_below, length-counted}
 
 if_either : (b : Bool) (x y : Verdict × Door) (P : Issue → Type 0) → IfGranted x.0 P → IfGranted y.0 P → IfGranted (if b then x else y).0 P
@@ -77,9 +78,12 @@ bare : (lane : ℕ) (counts : List ℕ) → AreBare (turns_from lane counts)
 bare lane [] = tt
 bare lane (c ∷ cs) = (refl, bare (lane + 1) cs)
 
-as_many : (lane : ℕ) (counts : List ℕ) → length (turns_from lane counts) ≡ length counts
-as_many lane [] = refl
-as_many lane (c ∷ cs) = let less : length (turns_from (lane + 1) cs) ≡ length cs = as_many (lane + 1) cs in omega (arith, less)
+pub each_from : (n lane : ℕ) (counts : List ℕ) → lane + length counts ≡ n → AreEach n lane (turns_from lane counts)
+each_from n lane [] e = omega (arith, e)
+each_from n lane (c ∷ cs) e = (
+  refl,
+  let next : lane + 1 ≡ suc lane = omega arith in subst (λ (j : ℕ). AreEach n (suc lane) (turns_from j cs)) (sym next) (each_from n (suc lane) cs (omega (arith, e))),
+)
 
 forgotten_issue : (d : Door) (path : List ℕ) (class : NodeClass) (fault : Option CatFault) → IfGranted (node_removed d path class fault).0 (IsIssueOf d DropNode)
 forgotten_issue d path Folder None = tt
@@ -88,8 +92,8 @@ forgotten_issue d path (Domain number root) None = record {
   run = refl;
   lanes = in_lanes 0 d.issued (length d.issued) (omega arith);
   homes = at_home 0 d.issued (length d.issued) DropNode (grant_of d number root None);
-  steps = (as_many 0 d.issued, bare 0 d.issued);
-  fresh = refl;
+  steps = (each_from (length d.issued) 0 d.issued (omega arith), bare 0 d.issued);
+  fresh = (refl, refl);
 }
 forgotten_issue d path class (Some fault) = tt
 
@@ -105,7 +109,7 @@ make_issue d some number root make None =
       lanes = (lane_below d.issued fresh some, tt);
       homes = (refl, tt);
       steps = refl;
-      fresh = (d.serial, refl, refl);
+      fresh = (refl, refl);
     } in
     if_either (nat_lt d.serial serial_limit) (make_steps (record d { serial = d.serial + 1 }) number root fresh None)
     (refused (Limit (most_of limit.Serial) limit.Serial) d) (IsIssueOf d (MakeObject make None)) made tt
@@ -119,14 +123,14 @@ make_issue d some number root make (Some place) =
       lanes = (lane_below d.issued place.group some, (subst Below (sym same) (lane_below d.issued fresh some), tt));
       homes = (refl, (ap (λ n. Some (lane_of n fresh)) (sym same), tt));
       steps = refl;
-      fresh = (d.serial, refl, refl);
+      fresh = (refl, refl);
     } in
     if_either (nat_lt d.serial serial_limit) (make_steps (record d { serial = d.serial + 1 }) number root fresh (Some place))
     (refused (Limit (most_of limit.Serial) limit.Serial) d) (IsIssueOf d (MakeObject make (Some place))) made tt
 
 link_issue : (d : Door) → 0 < length d.issued → (number : ℕ) (root id : Id) (title : List ℕ) (link : LinkTo) (m : Option Id)
     → IfGranted (object_granted d number root (PutLink id title link) m).0 (IsIssueOf d (PutLink id title link))
-link_issue d some number root id title link None = record { place = refl; run = refl; lanes = (lane_below d.issued id some, tt); homes = (refl, tt); steps = refl; fresh = refl }
+link_issue d some number root id title link None = record { place = refl; run = refl; lanes = (lane_below d.issued id some, tt); homes = (refl, tt); steps = refl; fresh = (refl, refl) }
 link_issue d some number root id title link (Some target) = tt
 
 or_else : Id → Option Id → Id
@@ -145,7 +149,7 @@ in_issue d some number root (GetAcl name) = tt
 in_issue d some number root (PutAcl name rights) = tt
 in_issue d some number root (MakeObject make place) = make_issue d some number root make place
 in_issue d some number root (PutLink id title link) = link_issue d some number root id title link (foreign number link)
-in_issue d some number root op = record { place = refl; run = refl; lanes = (lane_below d.issued (or_else root (id_of op)) some, tt); homes = (refl, tt); steps = refl; fresh = refl }
+in_issue d some number root op = record { place = refl; run = refl; lanes = (lane_below d.issued (or_else root (id_of op)) some, tt); homes = (refl, tt); steps = refl; fresh = (refl, refl) }
 
 class_issue : (d : Door) → 0 < length d.issued → (op : Op) (class : NodeClass) → IfGranted (in_domain d op class).0 (IsIssueOf d op)
 class_issue d some op Folder = tt
@@ -171,12 +175,16 @@ node_issue d some caller path op (Some node) =
     (if_either (has node.list caller (right_for op)) (granted d caller path op node) (Denied (right_for op), passed d) (IsIssueOf d op) (granted_issue d some caller path op node) tt)
     tt
 
--- what a decided request is given
+-- what a request is given that is granted
+pub grants_are_issues : GrantsAreIssues
+grants_are_issues d caller request some = node_issue d some caller request.path request.op (get d.catalogue.nodes (decided_at request))
+
+-- the same of what a call says
 pub issue_of : (d : Door) (caller : Caller) (request : Request) (v : Verdict) (new : Door) → 0 < length d.issued → Decides d caller request v new
     → IfGranted v (IsIssueOf d request.op)
 issue_of d caller request (Granted t) new some h =
     let Given : Verdict × Door → Type 0 = λ p. IfGranted p.0 (IsIssueOf d request.op) in
-    subst Given (sym h) (node_issue d some caller request.path request.op (get d.catalogue.nodes (decided_at request)))
+    subst Given (sym h) (grants_are_issues d caller request some)
 issue_of d caller request (Answered r) new some h = tt
 issue_of d caller request (Denied r) new some h = tt
 issue_of d caller request (Refused r) new some h = tt

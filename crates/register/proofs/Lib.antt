@@ -4,3 +4,4 @@ pub mod GrantLemmas
 pub mod Meetings
 pub mod Roots
 pub mod Settling
+pub mod KeepLemmas

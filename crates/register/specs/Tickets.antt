@@ -1,5 +1,5 @@
 -- The turns of lanes that a request takes, in order.
-use Rattle.std.specs.Prelude.{ℕ, ◌+◌, ◌<◌, List, [], ◌∷◌, ◌++◌, length, drop, Option, Some, None, slice_index, slice_set}
+use Rattle.std.specs.Prelude.{◌≡◌, ℕ, suc, ◌+◌, ◌<◌, List, [], ◌∷◌, ◌++◌, length, drop, Option, Some, None, slice_index, slice_set}
 use Rattle.object_ids.specs.IdValues.{Id}
 use Rattle.object_ids.specs.Ids.{lane_of}
 use Rattle.object_ops.specs.declared.grants.Grant.{Grant}
@@ -40,3 +40,8 @@ all_counted (n ∷ ns) = (n + 1) ∷ all_counted ns
 abbrev pub AreInLanes : ℕ → List Turn → Type 0
 AreInLanes lanes [] = Unit {0}
 AreInLanes lanes (t ∷ ts) = (t.lane < lanes) × AreInLanes lanes ts
+
+-- one turn of each lane from a number on, in order
+abbrev pub AreEach : ℕ → ℕ → List Turn → Type 0
+AreEach lanes lane [] = lane ≡ lanes
+AreEach lanes lane (t ∷ ts) = (t.lane ≡ lane) × AreEach lanes (suc lane) ts

@@ -10,7 +10,7 @@ use object_ops::Step;
 use short_lists::ShortList;
 
 /// The most lanes.
-pub const MAX_LANES: usize = 16;
+pub(crate) const MAX_LANES: usize = 16;
 
 /// How many tickets each lane gave, from lane 0 on.
 pub(crate) type Counts = ShortList<MAX_LANES>;

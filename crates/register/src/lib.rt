@@ -2,6 +2,7 @@
 #![tactic(auto)]
 
 mod counts;
+mod laws;
 mod looking;
 mod register;
 mod replies;
@@ -10,7 +11,7 @@ mod tests;
 mod tickets;
 mod verdicts;
 
-pub use counts::MAX_LANES;
-pub use register::{Register, SERIAL_LIMIT};
+pub use laws::decisions_keep;
+pub use register::Register;
 pub use tickets::{Tickets, Turn};
 pub use verdicts::Verdict;

@@ -36,7 +36,7 @@ use std::alloc::Global;
 use std::marker::Model;
 
 /// The serials of a run are below this one.
-pub const SERIAL_LIMIT: u64 = 0x100_0000_0000;
+pub(crate) const SERIAL_LIMIT: u64 = 0x100_0000_0000;
 
 // Fewer places, and fewer tickets of each lane, are given than this.
 const ROOM: u64 = 0x4000_0000_0000_0000;

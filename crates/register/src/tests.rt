@@ -1,6 +1,6 @@
 use crate::{Register, Tickets, Verdict};
 use access_lists::{Caller, Names, Rights};
-use domains::Catalogue;
+use domains::{CatFault, Catalogue};
 use groups_links::LinkTo;
 use object_ids::{Kind, Name, ObjectId, read_path};
 use object_ops::{LinkPlace, Make, Op, Refusal, Reply, Request, on_text, refusal_json};
@@ -362,5 +362,27 @@ fn objects_take_serials_and_turns(rt: HostRuntime) -> Result<(), Fail> {
     assert_eq!(rt; register.lanes(), 2);
     assert_eq!(rt; register.run(), 1);
     assert_eq!(rt; register.serials_left(), 1_099_511_627_772);
+    Ok(())
+}
+
+#[test]
+fn domains_are_made_without_a_request(rt: HostRuntime) -> Result<(), Fail> {
+    let alloc = rt.alloc();
+    let mut register = opened(alloc)?;
+    let owner = name(alloc, "alice")?;
+    let lab = read_path(alloc, "/lab")?;
+    let far = read_path(alloc, "/none/lab")?;
+    let root = id(Kind::Group, 1, 0)?;
+    assert_eq!(rt; register.make_domain(&far, &owner), Err(CatFault::NoFolder));
+    assert_eq!(rt; register.make_domain(&lab, &owner), Ok(root));
+    assert_eq!(rt; register.make_domain(&lab, &owner), Err(CatFault::Taken));
+    assert_eq!(rt; register.serials_left(), 1_099_511_627_775);
+    assert_eq!(rt; register.places(), 0);
+    let alice = caller(alloc, "alice")?;
+    let asked = request(alloc, "/lab", Op::GetNode)?;
+    let text = told(&rt, alloc, &mut register, &alice, &asked)?;
+    let wanted =
+        r#"{"class":"domain","owner":"alice","root":"g-00000000-0001-8000-8000-010000000000"}"#;
+    assert_eq!(rt; text.as_str(), wanted);
     Ok(())
 }

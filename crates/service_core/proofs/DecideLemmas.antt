@@ -40,14 +40,15 @@ use Rattle.chunk_owner.specs.Acts.{HasFresh, IsStepOf, IsTouchedIn, acted, chang
 use Rattle.chunk_owner.proofs.Eaches.{same_id}
 use Rattle.chunk_owner.proofs.KeptLemmas.{touched_named}
 use Rattle.register.proofs.Counting.{length-counted}
+use Rattle.register.proofs.GrantLemmas.{each_from}
 use Rattle.register.specs.Decided.{Decides, Door, IsDoor, acl_body, acls_body, answered, at_maybe, cat_refusal, children_body, decided, domain_made, entry_put, entry_read, fits, folder_made, foreign_in, forgotten, grant_of, granted, in_domain, make_granted, make_steps, most_of, node_made, node_removed, object_granted, one_step, owner_of, passed, refused, serial_limit}
-use Rattle.register.specs.Tickets.{Issue, all_counted, counted, turns_from}
+use Rattle.register.specs.Tickets.{AreEach, Issue, all_counted, counted, turns_from}
 use Rattle.register.specs.declared.tickets.Turn.{Turn}
 use Rattle.register.specs.declared.verdicts.Verdict.{Verdict}
 use Rattle.register.specs.declared.verdicts.Verdict.TheVariants as verdict
-use Rattle.service_core.specs.Steps.{IsGiven}
-use Rattle.service_core.specs.Turns.{AreEach, AreReady, AreServable, IsServable}
-use Rattle.service_core.proofs.GivenLemmas.{AreGiven, HasGiven, MayGrant, given_same}
+use Rattle.service_core.specs.Steps.{AreGiven, IsGiven}
+use Rattle.service_core.specs.Turns.{AreReady, AreServable, IsServable}
+use Rattle.service_core.proofs.GivenLemmas.{HasGiven, MayGrant, given_same}
 use Rattle.service_core.proofs.WholeLemmas.{get-set_at}
 
 -- what was given stays given, of as many lanes, and one place more is
@@ -78,10 +79,6 @@ no_id id e = let both : None ≡ Some id = e in absurd (cc)
 length-all : (counts : List ℕ) → length (all_counted counts) ≡ length counts
 length-all [] = refl
 length-all (n ∷ ns) = let e = length-all ns in omega (arith, e)
-
-each_from : (n k : ℕ) (counts : List ℕ) → k + length counts ≡ n → AreEach n k (turns_from k counts)
-each_from n k [] e = omega (arith, e)
-each_from n k (c ∷ cs) e = (refl, let next : k + 1 ≡ suc k = omega arith in subst (λ (j : ℕ). AreEach n (suc k) (turns_from j cs)) (sym next) (each_from n (suc k) cs (omega (arith, e))))
 
 -- ---- operations
 

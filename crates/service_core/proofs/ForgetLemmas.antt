@@ -10,10 +10,10 @@ use Rattle.object_ids.proofs.IdOrders.{id_order_once, id_order_total}
 use Rattle.object_acts.specs.declared.objects.Object.{Object}
 use Rattle.chunk_owner.specs.Lanes.{Forgets, IsSameLane, Lane, Objects}
 use Rattle.chunk_owner.proofs.Eaches.{same_id}
+use Rattle.register.specs.Tickets.{AreEach}
 use Rattle.register.specs.declared.tickets.Turn.{Turn}
 use Rattle.service_core.specs.Joined.{AreLanes, IsLane, whole}
 use Rattle.service_core.specs.Steps.{without_domain}
-use Rattle.service_core.specs.Turns.{AreEach}
 use Rattle.service_core.proofs.WholeLemmas.{get-whole, or_else}
 
 abbrev absent : Option Object

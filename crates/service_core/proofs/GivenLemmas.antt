@@ -1,8 +1,9 @@
 -- The ids of objects were given, also after a request.
-use Rattle.std.proofs.Common.{◌≡◌, ℕ, ◌==◌, Bool, true, false, cond, List, [], ◌∷◌, Option, Some, None, refl, sym, ap, subst, ◌∙◌, arith, eqb-true}
+use Rattle.std.proofs.Common.{◌≡◌, ℕ, ◌+◌, ◌<◌, ◌==◌, nat_lt, IfSome, Bool, true, false, cond, List, [], ◌∷◌, Option, Some, None, refl, sym, ap, subst, ◌∙◌, arith, eqb-true}
 use Rattle.std.specs.FinMap.{get}
 use Rattle.json_trees.proofs.TreeLemmas.{both_true}
 use Rattle.object_ids.specs.IdValues.{Id}
+use Rattle.object_ids.specs.declared.ids.Kind.{Kind}
 use Rattle.object_ids.specs.IdOrder.{id_eq}
 use Rattle.object_ops.specs.declared.ops.Op.{Op}
 use Rattle.object_ops.specs.declared.ops.Op.TheVariants.{DropNode, DropObject, MakeObject}
@@ -13,21 +14,21 @@ use Rattle.object_ops.specs.declared.grants.Step.{Step}
 use Rattle.object_ops.specs.declared.grants.Step.TheVariants.{Only, Link, Make as Making}
 use Rattle.object_ops.specs.declared.replies.Reply.{Reply}
 use Rattle.object_ops.specs.declared.replies.Reply.TheVariants.{Refused}
-use Rattle.object_ops.specs.declared.refusals.Refusal.TheVariants.{Root}
 use Rattle.object_acts.specs.declared.objects.Object.{Object}
 use Rattle.object_acts.specs.Objects.{empty_group}
 use Rattle.object_acts.specs.Acts.{change_of, reads_object, reply_of}
-use Rattle.chunk_owner.specs.Lanes.{Each, Objects, set_at}
-use Rattle.chunk_owner.specs.Acts.{act, changed_by, changing, group_of, linking, link_to, make_act, missing, on_touched, reading, removed, seen, touched, touched_by_make}
+use Rattle.chunk_owner.specs.Lanes.{Objects, set_at}
+use Rattle.chunk_owner.specs.Acts.{act, changed_by, changing, group_of, is_done, linking, link_to, make_act, missing, on_touched, reading, removed, seen, touched, touched_by_make}
 use Rattle.chunk_owner.proofs.Eaches.{each_insert, each_remove, stays}
-use Rattle.register.specs.Decided.{Door}
+use Rattle.register.specs.Decided.{Door, fresh_given, serial_limit}
 use Rattle.register.specs.Tickets.{Issue}
 use Rattle.register.specs.declared.tickets.Turn.{Turn}
 use Rattle.register.specs.declared.verdicts.Verdict.{Verdict}
 use Rattle.register.specs.declared.verdicts.Verdict.TheVariants as verdict
 use Rattle.service_core.specs.declared.answers.What.{What}
 use Rattle.service_core.specs.declared.answers.What.TheVariants.{Replied, Denied, NoMemory}
-use Rattle.service_core.specs.Steps.{IsGiven, Obeys, StopsIn, is_done, run_on, served, started, step_taken, without_domain}
+use Rattle.service_core.specs.Steps.{AreGiven, IsGiven, Obeys, StopsIn, run_on, served, started, step_taken, without_domain}
+use Rattle.service_core.specs.Worlds.{IsFreshId}
 use Rattle.service_core.proofs.ForgetLemmas.{get-without}
 
 pub no_object : (o : Object) → None ≡ Some o → ⊥
@@ -43,10 +44,6 @@ given_same d id root e h =
     let run : id.run ≡ root.run = eqb-true id.run root.run c.0 in
     let serial : id.serial ≡ root.serial = eqb-true id.serial root.serial c.1 in
     record { number = omega (arith, h.number, domain); out = record { run = omega (arith, h.out.run, run); serial = λ same. omega (arith, h.out.serial (sym run ∙ same), serial) } }
-
--- the id of each object was given
-abbrev pub AreGiven : Door → Objects → Type 0
-AreGiven d = Each (λ id o. IsGiven d id)
 
 given_set : (d : Door) (m : Objects) (k : Id) (w : Option Object) → ((o : Object) → w ≡ Some o → IsGiven d k) → AreGiven d m → AreGiven d (set_at m k w)
 given_set d m k None h all = each_remove (λ id o. IsGiven d id) m k all
@@ -70,9 +67,9 @@ module _ (d : Door) (g : Grant) (root : IsGiven d g.root) (fresh : (id : Id) →
   on_none true op id o e = absurd (no_object o e)
   on_none false op id o e = changing_none id (change_of op) o e
 
-  removing_none : (b : Bool) (id : Id) (s : Option Object) (o : Object) → (cond b (Refused Root, None) (removed (missing g id) None s)).1 ≡ Some o → IsGiven d id
-  removing_none true id s o e = absurd (no_object o e)
-  removing_none false id None o e = absurd (no_object o e)
+  removing_none : (b : Bool) (id : Id) (s : Option Object) (o : Object) → (removed b (missing g id) None s).1 ≡ Some o → IsGiven d id
+  removing_none b id None o e = absurd (no_object o e)
+  removing_none true id (Some x) o e = absurd (no_object o e)
   removing_none false id (Some x) o e = absurd (no_object o e)
 
   linking_none : (place : Option LinkPlace) (new : Option Id) (id : Id) → group_of place ≡ Some id → (o : Object) → (linking g place new None).1 ≡ Some o → IsGiven d id
@@ -153,3 +150,26 @@ obeys_given d op (verdict.Refused refusal) m new (Replied r) h e all = same_give
 obeys_given d op (verdict.Refused refusal) m new (Denied right) h e all = same_given d (Denied right) new (Replied (Refused refusal), m) e all
 obeys_given d op (verdict.Refused refusal) m new NoMemory h e all = absurd e
 obeys_given d op verdict.NoMemory m new what h e all = subst (AreGiven d) (sym e.1) all
+
+-- ---- an id without a request
+
+-- an id that wasn't given has no object
+none_given : (d : Door) (m : Objects) (id : Id) → AreGiven d m → (IsGiven d id → ⊥) → get m id ≡ None
+none_given d m id all never = at (get m id) refl where
+  at : (o : Option Object) → get m id ≡ o → get m id ≡ None
+  at None e = e
+  at (Some x) e = absurd (never (all id x e))
+
+pub fresh_is : (d new : Door) (m : Objects) (k : Kind) (number : ℕ) (r : Option Id) → AreGiven d m → number < d.catalogue.next → (r, new) ≡ fresh_given d k number
+    → IfSome r (IsFreshId k number (record { door = new; objects = m }))
+fresh_is d new m k number r all below e =
+    subst (λ (p : Option Id × Door). IfSome p.0 (IsFreshId k number (record { door = p.1; objects = m }))) (sym e) (at (nat_lt d.serial serial_limit)) where
+      at : (b : Bool) → let p : Option Id × Door = cond b (Some (record { kind = k; domain = number; run = d.run; serial = d.serial }), record d { serial = d.serial + 1 }) (None, d) in
+          IfSome p.0 (IsFreshId k number (record { door = p.1; objects = m }))
+      at true = record {
+        kind = refl;
+        domain = refl;
+        given = record { number = below; out = record { run = omega arith; serial = λ same. omega arith } };
+        free = none_given d m (record { kind = k; domain = number; run = d.run; serial = d.serial }) all (λ h. let less : d.serial < d.serial = h.out.serial refl in absurd (omega arith));
+      }
+      at false = tt

@@ -29,7 +29,8 @@ use Rattle.object_ops.specs.declared.replies.Reply.{Reply}
 use Rattle.object_ops.specs.declared.replies.Reply.TheVariants.{Done, Refused}
 use Rattle.object_ops.specs.declared.refusals.Refusal.{Refusal}
 use Rattle.object_ops.specs.declared.refusals.Refusal.TheVariants.{Limit, NoDomain}
-use Rattle.chunk_owner.specs.Lanes.{Objects, shown}
+use Rattle.chunk_owner.specs.Acts.{acted, is_done}
+use Rattle.chunk_owner.specs.Lanes.{AreShown, Objects}
 use Rattle.chunk_owner.specs.Laws.{RefusalsLeaveAll}
 use Rattle.register.specs.Decided.{Door, at_maybe, decided, domain_made, entry_put, entry_read, fits, folder_made, foreign_in, forgotten, grant_of, granted, in_domain, make_steps, most_of, node_made, node_removed, object_granted, one_step, owner_of, passed, refused, serial_limit}
 use Rattle.register.specs.Tickets.{Issue}
@@ -37,8 +38,8 @@ use Rattle.register.specs.declared.tickets.Turn.{Turn}
 use Rattle.register.specs.declared.verdicts.Verdict.{Verdict}
 use Rattle.register.specs.declared.verdicts.Verdict.TheVariants as verdict
 use Rattle.service_core.specs.declared.answers.What.TheVariants.{Replied, Denied}
-use Rattle.service_core.specs.Keeps.{DecisionsKeep, DenialsKeep, KeepsAll, RefusalsKeep}
-use Rattle.service_core.specs.Steps.{by_verdict, is_done, run_on, served, started, step_taken}
+use Rattle.service_core.specs.Keeps.{DenialsKeep, KeepsAll, RefusalsKeep}
+use Rattle.service_core.specs.Steps.{by_verdict, run_on, served, started, step_taken}
 
 -- ---- the steps of a request
 
@@ -58,21 +59,23 @@ stays g op q (t ∷ ts) e = ap (λ b. cond b (run_on g op (step_taken g op t.ste
 refused_done : (r : Reply) (refusal : Refusal) → r ≡ Refused refusal → is_done r ≡ true → ⊥
 refused_done r refusal e done = let no : false ≡ true = sym (ap is_done e) ∙ done in absurd (cc)
 
-module _ (kept : RefusalsLeaveAll) (m : Objects) where
-  first_kept : (g : Grant) (op : Op) (o : Option Step) (refusal : Refusal) → (step_taken g op o (shown m)).0 ≡ Refused refusal → (step_taken g op o (shown m)).1 ≡ shown m
+module _ (kept : RefusalsLeaveAll) (m : Objects) (seen : AreShown m) where
+  first_kept : (g : Grant) (op : Op) (o : Option Step) (refusal : Refusal) → (step_taken g op o m).0 ≡ Refused refusal → (step_taken g op o m).1 ≡ m
   first_kept g op None refusal e = refl
-  first_kept g op (Some s) refusal e = kept g op s m refusal e
+  first_kept g op (Some s) refusal e =
+      let Keeps : Objects → Type 0 = λ x. (acted g op s x).0 ≡ Refused refusal → (acted g op s x).1 ≡ x in
+      subst Keeps seen (kept g op s m refusal) e
 
-  after_first : (g : Grant) (op : Op) (q : Reply × Objects) (ts : List Turn) → Succeed g op ts → ((refusal : Refusal) → q.0 ≡ Refused refusal → q.1 ≡ shown m)
-      → (done : Bool) → is_done q.0 ≡ done → (refusal : Refusal) → (run_on g op q ts).0 ≡ Refused refusal → (run_on g op q ts).1 ≡ shown m
+  after_first : (g : Grant) (op : Op) (q : Reply × Objects) (ts : List Turn) → Succeed g op ts → ((refusal : Refusal) → q.0 ≡ Refused refusal → q.1 ≡ m)
+      → (done : Bool) → is_done q.0 ≡ done → (refusal : Refusal) → (run_on g op q ts).0 ≡ Refused refusal → (run_on g op q ts).1 ≡ m
   after_first g op q ts all first true done refusal e = absurd (refused_done _ refusal e (all q done))
   after_first g op q ts all first false done refusal e =
       let same = stays g op q ts done in ap (λ p. p.1) same ∙ first refusal (sym (ap (λ p. p.0) same) ∙ e)
 
-  run_kept : (g : Grant) (op : Op) (ts : List Turn) → FirstDecides g op ts → (refusal : Refusal) → (run_on g op (started (shown m)) ts).0 ≡ Refused refusal → (run_on g op (started (shown m)) ts).1 ≡ shown m
+  run_kept : (g : Grant) (op : Op) (ts : List Turn) → FirstDecides g op ts → (refusal : Refusal) → (run_on g op (started m) ts).0 ≡ Refused refusal → (run_on g op (started m) ts).1 ≡ m
   run_kept g op [] all refusal e = refl
   run_kept g op (t ∷ ts) all refusal e =
-      let q = step_taken g op t.step (shown m) in after_first g op q ts all (first_kept g op t.step) (is_done q.0) refl refusal e
+      let q = step_taken g op t.step m in after_first g op q ts all (first_kept g op t.step) (is_done q.0) refl refusal e
 
 -- ---- what is decided
 
@@ -188,25 +191,6 @@ module _ (d : Door) where
 
 -- ---- the laws
 
-denial_left : (d : Door) (op : Op) (p : Verdict × Door) (right : Right) → Leaving d op p → p.0 ≡ verdict.Denied right → p.1 ≡ passed d
-denial_left d op (verdict.Granted issue, new) right left e = absurd (cc)
-denial_left d op (verdict.Answered answer, new) right left e = absurd (cc)
-denial_left d op (verdict.Denied other, new) right left e = left
-denial_left d op (verdict.Refused refusal, new) right left e = absurd (cc)
-denial_left d op (verdict.NoMemory, new) right left e = absurd (cc)
-
-refusal_left : (d : Door) (op : Op) (p : Verdict × Door) (refusal : Refusal) → Leaving d op p → p.0 ≡ verdict.Refused refusal → p.1 ≡ passed d
-refusal_left d op (verdict.Granted issue, new) refusal left e = absurd (cc)
-refusal_left d op (verdict.Answered answer, new) refusal left e = absurd (cc)
-refusal_left d op (verdict.Denied right, new) refusal left e = absurd (cc)
-refusal_left d op (verdict.Refused other, new) refusal left e = left
-refusal_left d op (verdict.NoMemory, new) refusal left e = absurd (cc)
-
-pub decisions_kept : DecisionsKeep
-decisions_kept d caller request =
-    let left = decided_left d caller request in
-    (λ right e. denial_left d request.op (decided d caller request) right left e, λ refusal e. refusal_left d request.op (decided d caller request) refusal left e)
-
 denied_left : (d : Door) (m : Objects) (op : Op) (p : Verdict × Door) (right : Right) → Leaving d op p → (by_verdict op p.0 m).0 ≡ Denied right → (p.1 ≡ passed d) × ((by_verdict op p.0 m).1 ≡ m)
 denied_left d m op (verdict.Granted issue, new) right left e = absurd (cc)
 denied_left d m op (verdict.Answered answer, new) right left e = absurd (cc)
@@ -222,16 +206,16 @@ denials_kept w caller request right e =
 answer_in : (r : Reply) (refusal : Refusal) → Replied r ≡ Replied (Refused refusal) → r ≡ Refused refusal
 answer_in r refusal e = cc
 
-module _ (kept : RefusalsLeaveAll) (d : Door) (m : Objects) where
-  served_left : (op : Op) (issue : Issue) (new : Door) (refusal : Refusal) → Granting d op issue new → (served op issue (shown m)).0 ≡ Refused refusal → KeepsAll op d new × ((served op issue (shown m)).1 ≡ shown m)
+module _ (kept : RefusalsLeaveAll) (d : Door) (m : Objects) (seen : AreShown m) where
+  served_left : (op : Op) (issue : Issue) (new : Door) (refusal : Refusal) → Granting d op issue new → (served op issue m).0 ≡ Refused refusal → KeepsAll op d new × ((served op issue m).1 ≡ m)
   served_left DropNode issue new refusal left e = absurd (cc)
-  served_left op issue new refusal left e = (left.0, run_kept kept m issue.grant op issue.left left.1 refusal e)
+  served_left op issue new refusal left e = (left.0, run_kept kept m seen issue.grant op issue.left left.1 refusal e)
 
   same_door : (op : Op) (new : Door) → new ≡ passed d → KeepsAll op d new
   same_door op new e = subst (KeepsAll op d) (sym e) (record { catalogue = refl; run = refl; places = refl; serial = inl refl })
 
-  refused_left : (op : Op) (p : Verdict × Door) (refusal : Refusal) → Leaving d op p → (by_verdict op p.0 (shown m)).0 ≡ Replied (Refused refusal)
-      → KeepsAll op d p.1 × ((by_verdict op p.0 (shown m)).1 ≡ shown m)
+  refused_left : (op : Op) (p : Verdict × Door) (refusal : Refusal) → Leaving d op p → (by_verdict op p.0 m).0 ≡ Replied (Refused refusal)
+      → KeepsAll op d p.1 × ((by_verdict op p.0 m).1 ≡ m)
   refused_left op (verdict.Granted issue, new) refusal left e = served_left op issue new refusal left (answer_in _ refusal e)
   refused_left op (verdict.Answered answer, new) refusal left e = absurd (refused_done answer refusal (answer_in answer refusal e) left)
   refused_left op (verdict.Denied right, new) refusal left e = absurd (cc)
@@ -239,4 +223,5 @@ module _ (kept : RefusalsLeaveAll) (d : Door) (m : Objects) where
   refused_left op (verdict.NoMemory, new) refusal left e = absurd (cc)
 
 pub refusals_kept : RefusalsLeaveAll → RefusalsKeep
-refusals_kept kept d objects caller request refusal e = refused_left kept d objects request.op (decided d caller request) refusal (decided_left d caller request) e
+refusals_kept kept w caller request refusal seen e =
+    refused_left kept w.door w.objects seen request.op (decided w.door caller request) refusal (decided_left w.door caller request) e

@@ -7,3 +7,5 @@ pub mod WorldLemmas
 pub mod ReplayLemmas
 pub mod NextLemmas
 pub mod KeepLemmas
+pub mod AlikeLemmas
+pub mod LawLemmas

@@ -1,12 +1,13 @@
 -- Turns in order.
-use Rattle.std.proofs.Common.{◌≡◌, ℕ, ◌<◌, List, [], ◌∷◌, ◌++◌, Bool, true, false, cond, IsSome, Option, Some, None, Ok, Err, refl, sym, ap, subst, ◌∙◌, append_assoc}
+use Rattle.std.proofs.Common.{◌≡◌, ℕ, ◌<◌, List, [], ◌∷◌, ◌++◌, map, Bool, true, false, cond, IsSome, Option, Some, None, Ok, Err, refl, sym, ap, subst, ◌∙◌, append_assoc}
 use Rattle.object_ops.specs.declared.ops.Op.{Op}
 use Rattle.object_ops.specs.declared.grants.Grant.{Grant}
 use Rattle.object_ops.specs.declared.grants.Step.{Step}
 use Rattle.object_ops.specs.declared.replies.Reply.{Reply}
+use Rattle.chunk_owner.specs.Acts.{is_done}
 use Rattle.chunk_owner.specs.Lanes.{Objects}
 use Rattle.register.specs.declared.tickets.Turn.{Turn}
-use Rattle.service_core.specs.Steps.{StopsIn, Takes, is_done, run_on, started, step_taken}
+use Rattle.service_core.specs.Steps.{StopsIn, Takes, run_on, started, step_taken}
 use Rattle.service_core.specs.Turns.{AreReady, IsReadyAt}
 
 -- what was done of some turns, and what is left
@@ -31,6 +32,15 @@ module _ (g : Grant) (op : Op) where
   run_on-append : (p : Reply × Objects) (xs ys : List Turn) → run_on g op p (xs ++ ys) ≡ run_on g op (run_on g op p xs) ys
   run_on-append p [] ys = refl
   run_on-append p (x ∷ xs) ys = append_by p (step_taken g op x.step p.1) xs ys (is_done p.0) refl (run_on-append (step_taken g op x.step p.1) xs ys)
+
+  -- only the steps of turns matter
+  abbrev pub run_steps : Reply × Objects → List (Option Step) → Reply × Objects
+  run_steps p [] = p
+  run_steps p (s ∷ ss) = cond (is_done p.0) (run_steps (step_taken g op s p.1) ss) p
+
+  pub run_by_steps : (p : Reply × Objects) (ts : List Turn) → run_on g op p ts ≡ run_steps p (map (λ t. t.step) ts)
+  run_by_steps p [] = refl
+  run_by_steps p (t ∷ ts) = ap (λ (q : Reply × Objects). cond (is_done p.0) q p) (run_by_steps (step_taken g op t.step p.1) ts)
 
   taken : (E : Type 0) (o : Option Step) (m new : Objects) (r : Reply) → Takes {E = E} g op o m (Ok r) new → step_taken g op o m ≡ (r, new)
   taken E None m new r h = sym h

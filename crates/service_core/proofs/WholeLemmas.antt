@@ -1,8 +1,9 @@
 -- What is done in one lane is done among all objects.
-use Rattle.std.proofs.Common.{◌≡◌, ◌≢◌, ◌⊎◌, ⊎_elim, ℕ, zero, suc, ◌+◌, ◌<◌, Bool, true, false, cond, List, [], ◌∷◌, ◌++◌, length, get_or, IsSomeAnd, OnOk, OnErr, Option, Some, None, Result, Ok, Err, refl, sym, ap, subst, ◌∙◌, arith}
+use Rattle.std.proofs.Common.{◌≡◌, ◌≢◌, ◌⊎◌, ⊎_elim, ℕ, zero, suc, ◌+◌, ◌<◌, Bool, true, false, cond, List, [], ◌∷◌, ◌++◌, length, get_or, option_map, IsSomeAnd, OnOk, OnErr, Option, Some, None, Result, Ok, Err, refl, sym, ap, subst, ◌∙◌, arith}
 use Rattle.std.specs.Prelude.{slice_set}
 use Rattle.std.specs.Ordering.{eq_by_cmp}
 use Rattle.std.specs.FinMap.{empty, entries, find, get, get-empty, get-entries, get-insert, get-remove, insert, same_map}
+use Rattle.text_maps.proofs.ValueMaps.{empty-values}
 use Rattle.object_ids.specs.IdValues.{Id}
 use Rattle.object_ids.specs.IdOrder.{id_order}
 use Rattle.object_ids.specs.Ids.{lane_of}
@@ -14,9 +15,10 @@ use Rattle.object_ops.specs.declared.ops.Make.{Make}
 use Rattle.object_ops.specs.declared.grants.Grant.{Grant}
 use Rattle.object_ops.specs.declared.replies.Reply.{Reply}
 use Rattle.object_acts.specs.declared.objects.Object.{Object}
-use Rattle.chunk_owner.specs.Lanes.{IsSameLane, Lane, Objects, set_at}
+use Rattle.object_acts.specs.Objects.{unmarked}
+use Rattle.chunk_owner.specs.Lanes.{AreShown, Each, IsSameLane, Lane, Objects, set_at}
 use Rattle.chunk_owner.specs.Acts.{HasFresh, IsFreshFor, IsTouchedIn, on_touched}
-use Rattle.chunk_owner.proofs.Eaches.{same_id}
+use Rattle.chunk_owner.proofs.Eaches.{get-shown, same_id}
 use Rattle.service_core.specs.Joined.{AreLanes, IsLane, merged, whole}
 
 -- ---- one map of many
@@ -212,3 +214,30 @@ whole_push ls x none before = same_map id_order_total id_order_once _ _ (λ q.
 
 pub new_lane : (n k : ℕ) (x : Lane) → x ≡ record { lane = k; lanes = n; objects = empty } → IsLane n k x
 new_lane n k x e = subst (IsLane n k) (sym e) (record { lane = refl; lanes = refl; own = λ q far. get-empty id_order q })
+
+-- ---- what holds of each object
+
+pub each_push : (P : Id → Object → Type 0) (ls : List Lane) (x : Lane) → Each P (whole ls) → Each P x.objects → Each P (whole (ls ++ x ∷ []))
+each_push P ls x a b q o e = at (get (whole ls) q) (get x.objects q) refl refl (sym (get-push ls x q) ∙ e) where
+  at : (w v : Option Object) → get (whole ls) q ≡ w → get x.objects q ≡ v → or_else w v ≡ Some o → P q o
+  at (Some y) v here there f = a q o (here ∙ f)
+  at None v here there f = b q o (there ∙ f)
+
+-- ---- as requests see them
+
+shown_at : (m : Objects) → AreShown m → (q : Id) → option_map unmarked (get m q) ≡ get m q
+shown_at m e q = sym (get-shown m q) ∙ ap (λ (w : Objects). get w q) e
+
+shown_either : (p j : Option Object) → option_map unmarked p ≡ p → option_map unmarked j ≡ j → option_map unmarked (or_else p j) ≡ or_else p j
+shown_either (Some x) j a b = a
+shown_either None j a b = b
+
+pub shown_push : (ls : List Lane) (x : Lane) → AreShown (whole ls) → AreShown x.objects → AreShown (whole (ls ++ x ∷ []))
+shown_push ls x a b = same_map id_order_total id_order_once _ _ (λ q.
+    get-shown (whole (ls ++ x ∷ [])) q
+    ∙ ap (option_map unmarked) (get-push ls x q)
+    ∙ shown_either (get (whole ls) q) (get x.objects q) (shown_at (whole ls) a q) (shown_at x.objects b q)
+    ∙ sym (get-push ls x q))
+
+pub shown_none : AreShown (whole [])
+shown_none = empty-values id_order_total id_order_once unmarked

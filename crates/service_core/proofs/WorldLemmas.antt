@@ -16,10 +16,10 @@ use Rattle.service_core.specs.declared.answers.Answer.{Answer}
 use Rattle.service_core.specs.declared.answers.What.{What}
 use Rattle.service_core.specs.declared.answers.What.TheVariants.{Replied, Denied, NoMemory}
 use Rattle.service_core.specs.Joined.{AreLanes, whole}
-use Rattle.service_core.specs.Steps.{IsAnswered, IsGiven, Obeys, Steps, StopsAt, World, by_verdict, step}
+use Rattle.service_core.specs.Steps.{AreGiven, IsAnswered, IsGiven, Obeys, Steps, StopsAt, World, by_verdict, step}
 use Rattle.service_core.specs.Turns.{IsServable}
 use Rattle.service_core.specs.Worlds.{IsBuilt, IsNew}
-use Rattle.service_core.proofs.GivenLemmas.{AreGiven, obeys_given}
+use Rattle.service_core.proofs.GivenLemmas.{obeys_given}
 use Rattle.service_core.proofs.WholeLemmas.{at_home}
 use Rattle.service_core.proofs.DecideLemmas.{decides_is, given_later}
 
@@ -81,14 +81,14 @@ module _ (d : Door) (owners : List Lane) (caller : Caller) (request : Request) (
   -- what is granted can be served
   pub servable_now : (v : Verdict) (new : Door) → Decides d caller request v new → IsServable (length owners) request.op v (whole owners)
   servable_now v new e =
-      subst (λ (n : ℕ). IsServable n request.op v (whole owners)) (sym built.count) (decides_is d (whole owners) door built.world.given catalogue caller request v new e).servable
+      subst (λ (n : ℕ). IsServable n request.op v (whole owners)) (sym built.count) (decides_is d (whole owners) door built.given catalogue caller request v new e).servable
 
   pub built_after : (v : Verdict) (what : What) (new : Door) (left : List Lane) → Decides d caller request v new → Obeys request.op v (whole owners) what (whole left)
       → length left ≡ length owners → AreLanes (length owners) 0 left → IsBuilt new left
   built_after v what new left e h same lanes = record {
-    count = same ∙ built.count ∙ sym (decides_is d (whole owners) door built.world.given catalogue caller request v new e).grows.lanes;
+    count = same ∙ built.count ∙ sym (decides_is d (whole owners) door built.given catalogue caller request v new e).grows.lanes;
     lanes = subst (λ (n : ℕ). AreLanes n 0 left) (sym same) lanes;
-    world = record { given = given_after d new (whole owners) (whole left) caller request door catalogue built.world.given v what e h };
+    given = given_after d new (whole owners) (whole left) caller request door catalogue built.given v what e h;
   }
 
 pub steps_said : (d new : Door) (owners left taken : List Lane) (old : World) (caller : Caller) (request : Request) (v : Verdict) (answer : Answer)
@@ -103,7 +103,7 @@ pub new_built : (d : Door) (owners : List Lane) (n : ℕ) → n ≡ length d.iss
 new_built d owners n e new = record {
   count = new.count ∙ e;
   lanes = subst (λ (j : ℕ). AreLanes j 0 owners) (sym new.count) new.lanes;
-  world = record { given = subst (AreGiven d) (sym new.empty) (each_empty (λ id o. IsGiven d id)) };
+  given = subst (AreGiven d) (sym new.empty) (each_empty (λ id o. IsGiven d id));
 }
 
 -- an object stands in the lane of its id
@@ -120,8 +120,8 @@ pub built_put : {E : Type 0} (d : Door) (owners left : List Lane) (id : Id) (o :
 built_put d owners left id o r built given same lanes ok err = record {
   count = same ∙ built.count;
   lanes = subst (λ (n : ℕ). AreLanes n 0 left) (sym same) lanes;
-  world = record { given = all r ok err };
+  given = all r ok err;
 } where
   all : {E : Type 0} (r : Result (Unit {0}) E) → OnOk r (whole left ≡ insert (whole owners) id o) → OnErr r (whole left ≡ whole owners) → AreGiven d (whole left)
-  all (Ok u) ok err = subst (AreGiven d) (sym ok) (each_insert (λ id o. IsGiven d id) (whole owners) id o given built.world.given)
-  all (Err x) ok err = subst (AreGiven d) (sym err) built.world.given
+  all (Ok u) ok err = subst (AreGiven d) (sym ok) (each_insert (λ id o. IsGiven d id) (whole owners) id o given built.given)
+  all (Err x) ok err = subst (AreGiven d) (sym err) built.given

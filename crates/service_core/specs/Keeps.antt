@@ -7,9 +7,8 @@ use Rattle.object_ops.specs.declared.ops.Op.{Op}
 use Rattle.object_ops.specs.declared.ops.Op.TheVariants.{MakeObject}
 use Rattle.object_ops.specs.declared.refusals.Refusal.{Refusal}
 use Rattle.object_ops.specs.declared.replies.Reply.TheVariants as reply
-use Rattle.chunk_owner.specs.Lanes.{Objects, shown}
-use Rattle.register.specs.Decided.{Door, decided, passed}
-use Rattle.register.specs.declared.verdicts.Verdict.TheVariants as verdict
+use Rattle.chunk_owner.specs.Lanes.{AreShown}
+use Rattle.register.specs.Decided.{Door, passed}
 use Rattle.service_core.specs.declared.answers.What.TheVariants.{Replied, Denied}
 use Rattle.service_core.specs.Steps.{World, step}
 
@@ -24,20 +23,13 @@ pub record KeepsAll (op : Op) (old new : Door) : Type 0 where
   pub places : new.places ≡ old.places + 1
   pub serial : (new.serial ≡ old.serial) ⊎ ((makes_object op ≡ true) × (new.serial ≡ old.serial + 1))
 
--- a denial, and what is refused when a request is decided, leave the register but for the place
-abbrev pub DecisionsKeep : Type 0
-DecisionsKeep = (d : Door) (caller : Caller) (request : Request)
-    → ((right : Right) → (decided d caller request).0 ≡ verdict.Denied right → (decided d caller request).1 ≡ passed d)
-    × ((refusal : Refusal) → (decided d caller request).0 ≡ verdict.Refused refusal → (decided d caller request).1 ≡ passed d)
-
 -- a denied request leaves the world but for the place
 abbrev pub DenialsKeep : Type 0
 DenialsKeep = (w : World) (caller : Caller) (request : Request) (right : Right) → (step w caller request).0 ≡ Denied right
     → (step w caller request).1 ≡ record { door = passed w.door; objects = w.objects }
 
--- a refused request leaves all objects as requests see them, and the catalogue
+-- a refused request leaves all objects, and the catalogue
 abbrev pub RefusalsKeep : Type 0
-RefusalsKeep = (d : Door) (objects : Objects) (caller : Caller) (request : Request) (refusal : Refusal)
-    → (step (record { door = d; objects = shown objects }) caller request).0 ≡ Replied (reply.Refused refusal)
-    → KeepsAll request.op d (step (record { door = d; objects = shown objects }) caller request).1.door
-    × ((step (record { door = d; objects = shown objects }) caller request).1.objects ≡ shown objects)
+RefusalsKeep = (w : World) (caller : Caller) (request : Request) (refusal : Refusal) → AreShown w.objects
+    → (step w caller request).0 ≡ Replied (reply.Refused refusal)
+    → KeepsAll request.op w.door (step w caller request).1.door × ((step w caller request).1.objects ≡ w.objects)

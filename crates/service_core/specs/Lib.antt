@@ -4,3 +4,4 @@ pub mod Turns
 pub mod Worlds
 pub mod Replays
 pub mod Keeps
+pub mod Laws

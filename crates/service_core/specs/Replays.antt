@@ -14,6 +14,11 @@ pub record Call : Type 0 where
   pub answer : Answer
   pub after : World
 
+-- calls on a world, one after another, whatever they were answered, and the world after the last
+abbrev pub AreSteps : World → List Call → World → Type 0
+AreSteps w [] last = last ≡ w
+AreSteps w (c ∷ cs) last = Steps w c.caller c.request c.answer c.after × AreSteps c.after cs last
+
 -- calls on a world, one after another, which all found memory, and the world after the last
 abbrev pub AreCalls : World → List Call → World → Type 0
 AreCalls w [] last = last ≡ w

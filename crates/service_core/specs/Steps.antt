@@ -12,8 +12,8 @@ use Rattle.object_ops.specs.declared.grants.Grant.{Grant}
 use Rattle.object_ops.specs.declared.grants.Step.{Step}
 use Rattle.object_ops.specs.declared.replies.Reply.{Reply}
 use Rattle.object_ops.specs.declared.replies.Reply.TheVariants as reply
-use Rattle.chunk_owner.specs.Lanes.{Each, Objects}
-use Rattle.chunk_owner.specs.Acts.{acted}
+use Rattle.chunk_owner.specs.Lanes.{AreOfKind, AreShown, Each, Objects}
+use Rattle.chunk_owner.specs.Acts.{acted, is_done}
 use Rattle.register.specs.Tickets.{Issue}
 use Rattle.register.specs.Decided.{Door, IsDenial, IsGivenOut, decided, is_of_nodes, passed}
 use Rattle.register.specs.declared.tickets.Turn.{Turn}
@@ -29,10 +29,6 @@ pub record World : Type 0 where
   pub objects : Objects
 
 -- ---- a granted request
-
-abbrev pub is_done : Reply → Bool
-is_done (reply.Done status body) = true
-is_done (reply.Refused refusal) = false
 
 -- what one step answers and leaves
 abbrev pub step_taken : Grant → Op → Option Step → Objects → Reply × Objects
@@ -134,11 +130,17 @@ Obeys op verdict old what new = (what, new) ≡ by_verdict op verdict old
 
 -- ---- what is true of every world
 
--- the number and the serial of the id were given
+-- the number is below the next, and the serial was given out
 pub record IsGiven (door : Door) (id : Id) : Type 0 where
   pub number : id.domain < door.catalogue.next
   pub out : IsGivenOut door.run door.serial id
 
 -- the id of each object was given
+abbrev pub AreGiven : Door → Objects → Type 0
+AreGiven door = Each (λ id o. IsGiven door id)
+
+-- the ids were given, and each object is of its id's kind and as requests see it
 pub record IsWorld (w : World) : Type 0 where
-  pub given : Each (λ id o. IsGiven w.door id) w.objects
+  pub given : AreGiven w.door w.objects
+  pub kinds : AreOfKind w.objects
+  pub shown : AreShown w.objects

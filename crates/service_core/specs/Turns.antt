@@ -1,17 +1,17 @@
 -- When the turns of a request can be taken, one after another.
-use Rattle.std.specs.Prelude.{◌≡◌, ℕ, suc, ◌<◌, List, [], ◌∷◌, true, Option, Some, None}
+use Rattle.std.specs.Prelude.{◌≡◌, ℕ, ◌<◌, List, [], ◌∷◌, true, Option, Some, None}
 use Rattle.object_ids.specs.declared.ids.Kind.TheVariants.{Group}
 use Rattle.object_ops.specs.declared.ops.Op.{Op}
 use Rattle.object_ops.specs.declared.ops.Op.TheVariants.{DropNode}
 use Rattle.object_ops.specs.declared.grants.Grant.{Grant}
 use Rattle.object_ops.specs.declared.grants.Step.{Step}
 use Rattle.chunk_owner.specs.Lanes.{Objects}
-use Rattle.chunk_owner.specs.Acts.{touched, HasFresh, IsStepOf, IsTouchedIn}
-use Rattle.register.specs.Tickets.{Issue}
+use Rattle.chunk_owner.specs.Acts.{is_done, touched, HasFresh, IsStepOf, IsTouchedIn}
+use Rattle.register.specs.Tickets.{AreEach, Issue}
 use Rattle.register.specs.declared.tickets.Turn.{Turn}
 use Rattle.register.specs.declared.verdicts.Verdict.{Verdict}
 use Rattle.register.specs.declared.verdicts.Verdict.TheVariants.{Granted}
-use Rattle.service_core.specs.Steps.{is_done, step_taken}
+use Rattle.service_core.specs.Steps.{step_taken}
 
 -- the step is one of the request's, its object is of the lane, and what it makes has an id without an object
 pub record IsReady (lanes lane : ℕ) (g : Grant) (op : Op) (s : Step) (m : Objects) : Type 0 where
@@ -28,11 +28,6 @@ abbrev pub AreReady : ℕ → Grant → Op → Objects → List Turn → Type 0
 AreReady lanes g op m [] = Unit {0}
 AreReady lanes g op m (t ∷ ts) =
     (t.lane < lanes) × IsReadyAt lanes t.lane g op t.step m × (is_done (step_taken g op t.step m).0 ≡ true → AreReady lanes g op (step_taken g op t.step m).1 ts)
-
--- one turn of each lane from a number on, in order
-abbrev pub AreEach : ℕ → ℕ → List Turn → Type 0
-AreEach lanes lane [] = lane ≡ lanes
-AreEach lanes lane (t ∷ ts) = (t.lane ≡ lane) × AreEach lanes (suc lane) ts
 
 -- the removal of a domain has a turn in each lane
 abbrev pub AreServable : ℕ → Op → Issue → Objects → Type 0

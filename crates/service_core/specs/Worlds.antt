@@ -1,26 +1,34 @@
 -- How a world is built from its parts.
 use Rattle.std.specs.Prelude.{◌≡◌, ℕ, List, length, Option, Some, None, if◌then◌else◌}
-use Rattle.std.specs.FinMap.{empty, insert}
+use Rattle.std.specs.FinMap.{empty, get, insert}
 use Rattle.std.specs.Ordering.{is_lt}
 use Rattle.object_ids.specs.IdOrder.{id_order}
 use Rattle.object_ids.specs.IdValues.{Id}
+use Rattle.object_ids.specs.declared.ids.Kind.{Kind}
 use Rattle.object_acts.specs.declared.objects.Object.{Object}
 use Rattle.chunk_owner.specs.Lanes.{Lane}
 use Rattle.register.specs.Decided.{Door}
 use Rattle.service_core.specs.Joined.{AreLanes, whole}
-use Rattle.service_core.specs.Steps.{IsWorld, World}
+use Rattle.service_core.specs.Steps.{AreGiven, IsGiven, World}
 
 -- one owner for each lane, in order, and all that they hold was given
 pub record IsBuilt (door : Door) (owners : List Lane) : Type 0 where
   pub count : length owners ≡ length door.issued
   pub lanes : AreLanes (length owners) 0 owners
-  pub world : IsWorld (record { door = door; objects = whole owners })
+  pub given : AreGiven door (whole owners)
 
 -- an owner for each of so many lanes, without objects
 pub record IsNew (many : ℕ) (owners : List Lane) : Type 0 where
   pub count : length owners ≡ many
   pub lanes : AreLanes many 0 owners
   pub empty : whole owners ≡ empty
+
+-- an id of a kind, of the domain of a number, that was given and has no object
+pub record IsFreshId (k : Kind) (number : ℕ) (w : World) (id : Id) : Type 0 where
+  pub kind : id.kind ≡ k
+  pub domain : id.domain ≡ number
+  pub given : IsGiven w.door id
+  pub free : get w.objects id ≡ None
 
 -- a world with another register
 abbrev pub with_door : World → Door → World

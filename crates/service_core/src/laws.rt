@@ -1,9 +1,12 @@
-//! What holds of requests that aren't served, and of many.
+//! What holds of every step, and of many.
 
-ghost use Rattle.service_core.specs.Keeps.{DecisionsKeep, DenialsKeep, RefusalsKeep};
+ghost use Rattle.service_core.specs.Keeps.{DenialsKeep, RefusalsKeep};
+ghost use Rattle.service_core.specs.Laws.{DomainsAreForgotten, LinkedThenMade, MadeAlone, OneObject};
+ghost use Rattle.service_core.specs.Laws.{PlacesInOrder, ReplaysAlike, StepsAlike};
 ghost use Rattle.service_core.specs.Replays.{CallsAreReplays};
 
 use chunk_owner::refusals_leave_all;
+use register::decisions_keep;
 
 /// The answers of any calls on a world, one after another, are those of the replay of their requests, and so is the world
 /// after them. Only where memory runs out is the replay left.
@@ -12,11 +15,35 @@ pub fn calls_are_replays()
 {}
 
 /// A denied request leaves the world but for the place that it took. A refused one leaves the catalogue, the run and all
-/// objects as requests see them; a serial is taken at most where an object was to be made.
+/// objects; a serial is taken at most where an object was to be made.
 pub fn unserved_requests_keep_the_world()
-    ensures decided { DecisionsKeep }
     ensures denied { DenialsKeep }
     ensures refused { RefusalsKeep }
 {
     refusals_leave_all();
+}
+
+/// Calls have the places in order, one each, whatever they are answered.
+pub fn places_in_order()
+    ensures { PlacesInOrder }
+{
+    decisions_keep();
+}
+
+/// The places and tickets that were given, and how many lanes there are, don't matter: worlds that are alike but for these
+/// answer each request alike, and so any requests one after another.
+pub fn places_and_tickets_tell_nothing()
+    ensures step { StepsAlike }
+    ensures replay { ReplaysAlike }
+{}
+
+/// A new object is made where its link was done, and alone without a link; an operation on one object is one act on that
+/// object, and each other object stays; once a domain is removed, no id of its number has an object.
+pub fn granted_requests_in_other_words()
+    ensures linked { LinkedThenMade }
+    ensures alone { MadeAlone }
+    ensures one { OneObject }
+    ensures forgotten { DomainsAreForgotten }
+{
+    decisions_keep();
 }

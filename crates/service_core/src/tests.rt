@@ -9,10 +9,11 @@ use crate::{What, World};
 use access_lists::{Caller, Names, Rights};
 use chunk_layout::default_layout;
 use domains::Catalogue;
-use groups_links::good_title;
+use groups_links::{LinkTo, good_title};
 use hdf_types::read_type;
 use hdf_values::read_attribute;
 use json_trees::Tree;
+use object_acts::Object;
 use object_ids::{Kind, Name, ObjectId, read_path};
 use object_ops::{
     LinkPlace, Make, Op, Part, Refusal, Reply, Request, SelectText, on_text, refusal_json,
@@ -55,6 +56,8 @@ enum Ask {
     Entry(&'static str, Rights),
     Group,
     Linked(&'static str),
+    PutLink(&'static str),
+    GetLink(&'static str),
     GetGroup(u8, u8),
     DropGroup(u8, u8),
     DropDataset(u8, u8),
@@ -180,6 +183,26 @@ fn linked(rt: &(impl Abort + AllocGlobal), text: &str) -> Op
     }))
 }
 
+/// A link of the root of the domain 1, to the object behind it.
+fn put_link(rt: &(impl Abort + AllocGlobal), text: &str) -> Op
+    ensures { IsSoundOp result }
+{
+    Op::PutLink {
+        id: id(Kind::Group, 1, 0),
+        title: title(rt, text),
+        link: LinkTo::Hard(id(Kind::Group, 1, 1)),
+    }
+}
+
+fn get_link(rt: &(impl Abort + AllocGlobal), text: &str) -> Op
+    ensures { IsSoundOp result }
+{
+    Op::GetLink {
+        id: id(Kind::Group, 1, 0),
+        title: title(rt, text),
+    }
+}
+
 /// A type, a shape, and the title of the link in which a dataset is made.
 struct Made {
     kind: &'static str,
@@ -274,6 +297,8 @@ fn op(rt: &(impl Abort + AllocGlobal), ask: Ask) -> Op
         },
         Ask::Group => group(None),
         Ask::Linked(text) => linked(rt, text),
+        Ask::PutLink(text) => put_link(rt, text),
+        Ask::GetLink(text) => get_link(rt, text),
         Ask::GetGroup(domain, serial) => Op::GetObject {
             id: id(Kind::Group, domain, serial),
         },
@@ -508,6 +533,70 @@ fn objects_take_serials(rt: HostRuntime) -> Result<(), Fail> {
     assert!(rt; world.object(&first).is_none());
     assert!(rt; world.next_id(None).is_none());
     Ok(())
+}
+
+#[test]
+fn objects_are_put_without_a_request(rt: HostRuntime) -> Result<(), Fail> {
+    let alloc = rt.alloc();
+    let mut world = opened(alloc)?;
+    let path = read_path(alloc, "/lab")?;
+    let Ok(root) = world.make_domain(&path, &name(&rt, "alice")) else {
+        return Err(Fail::from("a domain"));
+    };
+    let Some(fresh) = world.fresh(Kind::Group, root.domain) else {
+        return Err(Fail::from("a serial"));
+    };
+    world.put_object(fresh, Object::new_group(alloc))?;
+    assert_eq!(rt; root, id(Kind::Group, 1, 0));
+    assert_eq!(rt; fresh, id(Kind::Group, 1, 1));
+    assert!(rt; world.object(&fresh).is_some());
+    assert!(rt; world.object(&root).is_none());
+    assert_eq!(rt; world.next_id(None), Some(fresh));
+    assert!(rt; world.next_id(Some(&fresh)).is_none());
+    assert_eq!(rt; world.serials_left(), 1_099_511_627_774);
+    assert_eq!(rt; world.places(), 0);
+    let rows: [Row; 1] = [(
+        "alice",
+        "/lab",
+        Ask::GetGroup(1, 1),
+        r#"200 {"attributeCount":0,"id":"g-00000000-0001-8000-8000-010000000001","linkCount":0,"root":"g-00000000-0001-8000-8000-010000000000"}"#,
+    )];
+    try_rows(&rt, &mut world, rows.as_slice())
+}
+
+#[test]
+fn a_denied_link_leaves_its_title_free(rt: HostRuntime) -> Result<(), Fail> {
+    let mut world = opened(rt.alloc())?;
+    let lab = "/lab";
+    let rows: [Row; 6] = [
+        (
+            "alice",
+            lab,
+            Ask::Domain,
+            r#"201 {"class":"domain","owner":"alice","root":"g-00000000-0001-8000-8000-010000000000"}"#,
+        ),
+        ("alice", lab, Ask::Entry("g:lab", READ), "201 {}"),
+        (
+            "bob",
+            lab,
+            Ask::PutLink("a"),
+            r#"403 {"domain":"/lab","reason":"forbidden","right":"create"}"#,
+        ),
+        (
+            "alice",
+            lab,
+            Ask::GetLink("a"),
+            r#"404 {"name":"a","reason":"no-name"}"#,
+        ),
+        ("alice", lab, Ask::PutLink("a"), "201 {}"),
+        (
+            "alice",
+            lab,
+            Ask::GetLink("a"),
+            r#"200 {"link":{"class":"H5L_TYPE_HARD","collection":"groups","id":"g-00000000-0001-8000-8000-010000000001","title":"a"}}"#,
+        ),
+    ];
+    try_rows(&rt, &mut world, rows.as_slice())
 }
 
 #[test]

@@ -4,10 +4,11 @@ ghost use Rattle.std.specs.Prelude.{◌≡◌, ◌<◌, [], List, length, Some, 
 ghost use Rattle.object_ids.specs.declared.ids.Kind.TheVariants.{Group};
 ghost use Rattle.object_ops.specs.Answers.{Follows};
 ghost use Rattle.object_ops.specs.Conditions.{IsSoundOp};
-ghost use Rattle.chunk_owner.specs.Acts.{acted};
+ghost use Rattle.chunk_owner.specs.Acts.{acted, is_done};
+ghost use Rattle.register.specs.Tickets.{AreEach};
 ghost use Rattle.service_core.specs.Joined.{AreLanes, whole};
-ghost use Rattle.service_core.specs.Steps.{Runs, Serves, Takes, is_done, without_domain};
-ghost use Rattle.service_core.specs.Turns.{AreEach, AreReady, AreServable, IsReadyAt};
+ghost use Rattle.service_core.specs.Steps.{Runs, Serves, Takes, without_domain};
+ghost use Rattle.service_core.specs.Turns.{AreReady, AreServable, IsReadyAt};
 
 use chunk_owner::Owner;
 use object_ops::{Grant, Op, Reply, Step};

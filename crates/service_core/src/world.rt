@@ -1,19 +1,20 @@
 //! The world.
 
-ghost use Rattle.std.specs.Prelude.{◌≡◌, ◌↔◌, IsTrue, ◌+◌, ◌<◌, length, None, IfOk, OnErr, OnOk, option_map};
+ghost use Rattle.std.specs.Prelude.{◌≡◌, ◌↔◌, IsTrue, ◌+◌, ◌<◌, length, None, IfOk, IfSome, OnErr, OnOk, option_map};
 ghost use Rattle.std.specs.FinMap.{empty, get, insert};
 ghost use Rattle.std.specs.Option.{option_copied};
 ghost use Rattle.object_ids.specs.Ids.{lane_of};
 ghost use Rattle.object_acts.specs.Objects.{IsOfKind, unmarked};
+ghost use Rattle.chunk_owner.specs.Lanes.{AreOfKind, AreShown};
 ghost use Rattle.domains.specs.Changes.{Blames, domain_fault, root_of};
-ghost use Rattle.text_maps.specs.Nexts.{IsNext};
+ghost use Rattle.text_maps.specs.Nexts.{IsKeyStep, IsNext};
 ghost use Rattle.domains.specs.Contents.{IsCatalogue};
 ghost use Rattle.object_ops.specs.Conditions.{IsSoundOp};
 ghost use Rattle.register.specs.Decided.{HasRoom, IsDoor, domain_added, domain_refused, fresh_given, serial_limit};
 ghost use Rattle.service_core.specs.Joined.{AreLanes, whole};
 ghost use Rattle.service_core.specs.Steps.{IsGiven, IsWorld, Obeys, Steps};
 ghost use Rattle.service_core.specs.Turns.{IsServable};
-ghost use Rattle.service_core.specs.Worlds.{IsNew, lesser, with_door, with_object};
+ghost use Rattle.service_core.specs.Worlds.{IsFreshId, IsNew, lesser, with_door, with_object};
 
 use crate::answers::{Answer, What};
 use crate::turns::serve;
@@ -78,13 +79,15 @@ impl World {
         })
     }
 
-    /// That the id of each object, and the root of each domain, was given.
+    /// That the id of each object, and the root of each domain, was given, and that each object is of its id's kind and seen
+    /// without marks.
     pub fn is_whole(&self)
         ensures objects { IsWorld self.now }
         ensures roots { IsDoor self.now.door }
         ensures catalogue { IsCatalogue self.now.door.catalogue }
     {
         is_sound(&self.register);
+        are_whole(self.owners.as_slice());
     }
 
     /// How many places were given.
@@ -132,7 +135,8 @@ impl World {
 
     /// The object of an id.
     pub fn object(&self, id: &ObjectId) -> Option<&Object>
-        ensures { option_map unmarked (option_copied result) ≡ get self.now.objects id.now }
+        ensures value { option_map unmarked (option_copied result) ≡ get self.now.objects id.now }
+        ensures kind { IfSome (option_copied result) (IsOfKind id.now.kind) }
     {
         let lane = lane(id, self.register.lanes());
         self.owners[lane as usize].object(id)
@@ -140,7 +144,8 @@ impl World {
 
     /// The least id behind another that an object has, or the least of all.
     pub fn next_id(&self, after: Option<&ObjectId>) -> Option<ObjectId>
-        ensures { IsNext self.now.objects (option_copied after.entry) result }
+        ensures least { IsNext self.now.objects (option_copied after.entry) result }
+        ensures step { IsKeyStep self.now.objects (option_copied after.entry) result }
     {
         next_in(self.owners.as_slice(), after)
     }
@@ -165,6 +170,7 @@ impl World {
         requires number { number < self.old.door.catalogue.next }
         ensures id { result ≡ (fresh_given self.old.door kind number).0 }
         ensures world { self.new ≡ with_door self.old (fresh_given self.old.door kind number).1 }
+        ensures fresh { IfSome result (IsFreshId kind number self.new) }
     {
         self.register.fresh(kind, number)
     }
@@ -202,9 +208,20 @@ impl World {
     }
 }
 
+// What holds of the objects of some lanes.
+fn are_whole(owners: &[Owner])
+    ensures kinds { AreOfKind (whole owners.now) }
+    ensures shown { AreShown (whole owners.now) }
+{
+    for owner in owners {
+        owner.is_whole();
+    }
+}
+
 // The least id behind another that an object of some lanes has.
 fn next_in(owners: &[Owner], after: Option<&ObjectId>) -> Option<ObjectId>
-    ensures { IsNext (whole owners.now) (option_copied after.entry) result }
+    ensures least { IsNext (whole owners.now) (option_copied after.entry) result }
+    ensures step { IsKeyStep (whole owners.now) (option_copied after.entry) result }
 {
     let mut least = None;
     for owner in owners {

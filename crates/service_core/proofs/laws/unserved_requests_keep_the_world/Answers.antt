@@ -1,8 +1,5 @@
-use Rattle.service_core.proofs.KeepLemmas.{decisions_kept, denials_kept, refusals_kept}
+use Rattle.service_core.proofs.KeepLemmas.{denials_kept, refusals_kept}
 use Rattle.service_core.proofs.laws.unserved_requests_keep_the_world.Goals as goal
-
-pub returns-clause-decided : goal.returns-clause-decided
-returns-clause-decided c = decisions_kept
 
 pub returns-clause-denied : goal.returns-clause-denied
 returns-clause-denied c = denials_kept

@@ -1,6 +1,6 @@
 use Rattle.std.proofs.Common.{◌≡◌, true, length}
 use Rattle.service_core.specs.Joined.{AreLanes, whole}
-use Rattle.service_core.specs.Steps.{is_done}
+use Rattle.chunk_owner.specs.Acts.{is_done}
 use Rattle.service_core.specs.Turns.{AreReady}
 use Rattle.service_core.proofs.TurnLemmas.{SoFar}
 use Rattle.service_core.proofs.turns.run_turns.Given as goal

@@ -1,0 +1,23 @@
+-- What holds of every decision.
+use Rattle.std.specs.Prelude.{◌≡◌, ◌+◌, ◌<◌, length}
+use Rattle.access_lists.specs.declared.people.Caller.{Caller}
+use Rattle.access_lists.specs.declared.right.Right.{Right}
+use Rattle.object_ops.specs.declared.ops.Request.{Request}
+use Rattle.object_ops.specs.declared.refusals.Refusal.{Refusal}
+use Rattle.register.specs.Decided.{Door, decided, passed}
+use Rattle.register.specs.Grants.{IfGranted, IsIssueOf}
+use Rattle.register.specs.declared.verdicts.Verdict.TheVariants.{Denied, Refused}
+
+-- one place more was given
+abbrev pub TakesPlace : Type 0
+TakesPlace = (d : Door) (caller : Caller) (request : Request) → (decided d caller request).1.places ≡ d.places + 1
+
+-- a denial, and what is refused when a request is decided, leave the register but for the place
+abbrev pub DecisionsKeep : Type 0
+DecisionsKeep = (d : Door) (caller : Caller) (request : Request)
+    → ((right : Right) → (decided d caller request).0 ≡ Denied right → (decided d caller request).1 ≡ passed d)
+    × ((refusal : Refusal) → (decided d caller request).0 ≡ Refused refusal → (decided d caller request).1 ≡ passed d)
+
+-- what is granted has the turns of the request's steps
+abbrev pub GrantsAreIssues : Type 0
+GrantsAreIssues = (d : Door) (caller : Caller) (request : Request) → 0 < length d.issued → IfGranted (decided d caller request).0 (IsIssueOf d request.op)
