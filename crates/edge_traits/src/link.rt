@@ -10,4 +10,7 @@ pub trait Link: Source + Sink {
 
     /// Beside the sink stands the source.
     ghost sink_beside: { (link : Self) → Self.Sink.beside link ≡ (Self.Source.left link, Self.Source.faults link) };
+
+    /// Both ends are reached through the same references.
+    ghost one_object: { (link : Self) → Self.Source.names link ≡ Self.Sink.names link };
 }

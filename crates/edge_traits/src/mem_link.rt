@@ -56,4 +56,6 @@ impl Link for MemLink {
     ghost source_beside = { λ link. refl };
 
     ghost sink_beside = { λ link. refl };
+
+    ghost one_object = { λ link. refl };
 }

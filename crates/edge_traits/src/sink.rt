@@ -1,4 +1,5 @@
-ghost use Rattle.std.specs.Prelude.{◌≡◌, ℕ, ◌<◌, ◌≤◌, List, Option, None, length, take, IfOk, OnOk, OnErr};
+ghost use base.Fml.{GName};
+ghost use Rattle.std.specs.Prelude.{◌≡◌, ℕ, ◌<◌, ◌≤◌, List, [], Option, None, length, take, IfOk, OnOk, OnErr};
 ghost use Rattle.std.specs.Io.{WritesAtMost};
 ghost use Rattle.std.specs.Io.KnownBytes.{WriteAppends, Appends};
 ghost use Rattle.edge_traits.specs.Causes.{HasCause};
@@ -17,6 +18,9 @@ pub trait Sink {
     /// faults.
     ghost beside: { Self → Option (List ℕ) × ℕ } = { λ _. (None, 0) };
 
+    /// The references through which the object is reached, where it holds some. No write changes them.
+    ghost names: { Self → List GName } = { λ _. [] };
+
     /// Appends the first bytes of `bytes`, and answers how many: at least one, where there are any.
     ///
     /// # Errors
@@ -27,6 +31,7 @@ pub trait Sink {
         ensures moves { IfOk result (λ n. 0 < length bytes.now → 0 < n) }
         ensures bytes { WriteAppends (held self.old) (held self.new) result bytes.now }
         ensures beside { beside self.new ≡ beside self.old }
+        ensures names { names self.new ≡ names self.old }
         ensures cause { HasCause (faults self.old) (faults self.new) result };
 }
 
@@ -40,6 +45,7 @@ pub fn write_all<K: Sink>(sink: &mut K, bytes: &[u8]) -> Result<(), Failed>
     ensures err { OnErr result ((n : ℕ) × (n ≤ length bytes.now)
         × Appends (K.held sink.old) (K.held sink.new) (take n bytes.now)) }
     ensures beside { K.beside sink.new ≡ K.beside sink.old }
+    ensures names { K.names sink.new ≡ K.names sink.old }
     ensures cause { HasCause (K.faults sink.old) (K.faults sink.new) result }
 {
     let mut done = 0;

@@ -7,5 +7,6 @@ pieces-preserved g c = (
   search rules,
   appended_more _ _ _ _ _ _ c.pieces.invariant.1 c.in_ok-done.ensures.bytes,
   c.in_ok-done.ensures.beside ∙ c.pieces.invariant.2,
-  omega (arith, c.pieces.invariant.3, c.in_ok-done.ensures.cause.later),
+  c.in_ok-done.ensures.names ∙ c.pieces.invariant.3,
+  omega (arith, c.pieces.invariant.4, c.in_ok-done.ensures.cause.later),
 )
