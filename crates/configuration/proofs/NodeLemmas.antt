@@ -1,7 +1,7 @@
 -- The nodes of the catalogue that configured folders and domains make, path by path.
 use Rattle.std.proofs.Common.{Ordering, Less, ◌≡◌, ◌≢◌, ◌⊎◌, inl, inr, ⊎_elim, ℕ, suc, ◌+◌, ◌-◌, max, Bool, true, false, not, ◌&&◌, ◌||◌, cond, List, [], ◌∷◌, length, map, Option, Some, None, is_some, nat_le, refl, sym, ap, subst, ◌∙◌, arith}
-use Rattle.std.specs.Prelude.{filter}
-use Rattle.std.specs.Option.{unwrap_or}
+use Rattle.std.specs.Prelude.{filter, Result, Ok, Err, IfOk}
+use Rattle.std.specs.Option.{option_map, unwrap_or}
 use Rattle.std.specs.List.{list_all}
 use Rattle.std.specs.Str.{bytes_eq}
 use Rattle.std.specs.Ordering.{is_lt, eq_by_cmp, ordering_reverse}
@@ -19,8 +19,9 @@ use Rattle.text_maps.specs.Keyed.{text_order}
 use Rattle.text_maps.proofs.KeyedMaps.{exact_texts}
 use Rattle.domains.specs.Contents.{Contents, only_root, with_node}
 use Rattle.domains.specs.declared.classes.Node.{Node}
-use Rattle.domains.specs.declared.classes.NodeClass.TheVariants.{Domain}
-use Rattle.configuration.specs.ConfiguredNodes.{HasConfigured, IsFolderPath, MakeTree, Settings, rank_of, ranked_domain}
+use Rattle.domains.specs.declared.classes.NodeClass.{NodeClass}
+use Rattle.domains.specs.declared.classes.NodeClass.TheVariants.{Domain, Folder}
+use Rattle.configuration.specs.ConfiguredNodes.{HasConfigured, HasFirstRoots, IsFolderPath, MakeTree, Settings, rank_of, ranked_domain}
 use Rattle.configuration.specs.Catalogues.{catalogue_of, default_setting, domain_node, domain_nodes, folder_node, folder_nodes, catalogue_from, has_parent, is_tree, with_nodes}
 use Rattle.configuration.specs.declared.limits.TheConstants.{MAX_BELOW_ROOT}
 use Rattle.configuration.specs.declared.setting.Setting.{Setting}
@@ -345,3 +346,42 @@ pub configured_read : (folders domains : Settings) (c : Contents)
 configured_read folders domains c h =
     cond-true _ _ _ (tree_found folders domains h.0)
     ∙ ap Some (one_catalogue folders domains (made_of folders domains) c (nodes_made folders domains h.0) h.1)
+
+-- a node of another class is no domain
+folder_only : (setting : Setting) (o : Option Node) (number : ℕ) (root : Id) → o ≡ Some (folder_node setting)
+    → option_map (λ node. node.class) o ≡ Some (Domain number root) → root.run ≡ 0
+folder_only setting o number root is at =
+    let folder : ◌≡◌ {A = Option NodeClass} (Some Folder) (Some (Domain number root)) = sym (ap (option_map (λ node. node.class)) is) ∙ at in
+    absurd (cc folder)
+
+-- the root of each domain was given out in run 0
+pub configured_roots : (folders domains : Settings) (c : Contents) → HasConfigured folders domains c → HasFirstRoots c
+configured_roots folders domains c h path number root at = ⊎_elim
+    (λ some.
+    let node : Node = ranked_domain (rank_of domains path) some.0 in
+    let is : Some node.class ≡ Some (Domain number root) = sym (ap (option_map (λ node. node.class)) (h.domain path some.0 some.1)) ∙ at in
+    let run : ◌≡◌ {A = ℕ} 0 root.run = ap run_in is in
+    sym run)
+    (λ no_domain. ⊎_elim
+    (λ some. folder_only some.0 (get c.nodes path) number root (h.folder path some.0 some.1) at)
+    (λ no_folder. ⊎_elim
+    (λ same.
+    let none : get folders root_path ≡ None = ap (get folders) (sym same) ∙ no_folder in
+    folder_only default_setting (get c.nodes path) number root (ap (get c.nodes) same ∙ h.default_root none) at)
+    (λ other.
+    let none : ◌≡◌ {A = Option NodeClass} None (Some (Domain number root)) =
+    sym (ap (option_map (λ node. node.class)) (h.nothing_else path other no_folder no_domain)) ∙ at in
+    absurd (cc none))
+    (same_or_other path root_path))
+    (some_or_none (get folders path)))
+    (some_or_none (get domains path))
+  where
+    run_in : Option NodeClass → ℕ
+    run_in None = 0
+    run_in (Some Folder) = 0
+    run_in (Some (Domain n id)) = id.run
+
+pub first_roots : {E : Type 0} (folders domains : Settings) (r : Result Contents E)
+    → IfOk r (λ c. catalogue_of folders domains ≡ Some c) → IfOk r HasFirstRoots
+first_roots folders domains (Ok c) is = configured_roots folders domains c (configured_told folders domains c is).1
+first_roots folders domains (Err e) is = tt

@@ -3,7 +3,7 @@
 ghost use Rattle.std.specs.Prelude.{◌≡◌, ◌↔◌, Some};
 ghost use Rattle.access_lists.specs.declared.list.TheConstants.{MAX_ENTRIES};
 ghost use Rattle.domains.specs.Contents.{Contents};
-ghost use Rattle.configuration.specs.ConfiguredNodes.{HasConfigured, MakeTree, Settings};
+ghost use Rattle.configuration.specs.ConfiguredNodes.{HasConfigured, HasFirstRoots, MakeTree, Settings};
 ghost use Rattle.configuration.specs.Catalogues.{catalogue_of};
 ghost use Rattle.configuration.specs.declared.limits.TheConstants.{MAX_BELOW_ROOT, MAX_GROUP_LEN, MAX_NAME_LEN, MAX_TOKEN_LEN};
 
@@ -24,4 +24,7 @@ pub fn configured_catalogue()
     ensures nodes { (folders domains : Settings) (c : Contents)
         → (catalogue_of folders domains ≡ Some c)
         ↔ (MakeTree folders domains × HasConfigured folders domains c) }
+
+    // The root of each domain was given out in run 0.
+    ensures roots { (folders domains : Settings) (c : Contents) → catalogue_of folders domains ≡ Some c → HasFirstRoots c }
 {}

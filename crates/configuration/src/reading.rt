@@ -1,6 +1,7 @@
 ghost use Rattle.std.specs.Prelude.{◌≡◌, [], true, false, Some, None, IfOk, IsErrOf, IsSomeAnd, codes, option_and_then};
 ghost use Rattle.toml.specs.View.{table_view};
 ghost use Rattle.configuration.specs.Configured.{catalogue_in, config_of, document_in, is_config_key, tokens_in};
+ghost use Rattle.configuration.specs.ConfiguredNodes.{HasFirstRoots};
 ghost use Rattle.configuration.specs.Settings.{settings_in};
 ghost use Rattle.configuration.specs.Tables.{has_only, table_at};
 
@@ -33,6 +34,7 @@ use toml::Table;
 /// roots begin with 0 in run 0.
 pub fn read_config(alloc: Global, text: &[u8]) -> Result<Config, ConfigFault>
     ensures ok { IfOk result (λ config. option_and_then config_of (document_in text.now) ≡ Some config) }
+    ensures roots { IfOk result (λ config. HasFirstRoots config.catalogue) }
     ensures bad_toml { IsErrOf result ConfigFault.BadToml → document_in text.now ≡ None }
     ensures bad_key { IsErrOf result ConfigFault.BadKey → IsSomeAnd (document_in text.now) (λ table. config_of table ≡ None) }
 {
@@ -63,6 +65,7 @@ fn read_document(alloc: Global, text: &[u8]) -> Result<Table, ConfigFault>
 // The configuration of a document's table.
 fn read_table(alloc: Global, table: &Table) -> Result<Config, Refusal>
     ensures ok { IfOk result (λ config. config_of (table_view table.now) ≡ Some config) }
+    ensures roots { IfOk result (λ config. HasFirstRoots config.catalogue) }
     ensures bad { IsErrOf result Refusal.BadKey → config_of (table_view table.now) ≡ None }
 {
     if !has_config_keys(table) {
@@ -107,6 +110,7 @@ fn read_tokens_in(alloc: Global, table: &Table) -> Result<Tokens, Refusal>
 
 fn read_catalogue_in(alloc: Global, table: &Table) -> Result<Catalogue, Refusal>
     ensures ok { IfOk result (λ catalogue. catalogue_in (table_view table.now) ≡ Some catalogue) }
+    ensures roots { IfOk result HasFirstRoots }
     ensures bad { IsErrOf result Refusal.BadKey → catalogue_in (table_view table.now) ≡ None }
 {
     let folders = read_settings_at(alloc, table, "folders")?;
