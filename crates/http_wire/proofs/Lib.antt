@@ -1,0 +1,9 @@
+pub mod Bounds
+pub mod Inputs
+pub mod MessageLemmas
+pub mod Numbers
+pub mod Pending
+pub mod Rooms
+pub mod Skips
+pub mod Windows
+pub mod Writes

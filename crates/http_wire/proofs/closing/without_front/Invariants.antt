@@ -1,0 +1,10 @@
+use Rattle.std.proofs.Common.{◌≡◌, length}
+use Rattle.httparse.specs.Grammar.{skip_ows}
+use Rattle.http_wire.proofs.closing.without_front.Given as goal
+
+-- only blanks were passed over
+abbrev pub invariant-blanks : goal.invariant-blanks
+invariant-blanks l = skip_ows l.rest ≡ skip_ows l.word
+
+abbrev pub decreases-blanks : goal.decreases-blanks
+decreases-blanks l = length l.rest

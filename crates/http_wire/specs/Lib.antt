@@ -1,0 +1,16 @@
+pub mod Bodies
+pub mod Buffers
+pub mod Found
+pub mod Heads
+pub mod Heard
+pub mod LineReads
+pub mod Messages
+pub mod Replies
+pub mod ReplyBuffers
+pub mod Sizes
+pub mod Skipping
+pub mod Standing
+pub mod Taken
+pub use Rattle.edge_traits.specs.Causes
+pub use Rattle.httparse.specs.Grammar
+pub use Rattle.httparse.specs.Spans
