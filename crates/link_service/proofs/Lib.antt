@@ -1,0 +1,4 @@
+pub mod Progress
+pub mod StepLemmas
+pub mod Readings
+pub mod Views

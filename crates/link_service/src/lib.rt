@@ -1,0 +1,20 @@
+//! One link, from its first message to its end, over any service: each message that the link gives
+//! has its one answer, in order, in whatever pieces the bytes come.
+#![tactic(auto)]
+
+mod end;
+pub mod laws;
+mod lent;
+mod reply;
+mod serve;
+mod service;
+mod writing;
+
+pub use end::{BUDGET, LinkEnd};
+pub use lent::Lent;
+pub use reply::{Reply, ReplyBody};
+pub use serve::serve_link;
+pub use service::Service;
+
+#[cfg(test)]
+mod tests;
