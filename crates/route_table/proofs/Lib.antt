@@ -1,0 +1,4 @@
+mod Segments
+mod Paths
+mod PutLemmas
+mod RouteParts

@@ -1,0 +1,50 @@
+use Rattle.std.proofs.Common.{◌≡◌, refl, List, [], ◌∷◌, map, Result, Ok, Err, OnOk, codes}
+use Rattle.matchit.specs.Route.{Scan, parse_route}
+use Rattle.matchit.specs.Router.{InsertsRead}
+use Rattle.matchit.specs.declared.error.InsertError.{InsertError}
+use Rattle.matchit.proofs.OnLiterals.{matchit_on_literals}
+use Rattle.object_ids.specs.declared.ids.Kind.TheVariants as kind
+use Rattle.route_table.specs.Table.{Text, table}
+use Rattle.route_table.specs.Rows.{Rows, put, put_all, put_scan, shown}
+use Rattle.route_table.specs.declared.routes.Route.{Route}
+use Rattle.route_table.specs.declared.routes.Route.TheVariants.{Node, Domains, Acls, Acl, Collection, Object, Attributes, Attribute, Links, Link, Shape, Elem, Value}
+
+pub put_is : (text : Text) (route : Route) (old new : Rows) (r : Result (Unit {0}) InsertError) → InsertsRead (parse_route text) route old new r
+    → OnOk r (new ≡ put text route old)
+unfolding put
+put_is text route old new (Err error) h = tt
+put_is text route old new (Ok u) h = go (parse_route text) h
+  where
+    go : (s : Result Scan InsertError) → InsertsRead s route old new (Ok u) → new ≡ put_scan s route old
+    go (Ok scan) h = h.1
+    go (Err error) h = h.0
+
+-- the rows as they are inserted
+abbrev pub texts : List (Text × Route)
+texts =
+    (codes "/", Node)
+    ∷ (codes "/domains", Domains)
+    ∷ (codes "/acls", Acls)
+    ∷ (codes "/acls/{name}", Acl)
+    ∷ (codes "/groups", Collection kind.Group)
+    ∷ (codes "/groups/{id}", Object kind.Group)
+    ∷ (codes "/groups/{id}/attributes", Attributes kind.Group)
+    ∷ (codes "/groups/{id}/attributes/{name}", Attribute kind.Group)
+    ∷ (codes "/groups/{id}/links", Links)
+    ∷ (codes "/groups/{id}/links/{title}", Link)
+    ∷ (codes "/datasets", Collection kind.Dataset)
+    ∷ (codes "/datasets/{id}", Object kind.Dataset)
+    ∷ (codes "/datasets/{id}/attributes", Attributes kind.Dataset)
+    ∷ (codes "/datasets/{id}/attributes/{name}", Attribute kind.Dataset)
+    ∷ (codes "/datasets/{id}/shape", Shape)
+    ∷ (codes "/datasets/{id}/type", Elem)
+    ∷ (codes "/datasets/{id}/value", Value)
+    ∷ (codes "/datatypes", Collection kind.Datatype)
+    ∷ (codes "/datatypes/{id}", Object kind.Datatype)
+    ∷ (codes "/datatypes/{id}/attributes", Attributes kind.Datatype)
+    ∷ (codes "/datatypes/{id}/attributes/{name}", Attribute kind.Datatype)
+    ∷ []
+
+pub all_is : put_all texts [] ≡ map shown table
+unfolding matchit_on_literals put
+all_is = refl

@@ -1,0 +1,9 @@
+use Rattle.std.proofs.Common.{◌∙◌, ap₂, map, List, ℕ, Bor}
+use Rattle.route_table.specs.Rows.{Rows, put_all, text_row}
+use Rattle.route_table.specs.declared.routes.Route.{Route}
+use Rattle.route_table.proofs.PutLemmas.{all_is}
+use Rattle.route_table.proofs.table.router.Goals as goal
+
+pub returns : goal.returns
+returns c =
+    c.in_ok-insert_all.ensures ∙ ap₂ (λ (l : List (Bor (List ℕ) × Route)) (r : Rows). put_all (map text_row l) r) c.as_slice.ensures c.new-router.ensures ∙ all_is
