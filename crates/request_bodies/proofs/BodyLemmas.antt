@@ -1,0 +1,57 @@
+-- Between what `serde_json` promises and the definition of a body.
+use Rattle.std.proofs.Common.{◌≡◌, ◌∙◌, ap, ℕ, Bool, true, false, List, Option, Some, None, is_some, Result, Ok, Err, refl}
+use Rattle.std.specs.Prelude.{IsUtf8, option_and_then, cond}
+use Rattle.std.specs.Str.{is_utf8}
+use Rattle.std.proofs.lemmas.Str.{IsUtf8-from_is_utf8, is_utf8-from_IsUtf8}
+use Rattle.serde_json.specs.Data.{Data}
+use Rattle.serde_json.specs.Find.{as_object}
+use Rattle.serde_json.specs.Read.{read}
+use Rattle.serde_json.specs.View.{view}
+use Rattle.serde_json.specs.declared.value.Value.{Value}
+use Rattle.std.specs.Result.{IsErrAnd}
+use Rattle.object_ops.specs.declared.refusals.Refusal.{Refusal}
+use Rattle.object_ops.specs.declared.refusals.Refusal.TheVariants.{BadJson}
+use Rattle.request_bodies.specs.Bodies.{if_object, object_in, tree_in}
+use Rattle.request_bodies.specs.Refusing.{Gives, Tells, or_refuse}
+use Rattle.request_bodies.specs.declared.faults.BodyFault.{BodyFault}
+use Rattle.request_bodies.specs.declared.faults.BodyFault.TheVariants.{Refused, NoMemory}
+
+pub tree_read : (text : List ℕ) (d : Data) → IsUtf8 text → read text ≡ Some d → tree_in text ≡ Some d
+tree_read text d utf8 is = ap (λ b. cond b (read text) None) (is_utf8-from_IsUtf8 text utf8) ∙ is
+
+pub tree_missing : (text : List ℕ) → (IsUtf8 text → read text ≡ None) → tree_in text ≡ None
+tree_missing text none = go (is_utf8 text) refl
+  where
+    go : (b : Bool) → is_utf8 text ≡ b → tree_in text ≡ None
+    go true e = ap (λ b. cond b (read text) None) e ∙ none (IsUtf8-from_is_utf8 text e)
+    go false e = ap (λ b. cond b (read text) None) e
+
+pub object_read : (text : List ℕ) (d : Data) → tree_in text ≡ Some d → is_some (as_object d) ≡ true → object_in text ≡ Some d
+unfolding object_in
+object_read text d tree object = ap (option_and_then if_object) tree ∙ ap (λ b. cond b (Some d) None) object
+
+pub other_read : (text : List ℕ) (d : Data) → tree_in text ≡ Some d → is_some (as_object d) ≡ false → object_in text ≡ None
+unfolding object_in
+other_read text d tree object = ap (option_and_then if_object) tree ∙ ap (λ b. cond b (Some d) None) object
+
+pub object_missing : (text : List ℕ) → tree_in text ≡ None → object_in text ≡ None
+unfolding object_in
+object_missing text tree = ap (option_and_then if_object) tree
+
+-- what isn't refused was there
+pub found : {A : Type 0} (refusal : Refusal) (o : Option A) (x : A) → or_refuse refusal o ≡ Ok x → o ≡ Some x
+found refusal None x e = let other : Err refusal ≡ Ok x = e in absurd (cc)
+found refusal (Some y) x e = let same : Ok y ≡ Ok x = e in cc
+
+refused_at : (bytes : List ℕ) (o : Option Data) (refusal : Refusal) → tree_in bytes ≡ o → or_refuse BadJson o ≡ Err refusal → or_refuse BadJson (object_in bytes) ≡ Err refusal
+refused_at bytes None refusal is e = ap (or_refuse BadJson) (object_missing bytes is) ∙ e
+refused_at bytes (Some d) refusal is e = let other : Ok d ≡ Err refusal = e in absurd (cc)
+
+-- bytes that are no tree are no object
+refused_tree : (bytes : List ℕ) (f : BodyFault) → Tells f (or_refuse BadJson (tree_in bytes)) → Tells f (or_refuse BadJson (object_in bytes))
+refused_tree bytes NoMemory h = tt
+refused_tree bytes (Refused refusal) h = refused_at bytes (tree_in bytes) refusal refl h
+
+pub tree_gone : (given : Result Value BodyFault) (f : BodyFault) (bytes : List ℕ) → IsErrAnd given (λ e. e ≡ f) → Tells f (or_refuse BadJson (tree_in bytes)) → Gives view given (or_refuse BadJson (object_in bytes))
+tree_gone (Ok v) f bytes h told = absurd h
+tree_gone (Err e) f bytes h told = rw h (refused_tree bytes f told)

@@ -1,0 +1,6 @@
+mod BodyLemmas
+mod DefaultLemmas
+mod LinkLemmas
+mod MakeLemmas
+mod OrderLemmas
+mod ValueLemmas

@@ -1,0 +1,39 @@
+-- Texts, and the ids and titles that they are.
+use Rattle.std.proofs.Common.{◌≡◌, ◌≢◌, ◌∙◌, ◌&&◌, ap, sym, ℕ, List, [], ◌∷◌, Bool, true, false, not, nat_eq, cond, Option, Some, None, Result, Ok, Err, All, refl}
+use Rattle.std.specs.Prelude.{IfSome, IfNone}
+use Rattle.std.proofs.lemmas.Bool.{eqb-true, true≢false}
+use Rattle.std.proofs.lemmas.List.Elements.{All-head, All-tail}
+use Rattle.json_trees.specs.Faults.{◌>>=◌}
+use Rattle.object_ids.specs.Ids.{InRange, text_of_id}
+use Rattle.object_ids.specs.IdValues.{Id}
+use Rattle.groups_links.specs.IdTexts.{id_of}
+use Rattle.groups_links.specs.Titles.{IsGoodTitle}
+use Rattle.groups_links.proofs.IdLemmas.{id_read, no_id}
+use Rattle.object_ops.specs.declared.refusals.Refusal.{Refusal}
+use Rattle.object_ops.specs.declared.refusals.Refusal.TheVariants.{BadName}
+use Rattle.request_bodies.specs.Bodies.{has_no_slash, name_in, title_in}
+
+-- what a text is read as is the id that it is
+pub told : (text : List ℕ) (found : Option Id) → IfSome found InRange → IfSome found (λ id. text_of_id id ≡ text)
+    → IfNone found ((id : Id) → InRange id → text_of_id id ≢ text) → found ≡ id_of text
+told text None range some none = sym (no_id text none)
+told text (Some id) range some none = sym (id_read text id range some)
+
+other_byte : (b : ℕ) (t : Bool) → nat_eq b 47 ≡ t → b ≢ 47 → not t ≡ true
+other_byte b true e other = absurd (other (eqb-true b 47 e))
+other_byte b false e other = refl
+
+both : (a b : Bool) → a ≡ true → b ≡ true → (a && b) ≡ true
+both true b e f = f
+both false b e f = absurd (true≢false (sym e))
+
+pub no_slash : (text : List ℕ) → All (λ byte. byte ≢ 47) text → has_no_slash text ≡ true
+no_slash [] h = refl
+no_slash (b ∷ bs) h =
+    both (not (nat_eq b 47)) (has_no_slash bs) (other_byte b _ refl (All-head (λ byte. byte ≢ 47) b bs h)) (no_slash bs (All-tail (λ byte. byte ≢ 47) b bs h))
+
+-- a name that is a good title is one
+pub titled : (text title : List ℕ) → name_in text ≡ Ok title → IsGoodTitle title → title_in text ≡ Ok title
+titled text title e good =
+    let next : List ℕ → Result (List ℕ) Refusal = λ name. cond (has_no_slash name) (Ok name) (Err BadName) in
+    ap (λ r. r >>= next) e ∙ ap (λ (b : Bool). cond b (Ok title) (Err BadName)) (no_slash title good.one_part)

@@ -1,0 +1,39 @@
+-- Faults of types, and layouts.
+use Rattle.std.proofs.Common.{◌≡◌, ap, sym, ℕ, List, Option, Some, None, Result, Ok, Err}
+use Rattle.hdf_types.specs.declared.faults.Cause.{Cause}
+use Rattle.hdf_types.specs.declared.faults.Cause.TheVariants.{NotAType, Unsupported, TooDeep, TooMany, BadLength, DupField, TooLarge}
+use Rattle.hdf_types.specs.declared.faults.TypeFault.{TypeFault}
+use Rattle.hdf_types.specs.declared.faults.TypeFault.TheVariants.{NoMemory, Refused}
+use Rattle.hdf_types.specs.Elems.{Elem}
+use Rattle.hdf_types.specs.Faults.{Fails, Fault, fault}
+use Rattle.chunk_layout.specs.Asked.{IsAnswer}
+use Rattle.chunk_layout.specs.declared.Layout.{Layout}
+use Rattle.chunk_layout.specs.declared.LayoutFault.{LayoutFault}
+use Rattle.chunk_layout.proofs.DefaultLemmas.{one_end}
+use Rattle.chunk_layout.specs.Defaults.{at_least_one}
+use Rattle.object_ops.specs.declared.refusals.Refusal.{Refusal}
+use Rattle.request_bodies.specs.Refusing.{Answers}
+use Rattle.request_bodies.specs.Defaults.{default_chunk}
+use Rattle.request_bodies.specs.Makes.{class_given, type_or}
+use Rattle.request_bodies.specs.Properties.{chunk_or}
+use Rattle.request_bodies.proofs.DefaultLemmas.{default_is}
+
+-- a fault of a type is refused as its cause, or its class is kept
+pub class_answers : (f : TypeFault) (r : Result Elem Fault) → Fails f r → Answers (class_given f) (type_or r)
+unfolding fault
+class_answers NoMemory r e = tt
+class_answers (Refused path NotAType) r e = ap type_or e
+class_answers (Refused path (Unsupported class)) r e = ap type_or e
+class_answers (Refused path TooDeep) r e = ap type_or e
+class_answers (Refused path TooMany) r e = ap type_or e
+class_answers (Refused path BadLength) r e = ap type_or e
+class_answers (Refused path (DupField index)) r e = ap type_or e
+class_answers (Refused path TooLarge) r e = ap type_or e
+
+-- what a layout is read as
+pub answered : (size : ℕ) (dims : List ℕ) (r : Result (Option (List ℕ)) LayoutFault) (layout : Layout) → IsAnswer dims size r (Ok layout) → chunk_or size dims r ≡ Ok layout
+answered size dims (Err f) layout e = let other : Ok layout ≡ Err f = e in absurd (cc)
+answered size dims (Ok None) layout e =
+    let as_layout : List ℕ → Result Layout Refusal = λ chunk. Ok (record { chunk = chunk }) in
+    ap as_layout (one_end size (at_least_one dims) (default_chunk size dims) layout.chunk (default_is size dims) e)
+answered size dims (Ok (Some chunk)) layout e = let same : Ok layout ≡ Ok (record { chunk = chunk }) = e in cc

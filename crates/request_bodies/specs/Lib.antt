@@ -1,0 +1,16 @@
+pub mod Refusing
+pub mod Bodies
+pub mod Defaults
+pub mod Properties
+pub mod Makes
+pub mod Values
+pub use Rattle.json_trees.specs.Faults
+pub use Rattle.json_trees.specs.Trees
+pub use Rattle.object_ids.specs.Ids
+pub use Rattle.object_ids.specs.IdValues
+pub use Rattle.groups_links.specs.IdTexts
+pub use Rattle.groups_links.specs.Titles
+pub use Rattle.object_ops.specs.Conditions
+pub use Rattle.serde_json.specs.View
+pub use Rattle.serde_json.specs.Data
+pub use Rattle.serde_json.specs.Find

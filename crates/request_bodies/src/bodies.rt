@@ -1,0 +1,48 @@
+//! The object that a body is.
+
+ghost use Rattle.std.specs.Prelude.{◌≡◌};
+ghost use Rattle.serde_json.specs.View.{view};
+ghost use Rattle.request_bodies.specs.Bodies.{body_in, object_in, tree_in};
+ghost use Rattle.request_bodies.specs.Refusing.{Answers, Gives, or_refuse};
+ghost use Rattle.object_ops.specs.declared.refusals.Refusal.TheVariants.{BadJson};
+
+use crate::faults::BodyFault;
+use json_trees::Tree;
+use object_ops::Refusal;
+use serde_json::{Map, Value};
+use std::alloc::Global;
+
+/// The object of a body. An empty body stands for `{}`.
+///
+/// # Errors
+///
+/// `BadJson` where `serde_json` reads no object from the bytes.
+pub fn body_of(alloc: Global, bytes: &[u8]) -> Result<Tree, BodyFault>
+    ensures { Answers result (body_in bytes.now) }
+{
+    if bytes.is_empty() {
+        return Ok(Tree::new(Value::Object(Map::new(alloc))));
+    }
+    Ok(Tree::new(object(alloc, bytes)?))
+}
+
+fn object(alloc: Global, bytes: &[u8]) -> Result<Value, BodyFault>
+    ensures { Gives view result (or_refuse BadJson (object_in bytes.now)) }
+{
+    let tree = parsed(alloc, bytes)?;
+    if tree.is_object() {
+        Ok(tree)
+    } else {
+        Err(BodyFault::Refused(Refusal::BadJson))
+    }
+}
+
+fn parsed(alloc: Global, bytes: &[u8]) -> Result<Value, BodyFault>
+    ensures { Gives view result (or_refuse BadJson (tree_in bytes.now)) }
+{
+    match Value::from_slice(alloc, bytes) {
+        Ok(tree) => Ok(tree),
+        Err(error) if error.is_memory() => Err(BodyFault::NoMemory),
+        Err(_) => Err(BodyFault::Refused(Refusal::BadJson)),
+    }
+}
