@@ -1,0 +1,5 @@
+pub mod Domains
+pub mod Forms
+pub mod Parameters
+pub mod Operations
+pub mod Requests

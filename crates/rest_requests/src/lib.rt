@@ -1,0 +1,25 @@
+//! What a message asks (HDF REST API): its caller and its request, or the first refusal.
+//!
+//! The route and the method decide what is asked, the Authorization header who asks, the query or a header where it is
+//! asked, and the rest of the path and the body give the parts of the operation.
+#![tactic(auto)]
+
+mod datasets;
+mod domain;
+mod fault;
+mod forms;
+mod nodes;
+mod objects;
+mod operations;
+mod parameters;
+mod parts;
+mod reading;
+#[cfg(test)]
+mod tests;
+mod tokens;
+
+pub use fault::RequestFault;
+pub use forms::methods_are_served;
+pub use parts::RequestParts;
+pub use reading::read_request;
+pub use tokens::Tokens;
