@@ -1,0 +1,15 @@
+//! The words of the command line: which of them are a command, and its values.
+#![tactic(auto)]
+
+mod app;
+mod command;
+mod long;
+mod reader;
+mod row;
+mod words;
+
+pub use command::{DEFAULT_CONFIG, Wanted, WordText, WordsFault};
+pub use words::wanted;
+
+#[cfg(test)]
+mod tests;
