@@ -1,0 +1,6 @@
+pub mod ListLemmas
+pub mod DepthLemmas
+pub mod TreeLemmas
+pub mod CreationLemmas
+pub mod ReadLemmas
+pub mod SameLemmas
