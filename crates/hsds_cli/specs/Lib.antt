@@ -1,4 +1,4 @@
 pub mod Status
-pub mod Words
 pub mod Texts
+pub mod Openings
 pub mod Runs

@@ -1,9 +1,10 @@
-ghost use Rattle.std.specs.Prelude.{◌≡◌, None};
+ghost use Rattle.std.specs.Prelude.{◌≡◌, option_and_then};
 
 use edge_traits::{Failed, FaultCount, Source};
 use std::io::Read;
 
-/// A file that may not have been opened. It tells nothing of what is left, and each read of a missing file is a fault.
+/// A file that may not have been opened. It tells what is left where its reader does, and each read of a missing file is
+/// a fault.
 #[derive(Drop)]
 pub struct Opened<R: Read> {
     reader: Option<R>,
@@ -13,7 +14,8 @@ pub struct Opened<R: Read> {
 impl<R: Read> Opened<R> {
     /// The file, where it was opened, with no fault yet.
     pub fn new(reader: Option<R>) -> Opened<R>
-        ensures { ⟦<Opened<R> as Source>⟧.faults result ≡ 0 }
+        ensures left { ⟦<Opened<R> as Source>⟧.left result ≡ option_and_then R.remaining reader }
+        ensures faults { ⟦<Opened<R> as Source>⟧.faults result ≡ 0 }
     {
         Opened {
             reader,
@@ -23,17 +25,21 @@ impl<R: Read> Opened<R> {
 }
 
 impl<R: Read> Source for Opened<R> {
-    ghost left = { λ s. None };
+    ghost left = { λ s. option_and_then R.remaining s.reader };
 
     ghost faults = { λ s. s.count };
 
     fn read(&mut self, buf: &mut [u8]) -> Result<usize, Failed> {
-        if let Some(reader) = &mut self.reader {
-            if let Ok(count) = reader.read(buf) {
-                return Ok(count);
+        let Some(reader) = &mut self.reader else {
+            self.count.rise();
+            return Err(Failed);
+        };
+        match reader.read(buf) {
+            Ok(count) => Ok(count),
+            Err(_) => {
+                self.count.rise();
+                Err(Failed)
             }
         }
-        self.count.rise();
-        Err(Failed)
     }
 }

@@ -1,22 +1,30 @@
 ghost use Rattle.std.specs.Prelude.{◌≡◌, ◌⊎◌, ◌<◌, ◌≤◌, ℕ, List, Some, IsSome, map, length, string_bytes, vec_len, IfOk, IfErr};
 ghost use Rattle.edge_traits.specs.Causes.{Rose};
 ghost use Rattle.configuration.specs.declared.config.Config.{Config};
-ghost use Rattle.link_session.specs.declared.end.TheConstants.{BUDGET};
-ghost use Rattle.link_session.specs.Transcripts.{Request, AllServed, spelled};
-ghost use Rattle.hsds_cli.specs.Words.{session_file};
+ghost use Rattle.configuration.specs.ConfiguredNodes.{HasFirstRoots};
+ghost use Rattle.command_words.specs.Commands.{command_of};
+ghost use Rattle.http_wire.specs.Messages.{RequestMessage};
+ghost use Rattle.link_service.specs.declared.end.TheConstants.{BUDGET};
+ghost use Rattle.link_service.specs.Links.{AllSpelled, HasCauses, spellings};
 ghost use Rattle.hsds_cli.specs.declared.run.TheConstants.{MAX_DOORS};
 ghost use Rattle.hsds_cli.specs.declared.status.Status.{Status};
+ghost use Rattle.hsds_cli.specs.Openings.{opening};
 ghost use Rattle.hsds_cli.specs.Status.{number_of};
-ghost use Rattle.hsds_cli.specs.Runs.{IsRun, Spells, IsRefusal, configured, status_of};
+ghost use Rattle.hsds_cli.specs.Runs.{IsRun, IsRefusal, IsSession, Spells, configured, status_of};
 
-use crate::command::WordsFault;
 use crate::status::Status;
 use crate::text::{TextFault, read_text};
-use crate::words::wanted;
+use crate::two_ends::TwoEnds;
+use command_words::{WordsFault, wanted};
 use configuration::{Config, ConfigFault, read_config};
-use edge_traits::{Disk, Door, Sink, Source};
-use link_session::{LinkEnd, serve_link};
-use std::alloc::Global;
+use domains::Catalogue;
+use edge_traits::{Disk, Door, Link, Sink, Source};
+use link_service::LinkEnd;
+use register::Register;
+use rest_requests::Tokens;
+use rest_session::serve_world;
+use service_core::World;
+use std::alloc::{AllocError, Global};
 
 /// How many doors a run may have.
 pub const MAX_DOORS: usize = 16;
@@ -32,8 +40,14 @@ pub struct Finished<D, F> {
     pub doors: Vec<F>,
 }
 
-/// Does what the words say: `session` reads the configuration, and serves `input` to `out` as one link. The disk and the
-/// doors come back as they were.
+/// Over how many lanes the objects of a session are spread.
+pub const LANES: u32 = 2;
+
+/// The run of a session that keeps nothing.
+pub const RUN: u32 = 1;
+
+/// Does what the words say: `session` reads the configuration, and serves the configured world to `input` and `out` as one
+/// link. The disk and the doors come back as they were.
 pub fn run<C: Source, S: Source, K: Sink, D: Disk, F: Door>(
     alloc: Global,
     words: &[String],
@@ -67,10 +81,10 @@ pub fn run<C: Source, S: Source, K: Sink, D: Disk, F: Door>(
     ensures disk { result.disk ≡ Some disk }
     ensures doors { result.doors ≡ doors }
 
-    // A command over whole requests is done, but for a fault or want of memory.
-    ensures complete { (text : List ℕ) (made : Config) (requests : List Request) → IsSome (session_file (map string_bytes words.now))
+    // A command over whole messages is done, but for a fault or want of memory.
+    ensures complete { (text : List ℕ) (made : Config) (messages : List RequestMessage) → IsSome (command_of (map string_bytes words.now))
         → C.left config.old ≡ Some text → configured text ≡ Some made
-        → S.left input.old ≡ Some (spelled requests) → AllServed requests → length requests < BUDGET
+        → S.left input.old ≡ Some (spellings messages) → AllSpelled messages → length messages < BUDGET
         → ¬ (Rose (C.faults config.old) (C.faults config.new)) → ¬ (Rose (S.faults input.old) (S.faults input.new))
         → ¬ (Rose (K.faults out.old) (K.faults out.new))
         → (result.status ≡ 0) ⊎ (result.status ≡ 13) }
@@ -108,19 +122,61 @@ fn serve<C: Source, S: Source, K: Sink>(
     ensures input_later { S.faults input.old ≤ S.faults input.new }
     ensures out_later { K.faults out.old ≤ K.faults out.new }
 {
-    match wanted(words) {
+    match wanted(alloc, words) {
         Ok(_command) => {}
-        Err(WordsFault) => return Status::Words,
+        Err(WordsFault::Refused) => return Status::Words,
+        Err(WordsFault::NoMemory) => return Status::NoMemory,
     }
     match configured(alloc, config) {
-        Ok(config) => end_status(serve_link(alloc, &config.tokens, &config.catalogue, input, out)),
+        Ok(config) => end_status(serve_config(alloc, config, input, out)),
         Err(status) => status,
     }
+}
+
+/// Serves the configured world as one link over two streams.
+fn serve_config<S: Source, K: Sink>(
+    alloc: Global,
+    config: Config,
+    input: &mut S,
+    out: &mut K,
+) -> LinkEnd
+    requires { HasFirstRoots config.catalogue }
+    ensures session { IsSession config (S.left input.old) (S.left input.new) (K.held out.old) (K.held out.new) result }
+    ensures causes { HasCauses (S.Source.faults input.old) (S.Source.faults input.new) (K.Sink.faults out.old) (K.Sink.faults out.new) result }
+{
+    let mut link = TwoEnds { input, out };
+    serve_over(alloc, config, &mut link)
+}
+
+/// Serves the configured world as one link. Without memory for the world, nothing is read or written.
+fn serve_over<L: Link>(alloc: Global, config: Config, link: &mut L) -> LinkEnd
+    requires { HasFirstRoots config.catalogue }
+    ensures session { IsSession config (L.left link.old) (L.left link.new) (L.held link.old) (L.held link.new) result }
+    ensures names { L.Source.names link.new ≡ L.Source.names link.old }
+    ensures causes { HasCauses (L.Source.faults link.old) (L.Source.faults link.new) (L.Sink.faults link.old) (L.Sink.faults link.new) result }
+{
+    let Config { tokens, catalogue } = config;
+    let Ok(tokens) = Tokens::of_table(alloc, tokens) else {
+        return LinkEnd::NoMemory;
+    };
+    let Ok(mut world) = opening(alloc, catalogue) else {
+        return LinkEnd::NoMemory;
+    };
+    serve_world(alloc, &mut world, &tokens, link)
+}
+
+/// The world at the start of a session.
+fn opening(alloc: Global, catalogue: Catalogue) -> Result<World, AllocError>
+    requires { HasFirstRoots catalogue }
+    ensures { IfOk result (λ world. world ≡ opening catalogue) }
+{
+    World::new(alloc, Register::new(alloc, catalogue, LANES, RUN))
 }
 
 /// The configuration that a source spells.
 fn configured<C: Source>(alloc: Global, config: &mut C) -> Result<Config, Status>
     ensures ok { IfOk result (λ made. Spells (C.left config.old) made) }
+    ensures roots { IfOk result (λ made. HasFirstRoots made.catalogue) }
     ensures err { IfErr result (λ status. IsRefusal (C.left config.old) (C.faults config.old) (C.faults config.new) status) }
     ensures later { C.faults config.old ≤ C.faults config.new }
 {
@@ -142,7 +198,7 @@ fn end_status(end: LinkEnd) -> Status
 {
     match end {
         LinkEnd::Closed => Status::Done,
-        LinkEnd::Cut { .. } | LinkEnd::Ended => Status::InputCut,
+        LinkEnd::Cut { .. } | LinkEnd::Ended(_) => Status::InputCut,
         LinkEnd::ReadFault => Status::ReadFault,
         LinkEnd::WriteFault => Status::WriteFault,
         LinkEnd::Budget => Status::Budget,

@@ -1,11 +1,12 @@
 ghost use Rattle.std.specs.Prelude.{◌<◌};
 
-use super::*;
-use edge_traits::{MemSink, MemSource};
+use crate::run::run;
+use edge_traits::{MemDoor, MemSink, MemSource, NoDisk};
 use std::alloc::{AllocError, Global};
 use std::test::Fail;
 
-const LAB: &str = "[tokens]
+/// A configuration with a folder and a domain.
+pub const LAB: &str = "[tokens]
 ta = \"alice\"
 tb = \"bob\"
 tc = \"carol\"
@@ -59,8 +60,32 @@ const BAD_TOKEN: &str =
 const NO_DOMAIN: &str =
     "HTTP/1.1 404 Not Found\r\nContent-Type: application/json\r\nContent-Length: 44\r\n\r\n{\"domain\":\"/home/none\",\"reason\":\"no-domain\"}";
 
+const BAD_HEAD: &str =
+    "HTTP/1.1 400 Bad Request\r\nContent-Type: application/json\r\nContent-Length: 21\r\nConnection: close\r\n\r\n{\"reason\":\"bad-head\"}";
+
+const HEAD_TOO_LONG: &str =
+    "HTTP/1.1 431 Request Header Fields Too Large\r\nContent-Type: application/json\r\nContent-Length: 26\r\nConnection: close\r\n\r\n{\"reason\":\"head-too-long\"}";
+
+const BODY_TOO_LONG: &str =
+    "HTTP/1.1 413 Content Too Large\r\nContent-Type: application/json\r\nContent-Length: 26\r\nConnection: close\r\n\r\n{\"reason\":\"body-too-long\"}";
+
 const NO_ROUTE: &str =
-    "HTTP/1.1 404 Not Found\r\nContent-Type: application/json\r\nContent-Length: 21\r\nConnection: close\r\n\r\n{\"reason\":\"no-route\"}";
+    "HTTP/1.1 404 Not Found\r\nContent-Type: application/json\r\nContent-Length: 21\r\n\r\n{\"reason\":\"no-route\"}";
+
+const ROOT_FORBIDDEN: &str =
+    "HTTP/1.1 403 Forbidden\r\nContent-Type: application/json\r\nContent-Length: 50\r\nWWW-Authenticate: Bearer realm=\"hsds\"\r\n\r\n{\"domain\":\"/\",\"reason\":\"forbidden\",\"right\":\"read\"}";
+
+const CREATE_FORBIDDEN: &str =
+    "HTTP/1.1 403 Forbidden\r\nContent-Type: application/json\r\nContent-Length: 56\r\nWWW-Authenticate: Bearer realm=\"hsds\"\r\n\r\n{\"domain\":\"/home\",\"reason\":\"forbidden\",\"right\":\"create\"}";
+
+const CLOSING: &str =
+    "HTTP/1.1 403 Forbidden\r\nContent-Type: application/json\r\nContent-Length: 58\r\nWWW-Authenticate: Bearer realm=\"hsds\"\r\nConnection: close\r\n\r\n{\"domain\":\"/home/lab\",\"reason\":\"forbidden\",\"right\":\"read\"}";
+
+const ONLY_GET: &str =
+    "HTTP/1.1 405 Method Not Allowed\r\nContent-Type: application/json\r\nContent-Length: 19\r\nAllow: GET\r\n\r\n{\"reason\":\"method\"}";
+
+const CREATED: &str =
+    "HTTP/1.1 201 Created\r\nContent-Type: application/json\r\nContent-Length: 2\r\n\r\n{}";
 
 /// One `session` over streams in memory.
 fn session(
@@ -114,18 +139,14 @@ fn each_request_has_its_answer(rt: HostRuntime) -> Result<(), Fail> {
             FORBIDDEN,
         ),
         ("", 0, ""),
-        ("GET / HTTP/1.1\r\n\r\n", 10, NO_ROUTE),
+        ("GET / HTTP/1.1\r\n\r\n", 0, ROOT_FORBIDDEN),
+        ("GET /nothing HTTP/1.1\r\n\r\n", 0, NO_ROUTE),
+        ("POST /domains HTTP/1.1\r\n\r\n", 0, ONLY_GET),
         (
-            "PUT /?domain=/home/lab HTTP/1.1\r\nAuthorization: Bearer tb\r\n\r\n",
-            10,
-            NO_ROUTE,
+            "PUT /?domain=/home/new HTTP/1.1\r\nAuthorization: Bearer tb\r\n\r\n",
+            0,
+            CREATE_FORBIDDEN,
         ),
-        (
-            "GET /?domain=/home/lab HTTP/1.1\r\nConnection: close\r\n\r\n",
-            10,
-            NO_ROUTE,
-        ),
-        ("\0", 10, NO_ROUTE),
     ];
     for (request, status, answer) in cases {
         let (got, out) = session(
@@ -138,6 +159,59 @@ fn each_request_has_its_answer(rt: HostRuntime) -> Result<(), Fail> {
         assert_eq!(rt; got, status, "{request}");
         assert!(rt; out.bytes() == answer.as_bytes(), "{request}");
     }
+    Ok(())
+}
+
+#[test]
+fn a_link_ends_where_a_message_closes_it_or_is_none(rt: HostRuntime) -> Result<(), Fail> {
+    let cases = [
+        (
+            "GET /?domain=/home/lab HTTP/1.1\r\nConnection: close\r\n\r\nGET / HTTP/1.1\r\n\r\n",
+            0u8,
+            CLOSING,
+        ),
+        ("GET /?domain=/home/lab HTTP/1.0\r\n\r\n", 0, CLOSING),
+        ("\0", 10, BAD_HEAD),
+        (
+            "PUT /acls/bob HTTP/1.1\r\nContent-Length: 16777217\r\n\r\n",
+            10,
+            BODY_TOO_LONG,
+        ),
+    ];
+    for (request, status, answer) in cases {
+        let (got, out) = session(
+            rt.alloc(),
+            LAB.as_bytes(),
+            request.as_bytes(),
+            1000,
+            (&[], &[]),
+        )?;
+        assert_eq!(rt; got, status, "{request}");
+        assert!(rt; out.bytes() == answer.as_bytes(), "{request}");
+    }
+    Ok(())
+}
+
+#[test]
+fn a_body_ends_at_its_limit(rt: HostRuntime) -> Result<(), Fail> {
+    let front =
+        "PUT /acls/bob HTTP/1.1\r\nAuthorization: Bearer ta\r\nX-Hdf-domain: /home/lab\r\nContent-Length: 16777216\r\n\r\n{}";
+    let text = repeated(
+        rt.alloc(),
+        front,
+        "                ",
+        1_048_575,
+        "              ",
+    )?;
+    let (status, out) = session(
+        rt.alloc(),
+        LAB.as_bytes(),
+        text.as_bytes(),
+        1_000_000,
+        (&[], &[]),
+    )?;
+    assert_eq!(rt; status, 0);
+    assert!(rt; out.bytes() == CREATED.as_bytes());
     Ok(())
 }
 
@@ -186,11 +260,11 @@ fn a_head_past_a_limit_is_refused(rt: HostRuntime) -> Result<(), Fail> {
     let long = "GET /?domain=/home/lab HTTP/1.1\r\na: ";
     for (front, piece, count, end, status, answer) in [
         (line, "a: b\r\n", 64usize, "\r\n", 0u8, FORBIDDEN),
-        (line, "a: b\r\n", 65, "\r\n", 10, NO_ROUTE),
+        (line, "a: b\r\n", 65, "\r\n", 10, HEAD_TOO_LONG),
         (long, "b", 8152, "\r\n\r\n", 0, FORBIDDEN),
-        (long, "b", 8153, "\r\n\r\n", 10, NO_ROUTE),
+        (long, "b", 8153, "\r\n\r\n", 10, HEAD_TOO_LONG),
         ("", "a", 8191, "", 10, ""),
-        ("", "a", 8192, "", 10, NO_ROUTE),
+        ("", "a", 8192, "", 10, HEAD_TOO_LONG),
     ] {
         let text = repeated(rt.alloc(), front, piece, count, end)?;
         let (got, out) = session(
@@ -269,27 +343,5 @@ fn a_configuration_ends_at_its_limit(rt: HostRuntime) -> Result<(), Fail> {
     assert_eq!(rt; status, 2);
     let (status, _) = session(rt.alloc(), b"x = 1", b"", 10, (&[], &[]))?;
     assert_eq!(rt; status, 2);
-    Ok(())
-}
-
-#[test]
-fn only_its_words_are_a_command(rt: HostRuntime) -> Result<(), Fail> {
-    let cases: [(&str, u8); 8] = [
-        ("session", 0),
-        ("session --config lab.toml", 0),
-        ("", 1),
-        ("serve", 1),
-        ("session --config", 1),
-        ("session --config -", 1),
-        ("session --config=lab.toml", 1),
-        ("session --config lab.toml x", 1),
-    ];
-    for (line, status) in cases {
-        let mut words = Vec::new(rt.alloc());
-        for word in line.split_whitespace() {
-            words.push(String::from_str(rt.alloc(), word)?)?;
-        }
-        assert_eq!(rt; wanted(words.as_slice()).is_ok(), status == 0, "{line}");
-    }
     Ok(())
 }

@@ -4,7 +4,7 @@ use Rattle.hsds_cli.proofs.RunLemmas.{complete}
 use Rattle.hsds_cli.proofs.run.run.Goals as goal
 
 pub returns-clause-complete : goal.returns-clause-complete
-returns-clause-complete g c = λ text made requests w t spelled l all few no_config no_input no_out.
+returns-clause-complete g c = λ text made messages w t spelled l all few no_config no_input no_out.
     let words : List (List ℕ) = map (string_bytes {Z = Global}) c.args.words.now in
     let sides : Sides = record {
       text = g.C.Source.left c.args.config.now;
@@ -21,4 +21,4 @@ returns-clause-complete g c = λ text made requests w t spelled l all few no_con
     } in
     let P : ℕ → Type 0 = λ n. (n ≡ 0) ⊎ (n ≡ 13) in
     subst P (sym c.number.ensures)
-    (complete words sides c.serve-status.result text made requests c.serve-status.ensures.run w t spelled l all few no_config no_input no_out)
+    (complete words sides c.serve-status.result text made messages c.serve-status.ensures.run w t spelled l all few no_config no_input no_out)

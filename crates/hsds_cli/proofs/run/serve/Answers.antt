@@ -10,28 +10,22 @@ returns-in-Ok-configured-clause-run g c =
     let sides : Sides = record {
       text = g.C.Source.left c.args.config.now;
       left_before = g.S.Source.left c.args.input.now;
-      left_after = g.S.Source.left c.serve_link.new.input;
+      left_after = g.S.Source.left c.serve_config.new.input;
       held_before = g.K.Sink.held c.args.out.now;
-      held_after = g.K.Sink.held c.serve_link.new.out;
+      held_after = g.K.Sink.held c.serve_config.new.out;
       config_before = g.C.Source.faults c.args.config.now;
       config_after = g.C.Source.faults c.configured.new.config;
       input_before = g.S.Source.faults c.args.input.now;
-      input_after = g.S.Source.faults c.serve_link.new.input;
+      input_after = g.S.Source.faults c.serve_config.new.input;
       out_before = g.K.Sink.faults c.args.out.now;
-      out_after = g.K.Sink.faults c.serve_link.new.out;
+      out_after = g.K.Sink.faults c.serve_config.new.out;
     } in
-    let t = c.serve_link.ensures.transcript in
-    let serves : Serves sides c.serve_link.result = record {
+    let serves : Serves sides c.serve_config.result = record {
       config = c.in-Ok-configured.config;
       spelled = c.in-Ok-configured.ensures.ok;
-      taken = t.0;
-      sent = t.1;
-      consumed = t.2;
-      appended = t.3;
-      transcript = t.4;
-      at_end = c.serve_link.ensures.at_end;
+      session = c.serve_config.ensures.session;
     } in
     let P : Status → Type 0 = λ status. IsRun words sides status in
     subst P (sym c.end_status.ensures)
-    (served words sides c.serve_link.result (named words _ c.in-Ok.ensures) serves
-    c.serve_link.ensures.causes.read_fault c.serve_link.ensures.causes.write_fault)
+    (served words sides c.serve_config.result (named words _ c.in-Ok.ensures.ok) serves
+    c.serve_config.ensures.causes.read_fault c.serve_config.ensures.causes.write_fault)

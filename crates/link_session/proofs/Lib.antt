@@ -1,3 +1,0 @@
-mod StepLemmas
-mod Progress
-pub mod Readings

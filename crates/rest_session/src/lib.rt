@@ -1,0 +1,11 @@
+//! The service over one link (HDF REST API, RFC 9112): each message that the link gives is read as a request, decided by
+//! the access list in force and done, and answered, one after another.
+#![tactic(auto)]
+
+mod answers;
+mod serving;
+mod world_session;
+
+pub use answers::{answer_reply, refusal_reply};
+pub use serving::serve_world;
+pub use world_session::WorldSession;
