@@ -14,8 +14,6 @@ mod operations;
 mod parameters;
 mod parts;
 mod reading;
-#[cfg(test)]
-mod tests;
 mod tokens;
 
 pub use fault::RequestFault;

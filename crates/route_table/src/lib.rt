@@ -4,8 +4,6 @@
 
 mod routes;
 mod table;
-#[cfg(test)]
-mod tests;
 
 pub use routes::{Method, Methods, Route};
 pub use table::RouteTable;
