@@ -4,6 +4,7 @@ ghost use Rattle.std.specs.Option.{option_copied};
 ghost use Rattle.text_maps.specs.Nexts.{IsNext, IsKeyStep};
 ghost use Rattle.object_ids.specs.NamedEntries.{named_entries};
 ghost use Rattle.access_lists.specs.InForce.{most_entries};
+ghost use Rattle.access_lists.specs.Lists.{IsList};
 ghost use Rattle.access_lists.specs.declared.list.ListFault.TheVariants.{NoMemory};
 
 use crate::rights::Rights;
@@ -23,13 +24,13 @@ pub struct AccessList {
 }
 
 impl Model for AccessList {
-    ghost use Rattle.std.specs.Prelude.{◌≤◌, ℕ, List};
+    ghost use Rattle.std.specs.Prelude.{ℕ, List};
     ghost use Rattle.std.specs.FinMap as map;
     ghost use Rattle.std.specs.Coded.{coded_ℕ, coded_list};
     ghost use Rattle.text_maps.specs.Keyed.{text_order};
     ghost use Rattle.access_lists.specs.declared.rights.Rights.{Rights};
     ghost use Rattle.access_lists.specs.contracts.rights.Rights as rights;
-    ghost use Rattle.access_lists.specs.InForce.{most_entries};
+    ghost use Rattle.access_lists.specs.Lists.{IsList};
 
     ghost Value = { map.FinMap text_order Rights };
 
@@ -37,7 +38,7 @@ impl Model for AccessList {
 
     ghost view = { λ a. a.entries };
 
-    ghost invariant = { λ a. map.len a.entries ≤ most_entries };
+    ghost invariant = { λ a. IsList a.entries };
 }
 
 /// Why an entry was not put into a list.
@@ -71,9 +72,17 @@ impl AccessList {
     pub fn of(alloc: Global, name: Name, rights: Rights) -> Result<AccessList, AllocError>
         ensures { IfOk result (λ list. list ≡ map.insert map.empty name rights) }
     {
+        let _ = name.text();
         let mut entries = NameMap::new(alloc);
         entries.put(name, rights)?;
         Ok(AccessList { entries })
+    }
+
+    /// What is true of every list: it has at most 1,024 entries, and each stands under a name.
+    pub fn is_whole(&self)
+        ensures { IsList self.now }
+    {
+        let _entries = &self.entries;
     }
 
     /// How many entries the list has.

@@ -4,3 +4,4 @@ pub mod FaultLemmas
 pub mod Places
 pub mod Puts
 pub mod Removals
+pub mod Roots
