@@ -1,0 +1,9 @@
+pub mod Trees
+pub mod Arrays
+pub mod Objects
+pub mod Catalogue
+pub mod Worlds
+pub mod Floats
+pub mod Depths
+pub mod Shallow
+pub mod Readings

@@ -1,0 +1,34 @@
+//! The trees of answers: what is true of the body of each, whatever the world.
+#![tactic(auto)]
+
+ghost use Rattle.answer_trees.specs.Exact.{ActsAreExact, AnswersAreExact};
+ghost use Rattle.answer_trees.specs.Exact.{DecisionsAreExact, RefusalsAreExact};
+ghost use Rattle.answer_trees.specs.Readable.{AnswersAreReadable, CallsAreReadable, NoneAreShallow};
+ghost use Rattle.answer_trees.specs.Readable.{RefusalsAreReadable, ShallowStaysShallow};
+ghost use Rattle.answer_trees.specs.Readable.{SoundIsShallow};
+
+/// No answer of the service has a number with a fraction or an exponent in its body, so each body has exactly one compact
+/// text.
+pub fn bodies_have_no_floats()
+    ensures { AnswersAreExact }
+{}
+
+/// The same of its parts: of what the register answers by itself, of each step on the objects of a lane, and of the bodies of
+/// refusals.
+pub fn replies_have_no_floats()
+    ensures decided { DecisionsAreExact }
+    ensures acted { ActsAreExact }
+    ensures refused { RefusalsAreExact }
+{}
+
+/// Where the types in a world nest no deeper, and its shapes have no more axes, than their limits, the body of each answer
+/// nests no deeper than JSON is read, and so does that of a refusal in any world. A world without objects is within these
+/// limits, and each sound request leaves it so.
+pub fn bodies_read_back()
+    ensures answers { AnswersAreReadable }
+    ensures none { NoneAreShallow }
+    ensures stays { ShallowStaysShallow }
+    ensures sound { SoundIsShallow }
+    ensures calls { CallsAreReadable }
+    ensures refused { RefusalsAreReadable }
+{}
