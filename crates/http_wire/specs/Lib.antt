@@ -1,8 +1,10 @@
+pub mod AnswerBuffers
 pub mod Bodies
 pub mod Buffers
 pub mod Found
 pub mod Heads
 pub mod Heard
+pub mod HeldAnswers
 pub mod LineReads
 pub mod Messages
 pub mod Replies

@@ -1,4 +1,4 @@
-ghost use Rattle.std.specs.Prelude.{◌≡◌, ℕ, ◌-◌, ◌<◌, ◌≤◌, List, [], ◌++◌, length, map};
+ghost use Rattle.std.specs.Prelude.{◌≡◌, ℕ, ◌+◌, ◌-◌, ◌<◌, ◌≤◌, List, [], ◌++◌, length, map};
 ghost use Rattle.std.specs.Prelude.{Ok, IfOk};
 ghost use Rattle.std.specs.Option.{option_copied};
 ghost use Rattle.edge_traits.specs.Causes.{Rose};
@@ -8,9 +8,10 @@ ghost use Rattle.http_wire.specs.Buffers.{unused_bytes};
 ghost use Rattle.http_wire.specs.Heads.{IsSmall, first_value};
 ghost use Rattle.http_wire.specs.Messages.{RequestMessage, IsSpelled, spelling};
 ghost use Rattle.http_wire.specs.Messages.{body_size, closes_after};
-ghost use Rattle.http_wire.specs.declared.limits.TheConstants.{HEAD_LIMIT, BODY_LIMIT};
+ghost use Rattle.http_wire.specs.declared.limits.TheConstants.{HEAD_LIMIT, BODY_LIMIT, ANSWER_ROOM};
 ghost use Rattle.http_wire.specs.declared.taken.Taken.TheVariants as taken;
 
+use crate::answer_buffer::AnswerBuffer;
 use crate::bodies::{BodyRead, read_body};
 use crate::buffer::HeadBuffer;
 use crate::found::Found;
@@ -21,28 +22,33 @@ use edge_traits::Source;
 use httparse::spans::RequestSpans;
 use std::alloc::{AllocError, Global};
 
-/// The input of a link, from which one message after another is taken. Its buffer is made once for the link's life.
+/// The input of a link, from which one message after another is taken, and room for an answer. Its memory is taken once
+/// for the link's life.
 #[derive(Drop)]
 pub struct Inbox {
     buffer: HeadBuffer,
     used: usize,
+    answer: AnswerBuffer,
     ghost within: { used ≤ length (unused_bytes buffer) },
 }
 
 impl Inbox {
+    ghost use Rattle.http_wire.specs.HeldAnswers.{SameInput, answer_in};
     ghost use Rattle.http_wire.specs.Taken.{waiting, head_bytes, AreSpansOf, IsHeadOf, Takes};
 
-    /// An inbox of which nothing was taken.
+    /// An inbox of which nothing was taken, with an empty answer.
     ///
     /// # Errors
     ///
-    /// `AllocError` where there is no memory for its buffer.
+    /// `AllocError` where there is no memory for its rooms.
     pub fn new(alloc: Global) -> Result<Inbox, AllocError>
-        ensures { IfOk result (λ inbox. waiting inbox ≡ []) }
+        ensures waiting { IfOk result (λ inbox. waiting inbox ≡ []) }
+        ensures answer { IfOk result (λ inbox. answer_in inbox ≡ []) }
     {
         Ok(Inbox {
             buffer: HeadBuffer::new(alloc)?,
             used: 0,
+            answer: AnswerBuffer::new(alloc)?,
         })
     }
 
@@ -54,6 +60,9 @@ impl Inbox {
         ensures names { S.names source.new ≡ S.names source.old }
         ensures later { S.faults source.old ≤ S.faults source.new }
         ensures fault { result ≡ taken.Fault → Rose (S.faults source.old) (S.faults source.new) }
+
+        // The answer stays.
+        ensures answer { answer_in self.new ≡ answer_in self.old }
 
         // No more is read ahead than a head may have.
         ensures room { length (waiting self.new) ≤ HEAD_LIMIT }
@@ -109,6 +118,31 @@ impl Inbox {
         self.buffer.closes(spans)
     }
 
+    /// The answer: the pieces that were added since it was emptied.
+    pub fn answer(&self) -> &[u8]
+        ensures value { result.now ≡ answer_in self.now }
+        ensures room { length result.now ≤ ANSWER_ROOM }
+    {
+        self.answer.as_slice()
+    }
+
+    /// Empties the answer.
+    pub fn clear_answer(&mut self)
+        ensures answer { answer_in self.new ≡ [] }
+        ensures input { SameInput self.old self.new }
+    {
+        self.answer.clear();
+    }
+
+    /// Puts a piece behind the answer.
+    pub fn add_answer(&mut self, piece: &[u8])
+        requires { length (answer_in self.old) + length piece.now ≤ ANSWER_ROOM }
+        ensures answer { answer_in self.new ≡ answer_in self.old ++ piece.now }
+        ensures input { SameInput self.old self.new }
+    {
+        self.answer.push(piece);
+    }
+
     // Takes the message whose head was found.
     fn take_message<S: Source>(
         &mut self,
@@ -123,6 +157,7 @@ impl Inbox {
         ensures names { S.names source.new ≡ S.names source.old }
         ensures later { S.faults source.old ≤ S.faults source.new }
         ensures fault { result ≡ taken.Fault → Rose (S.faults source.old) (S.faults source.new) }
+        ensures answer { answer_in self.new ≡ answer_in self.old }
         ensures unread { (h : RequestHead) → IsHeadOf self.old spans h
             → (m : RequestMessage) (rest : List ℕ) → IsSpelled m
             → head_bytes self.old ≡ spelling m ++ rest → source.new ≡ source.old }
@@ -168,6 +203,7 @@ impl Inbox {
         ensures names { S.names source.new ≡ S.names source.old }
         ensures later { S.faults source.old ≤ S.faults source.new }
         ensures fault { result ≡ taken.Fault → Rose (S.faults source.old) (S.faults source.new) }
+        ensures answer { answer_in self.new ≡ answer_in self.old }
     {
         let close = self.closes(spans);
         let count = self.buffer.unused().len();

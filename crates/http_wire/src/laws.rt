@@ -1,13 +1,14 @@
 //! Laws over the definitions of this crate. No program calls these functions; their contracts are the laws.
 ghost use Rattle.std.specs.Prelude.{◌≡◌, ℕ, ◌^◌, ◌<◌, ◌≤◌, List, ◌++◌, length, decimal, Ok};
 ghost use Rattle.http_wire.specs.Messages.{RequestMessage, IsSpelled, spelling, length_in};
-ghost use Rattle.http_wire.specs.declared.limits.TheConstants.{HEAD_LIMIT, FIELD_LIMIT, BODY_LIMIT};
+ghost use Rattle.http_wire.specs.declared.limits.TheConstants.{HEAD_LIMIT, FIELD_LIMIT, BODY_LIMIT, ANSWER_ROOM};
 
 /// The limits as numbers.
 pub fn limits_of_messages()
     ensures head { HEAD_LIMIT ≡ 8192 }
     ensures fields { FIELD_LIMIT ≡ 64 }
     ensures body { BODY_LIMIT ≡ 16777216 }
+    ensures answer { ANSWER_ROOM ≡ 8192 }
 {}
 
 /// A message has at least 14 bytes, as `A / HTTP/1.1` with two ends of lines, and its body is within the limit.

@@ -3,6 +3,7 @@
 //! what is taken depends on the bytes alone, and not on the pieces in which they come.
 #![tactic(auto)]
 
+mod answer_buffer;
 mod bodies;
 mod buffer;
 mod closing;
@@ -28,7 +29,7 @@ mod taken;
 
 pub use extra::{Extra, Methods};
 pub use inbox::Inbox;
-pub use limits::{BODY_LIMIT, FIELD_LIMIT, HEAD_LIMIT};
+pub use limits::{ANSWER_ROOM, BODY_LIMIT, FIELD_LIMIT, HEAD_LIMIT};
 pub use message::Message;
 pub use message_fault::MessageFault;
 pub use replies::{no_memory_reply, write_reply};

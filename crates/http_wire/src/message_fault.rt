@@ -24,19 +24,24 @@ impl MessageFault {
     {
         match self {
             MessageFault::BadHead => {
-                "HTTP/1.1 400 Bad Request\r\nContent-Type: application/json\r\nContent-Length: 21\r\nConnection: close\r\n\r\n{\"reason\":\"bad-head\"}"
+                "HTTP/1.1 400 Bad Request\r\nContent-Type: application/json\r\n\
+                 Content-Length: 21\r\nConnection: close\r\n\r\n{\"reason\":\"bad-head\"}"
             }
             MessageFault::HeadTooLong => {
-                "HTTP/1.1 431 Request Header Fields Too Large\r\nContent-Type: application/json\r\nContent-Length: 26\r\nConnection: close\r\n\r\n{\"reason\":\"head-too-long\"}"
+                "HTTP/1.1 431 Request Header Fields Too Large\r\nContent-Type: application/json\r\n\
+                 Content-Length: 26\r\nConnection: close\r\n\r\n{\"reason\":\"head-too-long\"}"
             }
             MessageFault::BadLength => {
-                "HTTP/1.1 400 Bad Request\r\nContent-Type: application/json\r\nContent-Length: 23\r\nConnection: close\r\n\r\n{\"reason\":\"bad-length\"}"
+                "HTTP/1.1 400 Bad Request\r\nContent-Type: application/json\r\n\
+                 Content-Length: 23\r\nConnection: close\r\n\r\n{\"reason\":\"bad-length\"}"
             }
             MessageFault::BodyTooLong => {
-                "HTTP/1.1 413 Content Too Large\r\nContent-Type: application/json\r\nContent-Length: 26\r\nConnection: close\r\n\r\n{\"reason\":\"body-too-long\"}"
+                "HTTP/1.1 413 Content Too Large\r\nContent-Type: application/json\r\n\
+                 Content-Length: 26\r\nConnection: close\r\n\r\n{\"reason\":\"body-too-long\"}"
             }
             MessageFault::TransferCoding => {
-                "HTTP/1.1 501 Not Implemented\r\nContent-Type: application/json\r\nContent-Length: 28\r\nConnection: close\r\n\r\n{\"reason\":\"transfer-coding\"}"
+                "HTTP/1.1 501 Not Implemented\r\nContent-Type: application/json\r\n\
+                 Content-Length: 28\r\nConnection: close\r\n\r\n{\"reason\":\"transfer-coding\"}"
             }
         }
     }

@@ -64,8 +64,10 @@ pub fn no_memory_reply(close: bool) -> &'static str
     ensures { result.now ≡ no_memory_reply close }
 {
     if close {
-        "HTTP/1.1 507 Insufficient Storage\r\nContent-Type: application/json\r\nContent-Length: 22\r\nConnection: close\r\n\r\n{\"reason\":\"no-memory\"}"
+        "HTTP/1.1 507 Insufficient Storage\r\nContent-Type: application/json\r\n\
+         Content-Length: 22\r\nConnection: close\r\n\r\n{\"reason\":\"no-memory\"}"
     } else {
-        "HTTP/1.1 507 Insufficient Storage\r\nContent-Type: application/json\r\nContent-Length: 22\r\n\r\n{\"reason\":\"no-memory\"}"
+        "HTTP/1.1 507 Insufficient Storage\r\nContent-Type: application/json\r\n\
+         Content-Length: 22\r\n\r\n{\"reason\":\"no-memory\"}"
     }
 }

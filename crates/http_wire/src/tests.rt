@@ -5,7 +5,10 @@ use std::process::Abort;
 use std::test::Fail;
 
 const STREAM: &str =
-    "PUT /acls/bob?domain=/a HTTP/1.1\r\nContent-Length: 14\r\nX-Hdf-domain:  /b \r\n\r\n{\"read\": true}GET / HTTP/1.1\n\n\r\nPOST /groups HTTP/1.1\r\ncontent-length: 0000000000000000002\r\n\r\n{}DELETE /x HTTP/1.0\r\n\r\nGET /last HTTP/1.1\r\n\r\n";
+    "PUT /acls/bob?domain=/a HTTP/1.1\r\nContent-Length: 14\r\nX-Hdf-domain:  /b \r\n\r\n\
+     {\"read\": true}GET / HTTP/1.1\n\n\r\nPOST /groups HTTP/1.1\r\n\
+     content-length: 0000000000000000002\r\n\r\n{}DELETE /x HTTP/1.0\r\n\r\n\
+     GET /last HTTP/1.1\r\n\r\n";
 
 // The messages of the stream: method, target, body, and whether the link ends after the answer.
 const MESSAGES: [(&str, &str, &str, bool); 5] = [
@@ -366,6 +369,18 @@ fn a_long_answer_is_written_whole_or_to_the_fault(rt: HostRuntime) -> Result<(),
         assert_eq!(rt; sink.bytes().len(), length);
         assert!(rt; failing == 0 || sink.bytes().starts_with(head.as_bytes()));
     }
+    Ok(())
+}
+
+#[test]
+fn an_answer_fills_its_room(rt: HostRuntime) -> Result<(), Fail> {
+    let mut inbox = Inbox::new(rt.alloc())?;
+    let piece = vec![in rt.alloc(); 32u8; ANSWER_ROOM]?;
+    inbox.add_answer(b"an earlier one");
+    inbox.clear_answer();
+    assert!(rt; inbox.answer().is_empty());
+    inbox.add_answer(piece.as_slice());
+    assert!(rt; inbox.answer() == piece.as_slice());
     Ok(())
 }
 
