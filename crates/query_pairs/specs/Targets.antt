@@ -7,9 +7,6 @@ use Rattle.percent_encoding.specs.Percent.{percent_decode}
 abbrev pub is_question : ℕ → Bool
 is_question byte = byte == 63
 
-abbrev pub is_slash : ℕ → Bool
-is_slash byte = byte == 47
-
 -- what stands before the first question mark
 abbrev pub path_of : List ℕ → List ℕ
 path_of target = before_first is_question target

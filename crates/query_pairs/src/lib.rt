@@ -7,7 +7,8 @@ ghost use Rattle.std.specs.Cow.{cow_str_bytes};
 ghost use Rattle.std.specs.List.{slice_split};
 ghost use Rattle.std.specs.Option.{option_copied};
 ghost use Rattle.form_urlencoded.specs.Parse.{pairs_left};
-ghost use Rattle.query_pairs.specs.Targets.{if_text, is_slash, parameter_text, path_of, query_of};
+ghost use Rattle.object_ids.specs.Paths.{is_slash};
+ghost use Rattle.query_pairs.specs.Targets.{if_text, parameter_text, path_of, query_of};
 ghost use Rattle.query_pairs.specs.Pairs.{pairs_of, value_of};
 
 use percent_encoding::{DecodeError, percent_decode};

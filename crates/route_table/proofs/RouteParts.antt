@@ -3,7 +3,7 @@ use Rattle.std.proofs.Common.{◌≡◌, ◌⊎◌, ◌∙◌, ap, sym, subst, r
 use Rattle.std.specs.Prelude.{◌↔◌, if◌then◌else◌}
 use Rattle.std.specs.List.{list_all}
 use Rattle.std.specs.Str.{bytes_eq}
-use Rattle.std.proofs.lemmas.Bool.{false≢true}
+use Rattle.std.proofs.lemmas.Bool.{and_from, and_parts, false≢true}
 use Rattle.std.proofs.lemmas.Slice.Eq.{bytes_eq-Decides}
 use Rattle.matchit.specs.Seek.{or_else}
 use Rattle.object_ids.specs.declared.ids.Kind.TheVariants as kind
@@ -12,14 +12,6 @@ use Rattle.route_table.specs.declared.routes.Route.TheVariants.{Node, Domains, A
 use Rattle.route_table.specs.Table.{Text, Part, word, param, table}
 use Rattle.route_table.specs.Found.{RowsOf, after_param, after_word, ended, found, route_for, segments, unless_empty}
 use Rattle.route_table.specs.Parts.{IsPathOf, fits, fits_path, is_any, parts_of}
-
-both : (a b : Bool) → (a && b) ≡ true → (a ≡ true) × (b ≡ true)
-both true b e = (refl, e)
-both false b e = absurd (false≢true e)
-
-joined : (a b : Bool) → a ≡ true → b ≡ true → (a && b) ≡ true
-joined true b x y = y
-joined false b x y = absurd (false≢true x)
 
 -- two lists of parts that no path has both
 abbrev apart : List Part → List Part → Bool
@@ -48,15 +40,15 @@ apart_fits (word w ∷ ps) (param n ∷ qs) [] e f g = false≢true f
 apart_fits (param n ∷ ps) (word v ∷ qs) [] e f g = false≢true f
 apart_fits (param n ∷ ps) (param m ∷ qs) [] e f g = false≢true f
 apart_fits (word w ∷ ps) (word v ∷ qs) (s ∷ ss) e f g =
-    let x = both (bytes_eq w s) (fits ps ss) f in
-    let y = both (bytes_eq v s) (fits qs ss) g in
+    let x = and_parts (bytes_eq w s) (fits ps ss) f in
+    let y = and_parts (bytes_eq v s) (fits qs ss) g in
     apart_fits ps qs ss (same_words w v s (apart ps qs) x.0 y.0 e) x.1 y.1
 apart_fits (word w ∷ ps) (param n ∷ qs) (s ∷ ss) e f g =
-    apart_fits ps qs ss e (both (bytes_eq w s) (fits ps ss) f).1 (both (is_any s) (fits qs ss) g).1
+    apart_fits ps qs ss e (and_parts (bytes_eq w s) (fits ps ss) f).1 (and_parts (is_any s) (fits qs ss) g).1
 apart_fits (param n ∷ ps) (word v ∷ qs) (s ∷ ss) e f g =
-    apart_fits ps qs ss e (both (is_any s) (fits ps ss) f).1 (both (bytes_eq v s) (fits qs ss) g).1
+    apart_fits ps qs ss e (and_parts (is_any s) (fits ps ss) f).1 (and_parts (bytes_eq v s) (fits qs ss) g).1
 apart_fits (param n ∷ ps) (param m ∷ qs) (s ∷ ss) e f g =
-    apart_fits ps qs ss e (both (is_any s) (fits ps ss) f).1 (both (is_any s) (fits qs ss) g).1
+    apart_fits ps qs ss e (and_parts (is_any s) (fits ps ss) f).1 (and_parts (is_any s) (fits qs ss) g).1
 
 module _ {K : Type 0} where
   -- a row of this key has the parts
@@ -88,7 +80,7 @@ module _ {K : Type 0} where
   word_case : (b : Bool) (w s : Text) (ps : List Part) (ss : List Text) (x k : K) (rest : RowsOf K) → bytes_eq w s ≡ b
       → (Fitting ss k (after_word s rest) → Fitting (s ∷ ss) k rest)
       → Fitting ss k (if b then (ps, x) ∷ after_word s rest else after_word s rest) → Fitting (s ∷ ss) k ((word w ∷ ps, x) ∷ rest)
-  word_case true w s ps ss x k rest e go (inl h) = inl (joined (bytes_eq w s) (fits ps ss) e h.0, h.1)
+  word_case true w s ps ss x k rest e go (inl h) = inl (and_from (bytes_eq w s) (fits ps ss) e h.0, h.1)
   word_case true w s ps ss x k rest e go (inr h) = inr (go h)
   word_case false w s ps ss x k rest e go h = inr (go h)
 
@@ -150,11 +142,11 @@ module _ {K : Type 0} where
   goes s ss k (([], x) ∷ rest) (inl h) = absurd (false≢true h.0)
   goes s ss k (([], x) ∷ rest) (inr h) = goes s ss k rest h
   goes s ss k ((word w ∷ ps, x) ∷ rest) (inl h) =
-      let fit = both (bytes_eq w s) (fits ps ss) h.0 in
+      let fit = and_parts (bytes_eq w s) (fits ps ss) h.0 in
       inl (subst (λ (b : Bool). Fitting ss k (if b then (ps, x) ∷ after_word s rest else after_word s rest)) (sym fit.0) (inl (fit.1, h.1)))
   goes s ss k ((word w ∷ ps, x) ∷ rest) (inr h) = past_word w s ps ss x k rest (goes s ss k rest h)
   goes s ss k ((param n ∷ ps, x) ∷ rest) (inl h) =
-      let fit = both (is_any s) (fits ps ss) h.0 in inr (fit.0, inl (fit.1, h.1))
+      let fit = and_parts (is_any s) (fits ps ss) h.0 in inr (fit.0, inl (fit.1, h.1))
   goes s ss k ((param n ∷ ps, x) ∷ rest) (inr h) = past_param s n ps ss x k rest (goes s ss k rest h)
 
   neither : (a b : Option K) → or_else a b ≡ None → (a ≡ None) × (b ≡ None)
@@ -184,19 +176,19 @@ module _ {K : Type 0} where
       → Fitting ss k R → ⊥
   none_beside ps ss k [] f e h = h
   none_beside ps ss k ((qs, x) ∷ rest) f e (inl h) =
-      apart_fits ps qs ss (both (apart ps qs) (list_all (λ row. apart ps row.0) rest) e).0 f h.0
+      apart_fits ps qs ss (and_parts (apart ps qs) (list_all (λ row. apart ps row.0) rest) e).0 f h.0
   none_beside ps ss k ((qs, x) ∷ rest) f e (inr h) =
-      none_beside ps ss k rest f (both (apart ps qs) (list_all (λ row. apart ps row.0) rest) e).1 h
+      none_beside ps ss k rest f (and_parts (apart ps qs) (list_all (λ row. apart ps row.0) rest) e).1 h
 
   one_fits : (ss : List Text) (a b : K) (R : RowsOf K) → all_apart R ≡ true → Fitting ss a R → Fitting ss b R → a ≡ b
   one_fits ss a b [] e f g = absurd f
   one_fits ss a b ((ps, x) ∷ rest) e (inl f) (inl g) = sym f.1 ∙ g.1
   one_fits ss a b ((ps, x) ∷ rest) e (inl f) (inr g) =
-      absurd (none_beside ps ss b rest f.0 (both (list_all (λ row. apart ps row.0) rest) (all_apart rest) e).0 g)
+      absurd (none_beside ps ss b rest f.0 (and_parts (list_all (λ row. apart ps row.0) rest) (all_apart rest) e).0 g)
   one_fits ss a b ((ps, x) ∷ rest) e (inr f) (inl g) =
-      absurd (none_beside ps ss a rest g.0 (both (list_all (λ row. apart ps row.0) rest) (all_apart rest) e).0 f)
+      absurd (none_beside ps ss a rest g.0 (and_parts (list_all (λ row. apart ps row.0) rest) (all_apart rest) e).0 f)
   one_fits ss a b ((ps, x) ∷ rest) e (inr f) (inr g) =
-      one_fits ss a b rest (both (list_all (λ row. apart ps row.0) rest) (all_apart rest) e).1 f g
+      one_fits ss a b rest (and_parts (list_all (λ row. apart ps row.0) rest) (all_apart rest) e).1 f g
 
   behind : (n : ℕ) (ss : List Text) (k : K) (R : RowsOf K) → Fitting ss k (drop n R) → Fitting ss k R
   behind zero ss k R h = h

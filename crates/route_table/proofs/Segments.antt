@@ -4,6 +4,7 @@ use Rattle.std.specs.Prelude.{cond, if◌then◌else◌, ltb, nat_eq}
 use Rattle.std.specs.List.{list_all}
 use Rattle.std.specs.Cmp.Lexicographic.{pointwise}
 use Rattle.std.specs.Str.{bytes_eq}
+use Rattle.std.proofs.lemmas.Bool.{and_parts}
 use Rattle.std.proofs.lemmas.Bool.Decides.{nat_tests}
 use Rattle.std.proofs.Math.Bool.{and-false}
 use Rattle.std.proofs.lemmas.List.{drop_at, length-append}
@@ -33,10 +34,6 @@ has_good_words (param n ∷ ps) = has_good_words ps
 flip_eq : (a b : ℕ) → (a == b) ≡ false → (b == a) ≡ false
 flip_eq a b e = grind (arith, nat_tests)
 
-both : (a b : Bool) → (a && b) ≡ true → (a ≡ true) × (b ≡ true)
-both true b e = (refl, e)
-both false b e = let bad : false ≡ true = e in cc
-
 not_true : (a : Bool) → not a ≡ true → a ≡ false
 not_true true e = let bad : false ≡ true = e in cc
 not_true false e = refl
@@ -52,12 +49,12 @@ record IsPartByte (b : ℕ) : Type 0 where
 
 part_byte : (b : ℕ) → is_part_byte b ≡ true → IsPartByte b
 part_byte b e =
-    let h = both (not (b == 47)) (not (b == 256) && not (b == 257)) e in
-    let k = both (not (b == 256)) (not (b == 257)) h.1 in
+    let h = and_parts (not (b == 47)) (not (b == 256) && not (b == 257)) e in
+    let k = and_parts (not (b == 256)) (not (b == 257)) h.1 in
     record { no_slash = not_true _ h.0; no_param = not_true _ k.0; no_rest = not_true _ k.1 }
 
 part_cons : (b : ℕ) (s : Text) → is_part (b ∷ s) ≡ true → IsPartByte b × (is_part s ≡ true)
-part_cons b s e = let h = both (is_part_byte b) (is_part s) e in (part_byte b h.0, h.1)
+part_cons b s e = let h = and_parts (is_part_byte b) (is_part s) e in (part_byte b h.0, h.1)
 
 abbrev Lits : Type 0 → Type 0
 Lits K = List (Text × (List Part × K))
@@ -170,35 +167,35 @@ module _ {K : Type 0} where
   good_words [] e = refl
   good_words (([], k) ∷ rest) e = good_words rest e
   good_words ((word w ∷ ps, k) ∷ rest) e =
-      let h = both (is_part w && has_good_words ps) (good rest) e in
-      ap₂ (λ (x y : Bool). x && y) (both (is_part w) (has_good_words ps) h.0).0 (good_words rest h.1)
-  good_words ((param n ∷ ps, k) ∷ rest) e = good_words rest (both (has_good_words ps) (good rest) e).1
+      let h = and_parts (is_part w && has_good_words ps) (good rest) e in
+      ap₂ (λ (x y : Bool). x && y) (and_parts (is_part w) (has_good_words ps) h.0).0 (good_words rest h.1)
+  good_words ((param n ∷ ps, k) ∷ rest) e = good_words rest (and_parts (has_good_words ps) (good rest) e).1
 
   good_param : (R : RowsOf K) → good R ≡ true → good (after_param R) ≡ true
   good_param [] e = refl
   good_param (([], k) ∷ rest) e = good_param rest e
-  good_param ((word w ∷ ps, k) ∷ rest) e = good_param rest (both (is_part w && has_good_words ps) (good rest) e).1
+  good_param ((word w ∷ ps, k) ∷ rest) e = good_param rest (and_parts (is_part w && has_good_words ps) (good rest) e).1
   good_param ((param n ∷ ps, k) ∷ rest) e =
-      let h = both (has_good_words ps) (good rest) e in
+      let h = and_parts (has_good_words ps) (good rest) e in
       ap₂ (λ (x y : Bool). x && y) h.0 (good_param rest h.1)
 
   good_word : (s : Text) (R : RowsOf K) → good R ≡ true → good (after_word s R) ≡ true
   good_word s [] e = refl
   good_word s (([], k) ∷ rest) e = good_word s rest e
   good_word s ((word w ∷ ps, k) ∷ rest) e =
-      let h = both (is_part w && has_good_words ps) (good rest) e in
-      go (bytes_eq w s) (both (is_part w) (has_good_words ps) h.0).1 (good_word s rest h.1)
+      let h = and_parts (is_part w && has_good_words ps) (good rest) e in
+      go (bytes_eq w s) (and_parts (is_part w) (has_good_words ps) h.0).1 (good_word s rest h.1)
     where
       go : (b : Bool) → has_good_words ps ≡ true → good (after_word s rest) ≡ true → good (if b then (ps, k) ∷ after_word s rest else after_word s rest) ≡ true
       go true x y = ap₂ (λ (x y : Bool). x && y) x y
       go false x y = y
-  good_word s ((param n ∷ ps, k) ∷ rest) e = good_word s rest (both (has_good_words ps) (good rest) e).1
+  good_word s ((param n ∷ ps, k) ∷ rest) e = good_word s rest (and_parts (has_good_words ps) (good rest) e).1
 
   good_strip : (b : ℕ) (L : Lits K) → good_lits L ≡ true → good_lits (strip b L) ≡ true
   good_strip b [] e = refl
   good_strip b (([], x) ∷ rest) e = good_strip b rest e
   good_strip b ((c ∷ w, x) ∷ rest) e =
-      let h = both (is_part (c ∷ w)) (good_lits rest) e in
+      let h = and_parts (is_part (c ∷ w)) (good_lits rest) e in
       go (c == b) (part_cons c w h.0).1 (good_strip b rest h.1)
     where
       go : (t : Bool) → is_part w ≡ true → good_lits (strip b rest) ≡ true → good_lits (cond t ((w, x) ∷ strip b rest) (strip b rest)) ≡ true
@@ -254,33 +251,33 @@ module _ {K : Type 0} where
   param_mid [] e = refl
   param_mid (([], k) ∷ rest) e = param_mid rest e
   param_mid ((word w ∷ ps, k) ∷ rest) e =
-      let h = both (is_part w && has_good_words ps) (good rest) e in
-      step_off 256 w ps k (mid rest) refl (off_param w (both (is_part w) (has_good_words ps) h.0).0) ∙ param_mid rest h.1
-  param_mid ((param n ∷ ps, k) ∷ rest) e = ap (λ (z : r.RowsOf K). (pattern_of ps, k) ∷ z) (param_mid rest (both (has_good_words ps) (good rest) e).1)
+      let h = and_parts (is_part w && has_good_words ps) (good rest) e in
+      step_off 256 w ps k (mid rest) refl (off_param w (and_parts (is_part w) (has_good_words ps) h.0).0) ∙ param_mid rest h.1
+  param_mid ((param n ∷ ps, k) ∷ rest) e = ap (λ (z : r.RowsOf K). (pattern_of ps, k) ∷ z) (param_mid rest (and_parts (has_good_words ps) (good rest) e).1)
 
   rest_mid : (R : RowsOf K) → good R ≡ true → step 257 (mid R) ≡ []
   rest_mid [] e = refl
   rest_mid (([], k) ∷ rest) e = rest_mid rest e
   rest_mid ((word w ∷ ps, k) ∷ rest) e =
-      let h = both (is_part w && has_good_words ps) (good rest) e in
-      step_off 257 w ps k (mid rest) refl (off_rest w (both (is_part w) (has_good_words ps) h.0).0) ∙ rest_mid rest h.1
-  rest_mid ((param n ∷ ps, k) ∷ rest) e = rest_mid rest (both (has_good_words ps) (good rest) e).1
+      let h = and_parts (is_part w && has_good_words ps) (good rest) e in
+      step_off 257 w ps k (mid rest) refl (off_rest w (and_parts (is_part w) (has_good_words ps) h.0).0) ∙ rest_mid rest h.1
+  rest_mid ((param n ∷ ps, k) ∷ rest) e = rest_mid rest (and_parts (has_good_words ps) (good rest) e).1
 
   param_lits : (L : Lits K) → good_lits L ≡ true → step 256 (lits L) ≡ []
   param_lits [] e = refl
   param_lits ((w, x) ∷ rest) e =
-      let h = both (is_part w) (good_lits rest) e in step_off 256 w x.0 x.1 (lits rest) refl (off_param w h.0) ∙ param_lits rest h.1
+      let h = and_parts (is_part w) (good_lits rest) e in step_off 256 w x.0 x.1 (lits rest) refl (off_param w h.0) ∙ param_lits rest h.1
 
   rest_lits : (L : Lits K) → good_lits L ≡ true → step 257 (lits L) ≡ []
   rest_lits [] e = refl
   rest_lits ((w, x) ∷ rest) e =
-      let h = both (is_part w) (good_lits rest) e in step_off 257 w x.0 x.1 (lits rest) refl (off_rest w h.0) ∙ rest_lits rest h.1
+      let h = and_parts (is_part w) (good_lits rest) e in step_off 257 w x.0 x.1 (lits rest) refl (off_rest w h.0) ∙ rest_lits rest h.1
 
   slash_lits : (L : Lits K) → good_lits L ≡ true → step 47 (lits L) ≡ step 47 (rows (pick [] L))
   slash_lits [] e = refl
   slash_lits (([], x) ∷ rest) e = step_cons 47 (pattern_of x.0) x.1 (lits rest) (rows (pick [] rest)) (slash_lits rest e)
   slash_lits ((c ∷ w, x) ∷ rest) e =
-      let h = both (is_part (c ∷ w)) (good_lits rest) e in
+      let h = and_parts (is_part (c ∷ w)) (good_lits rest) e in
       ap (λ (b : Bool). cond b ((w ++ pattern_of x.0, x.1) ∷ step 47 (lits rest)) (step 47 (lits rest))) (part_cons c w h.0).0.no_slash ∙ slash_lits rest h.1
 
   own_lits : (L : Lits K) → own (lits L) ≡ own (rows (pick [] L))
@@ -483,7 +480,7 @@ module _ {K : Type 0} where
       ∙ seek_parts (t ∷ ts) (after_word [] R) parts (good_word [] R fine))
       (param_stops (after_param R) (t ++ path_of ts))
   seek_parts ((b ∷ s) ∷ ss) R parts fine =
-      let h = both (is_part (b ∷ s)) (are_parts ss) parts in
+      let h = and_parts (is_part (b ∷ s)) (are_parts ss) parts in
       seek_rows R ((b ∷ s) ++ path_of ss) ∙ seek_mid R b (s ++ path_of ss) fine (flip_eq b 256 (part_cons b s h.0).0.no_param)
       ∙ ap₂ (λ (x y : Option K). or_else x y)
       (seek_lits (b ∷ s) (words_in R) ss h.0 (good_words R fine) ∙ ap (λ (x : RowsOf K). seek 0 (rows x) (path_of ss)) (picked (b ∷ s) R)

@@ -1,9 +1,9 @@
 -- The routes as `matchit` has them, and what inserts make of them.
-use Rattle.std.specs.Prelude.{ℕ, ◌+◌, length, List, [], ◌∷◌, ◌++◌, Result, Ok, Err}
+use Rattle.std.specs.Prelude.{◌≡◌, ℕ, ◌+◌, length, List, [], ◌∷◌, ◌++◌, Bool, true, false, is_none, Result, Ok, Err}
 use Rattle.std.specs.Borrow.{Bor}
 use Rattle.matchit.specs.Order.{placed}
 use Rattle.matchit.specs.Route.{Scan, parse_route}
-use Rattle.matchit.specs.Router.{RouteOf, route_from}
+use Rattle.matchit.specs.Router.{RouteOf, nearest, route_from}
 use Rattle.matchit.specs.Rows.{RowsOf}
 use Rattle.matchit.specs.declared.error.InsertError.{InsertError}
 use Rattle.route_table.specs.declared.routes.Route.{Route}
@@ -45,9 +45,22 @@ put_scan (Err error) route rows = rows
 unfoldable pub put : Text → Route → Rows → Rows
 put text route rows = put_scan (parse_route text) route rows
 
+abbrev pub is_new_scan : Result Scan InsertError → Rows → Bool
+is_new_scan (Ok scan) rows = is_none (nearest scan.pattern rows)
+is_new_scan (Err error) rows = false
+
+-- a text spells a route, which conflicts with none of the rows
+unfoldable pub IsNew : Text → Rows → Type 0
+IsNew text rows = is_new_scan (parse_route text) rows ≡ true
+
 abbrev pub put_all : List (Text × Route) → Rows → Rows
 put_all [] rows = rows
 put_all (x ∷ rest) rows = put_all rest (put x.0 x.1 rows)
+
+-- each of the texts is new among the rows and the texts before it
+abbrev pub AreNew : List (Text × Route) → Rows → Type 0
+AreNew [] rows = Unit {0}
+AreNew (x ∷ rest) rows = IsNew x.0 rows × AreNew rest (put x.0 x.1 rows)
 
 abbrev pub text_row : Bor (List ℕ) × Route → Text × Route
 text_row row = (row.0.now, row.1)

@@ -4,6 +4,8 @@
 
 mod routes;
 mod table;
+#[cfg(test)]
+mod tests;
 
 pub use routes::{Method, Methods, Route};
 pub use table::RouteTable;

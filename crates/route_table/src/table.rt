@@ -1,7 +1,8 @@
 //! The table of routes.
 
-ghost use Rattle.std.specs.Prelude.{◌≡◌, ◌↔◌, IfOk, OnOk, map};
-ghost use Rattle.route_table.specs.Rows.{put, put_all, shown, text_row};
+ghost use Rattle.std.specs.Prelude.{◌≡◌, ◌↔◌, IfErr, IfOk, OnOk, map};
+ghost use Rattle.matchit.specs.declared.error.InsertError.TheVariants.{OutOfMemory};
+ghost use Rattle.route_table.specs.Rows.{AreNew, IsNew, put, put_all, shown, text_row};
 ghost use Rattle.route_table.specs.Table.{table};
 ghost use Rattle.route_table.specs.Found.{route_for};
 
@@ -49,13 +50,26 @@ static ROUTES: [(&str, Route); 21] = [
     ),
 ];
 
-fn insert_row(router: &mut Router<Route>, text: &str, route: Route) -> Result<(), InsertError>
-    ensures { OnOk result (router.new ≡ put text.now route router.old) }
+fn inserted(router: &mut Router<Route>, text: &str, route: Route) -> Result<(), InsertError>
+    ensures row { OnOk result (router.new ≡ put text.now route router.old) }
+    ensures memory { IsNew text.now router.old → IfErr result (λ error. error ≡ OutOfMemory) }
 {
     router.insert(text, route)
 }
 
-fn insert_all(router: &mut Router<Route>, rows: &[(&str, Route)]) -> Result<(), InsertError>
+fn insert_row(router: &mut Router<Route>, text: &str, route: Route) -> Result<(), AllocError>
+    requires { IsNew text.now router.now }
+    ensures { OnOk result (router.new ≡ put text.now route router.old) }
+{
+    match inserted(router, text, route) {
+        Ok(()) => Ok(()),
+        Err(InsertError::OutOfMemory) => Err(AllocError),
+        Err(_) => unreachable!(),
+    }
+}
+
+fn insert_all(router: &mut Router<Route>, rows: &[(&str, Route)]) -> Result<(), AllocError>
+    requires { AreNew (map text_row rows.now) router.now }
     ensures { OnOk result (router.new ≡ put_all (map text_row rows.now) router.old) }
 {
     for row in rows {
@@ -64,7 +78,7 @@ fn insert_all(router: &mut Router<Route>, rows: &[(&str, Route)]) -> Result<(), 
     Ok(())
 }
 
-fn router(alloc: Global) -> Result<Router<Route>, InsertError>
+fn router(alloc: Global) -> Result<Router<Route>, AllocError>
     ensures { IfOk result (λ router. router ≡ map shown table) }
 {
     let mut router = Router::new(alloc);
@@ -83,12 +97,10 @@ impl RouteTable {
     ghost use Rattle.route_table.specs.Parts.{IsPathOf};
     ghost use Rattle.route_table.specs.declared.routes.Route.{Route};
 
-    /// The table. That no other error than want of memory comes is shown by a test.
+    /// The table. No row of it conflicts with another, so an error is want of memory and nothing else.
     pub fn new(alloc: Global) -> Result<RouteTable, AllocError> {
-        match router(alloc) {
-            Ok(router) => Ok(RouteTable { router }),
-            Err(_) => Err(AllocError),
-        }
+        let router = router(alloc)?;
+        Ok(RouteTable { router })
     }
 
     /// What a path names: the route whose words and parameters its parts between slashes are. A parameter is any part

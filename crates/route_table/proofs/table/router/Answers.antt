@@ -1,8 +1,11 @@
 use Rattle.std.proofs.Common.{◌∙◌, ap₂, map, List, ℕ, Bor}
 use Rattle.route_table.specs.Rows.{Rows, put_all, text_row}
 use Rattle.route_table.specs.declared.routes.Route.{Route}
-use Rattle.route_table.proofs.PutLemmas.{all_is}
+use Rattle.route_table.proofs.PutLemmas.{all_is, all_new}
 use Rattle.route_table.proofs.table.router.Goals as goal
+
+pub insert_all-requires : goal.insert_all-requires
+insert_all-requires c = rw (c.as_slice.ensures, c.new-router.ensures) all_new
 
 pub returns : goal.returns
 returns c =
