@@ -1,6 +1,5 @@
 mod BodyLemmas
-mod DefaultLemmas
 mod LinkLemmas
 mod MakeLemmas
-mod OrderLemmas
+pub mod OrderLemmas
 mod ValueLemmas

@@ -1,7 +1,7 @@
 -- Texts, and the ids and titles that they are.
 use Rattle.std.proofs.Common.{◌≡◌, ◌≢◌, ◌∙◌, ◌&&◌, ap, sym, ℕ, List, [], ◌∷◌, Bool, true, false, not, nat_eq, cond, Option, Some, None, Result, Ok, Err, All, refl}
 use Rattle.std.specs.Prelude.{IfSome, IfNone}
-use Rattle.std.proofs.lemmas.Bool.{eqb-true, true≢false}
+use Rattle.std.proofs.lemmas.Bool.{and_from, eqb-true}
 use Rattle.std.proofs.lemmas.List.Elements.{All-head, All-tail}
 use Rattle.json_trees.specs.Faults.{◌>>=◌}
 use Rattle.object_ids.specs.Ids.{InRange, text_of_id}
@@ -23,14 +23,10 @@ other_byte : (b : ℕ) (t : Bool) → nat_eq b 47 ≡ t → b ≢ 47 → not t �
 other_byte b true e other = absurd (other (eqb-true b 47 e))
 other_byte b false e other = refl
 
-both : (a b : Bool) → a ≡ true → b ≡ true → (a && b) ≡ true
-both true b e f = f
-both false b e f = absurd (true≢false (sym e))
-
 pub no_slash : (text : List ℕ) → All (λ byte. byte ≢ 47) text → has_no_slash text ≡ true
 no_slash [] h = refl
 no_slash (b ∷ bs) h =
-    both (not (nat_eq b 47)) (has_no_slash bs) (other_byte b _ refl (All-head (λ byte. byte ≢ 47) b bs h)) (no_slash bs (All-tail (λ byte. byte ≢ 47) b bs h))
+    and_from (not (nat_eq b 47)) (has_no_slash bs) (other_byte b _ refl (All-head (λ byte. byte ≢ 47) b bs h)) (no_slash bs (All-tail (λ byte. byte ≢ 47) b bs h))
 
 -- a name that is a good title is one
 pub titled : (text title : List ℕ) → name_in text ≡ Ok title → IsGoodTitle title → title_in text ≡ Ok title

@@ -9,14 +9,12 @@ use Rattle.hdf_types.specs.Faults.{Fails, Fault, fault}
 use Rattle.chunk_layout.specs.Asked.{IsAnswer}
 use Rattle.chunk_layout.specs.declared.Layout.{Layout}
 use Rattle.chunk_layout.specs.declared.LayoutFault.{LayoutFault}
-use Rattle.chunk_layout.proofs.DefaultLemmas.{one_end}
-use Rattle.chunk_layout.specs.Defaults.{at_least_one}
+use Rattle.default_chunks.specs.Halving.{default_chunk}
+use Rattle.default_chunks.proofs.HalvingLemmas.{default_only}
 use Rattle.object_ops.specs.declared.refusals.Refusal.{Refusal}
 use Rattle.request_bodies.specs.Refusing.{Answers}
-use Rattle.request_bodies.specs.Defaults.{default_chunk}
 use Rattle.request_bodies.specs.Makes.{class_given, type_or}
 use Rattle.request_bodies.specs.Properties.{chunk_or}
-use Rattle.request_bodies.proofs.DefaultLemmas.{default_is}
 
 -- a fault of a type is refused as its cause, or its class is kept
 pub class_answers : (f : TypeFault) (r : Result Elem Fault) → Fails f r → Answers (class_given f) (type_or r)
@@ -35,5 +33,5 @@ pub answered : (size : ℕ) (dims : List ℕ) (r : Result (Option (List ℕ)) La
 answered size dims (Err f) layout e = let other : Ok layout ≡ Err f = e in absurd (cc)
 answered size dims (Ok None) layout e =
     let as_layout : List ℕ → Result Layout Refusal = λ chunk. Ok (record { chunk = chunk }) in
-    ap as_layout (one_end size (at_least_one dims) (default_chunk size dims) layout.chunk (default_is size dims) e)
+    ap as_layout (default_only size dims layout.chunk e)
 answered size dims (Ok (Some chunk)) layout e = let same : Ok layout ≡ Ok (record { chunk = chunk }) = e in cc

@@ -1,9 +1,9 @@
 pub mod Refusing
 pub mod Bodies
-pub mod Defaults
 pub mod Properties
 pub mod Makes
 pub mod Values
+pub mod Order
 pub use Rattle.json_trees.specs.Faults
 pub use Rattle.json_trees.specs.Trees
 pub use Rattle.object_ids.specs.Ids

@@ -23,7 +23,7 @@ pub use attributes::attribute_of;
 pub use bodies::body_of;
 pub use faults::BodyFault;
 pub use keys::{dims_of, folder_of, rights_of};
-pub use laws::{default_chunks, limits_of_bodies, makes_in_order};
+pub use laws::{attributes_in_order, limits_of_bodies, makes_in_order};
 pub use links::{MAX_NAME, id_of_kind, name_of, target_of, title_of};
 pub use makes::make_of;
 pub use values::{points_of, write_of};

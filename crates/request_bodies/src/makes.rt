@@ -128,10 +128,7 @@ fn shape_of(body: &Value) -> Result<Shape, Refusal>
     ensures exact { result ≡ shape_in (view body.now) }
     ensures sound { IfOk result IsSound }
 {
-    match read_shape(body.get("shape"), body.get("maxdims")) {
-        Ok(shape) => Ok(shape),
-        Err(fault) => Err(shape_refusal(fault)),
-    }
+    read_shape(body.get("shape"), body.get("maxdims")).map_err(shape_refusal)
 }
 
 // The form of the link, then what was kept of the type and the shape, then the title.
@@ -159,10 +156,7 @@ fn group_of(link: &Value) -> Result<ObjectId, BodyFault>
     ensures exact { Answers result (group_in (view link.now)) }
     ensures group { IfOk result IsGroup }
 {
-    match group_id(member_text(link, "id")) {
-        Some(group) => Ok(group),
-        None => Err(BodyFault::Refused(bad_field(FieldWord::Link))),
-    }
+    Ok(group_id(member_text(link, "id")).ok_or(bad_field(FieldWord::Link))?)
 }
 
 fn group_id(text: Option<&str>) -> Option<ObjectId>
@@ -178,8 +172,5 @@ fn group_id(text: Option<&str>) -> Option<ObjectId>
 fn title_text(link: &Value) -> Result<&str, BodyFault>
     ensures { Gives (λ text. text.now) result (title_text (view link.now)) }
 {
-    match member_text(link, "name") {
-        Some(text) => Ok(text),
-        None => Err(BodyFault::Refused(bad_field(FieldWord::Link))),
-    }
+    Ok(member_text(link, "name").ok_or(bad_field(FieldWord::Link))?)
 }

@@ -1,6 +1,6 @@
 use Rattle.shapes.specs.Shapes.{dims_of}
-use Rattle.request_bodies.specs.Defaults.{default_chunk}
-use Rattle.request_bodies.proofs.DefaultLemmas.{default_is}
+use Rattle.default_chunks.specs.Halving.{default_chunk}
+use Rattle.default_chunks.proofs.HalvingLemmas.{default_is}
 use Rattle.request_bodies.proofs.properties.open_layout.Goals as goal
 
 pub returns-clause-chunk : goal.returns-clause-chunk

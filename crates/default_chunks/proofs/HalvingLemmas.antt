@@ -1,13 +1,13 @@
 -- The default chunk is the one after the fewest halvings.
-use Rattle.std.proofs.Common.{◌≡◌, ℕ, zero, suc, ◌*◌, ◌<◌, ◌≤◌, Bool, true, false, cond, List, [], ◌∷◌, ◌+◌, sum, nat_lt, refl, sym, ap, subst, ◌∙◌, arith}
+use Rattle.std.proofs.Common.{◌≡◌, ℕ, zero, suc, ◌*◌, ◌≤◌, Bool, true, false, cond, List, [], ◌∷◌, ◌+◌, sum, nat_lt, refl, sym, ap, ◌∙◌, arith}
 use Rattle.std.proofs.lemmas.Bool.{lt-ltb, ltb-true, false≢true}
 use Rattle.std.proofs.lemmas.List.Sums.{sum_by-cons}
 use Rattle.json_trees.proofs.TreeLemmas.{both_true}
 use Rattle.shapes.specs.Places.{cell_count}
 use Rattle.chunk_layout.specs.declared.TheConstants.{DEFAULT_CHUNK_BYTES}
 use Rattle.chunk_layout.specs.Defaults.{at_least_one, largest, halved, IsLarge, IsHalvedDown, IsDefault}
-use Rattle.chunk_layout.proofs.DefaultLemmas.{IsOnWay, way_begins, way_goes, way_ends, halve_falls, total}
-use Rattle.request_bodies.specs.Defaults.{default_chunk, halved_while, is_large}
+use Rattle.chunk_layout.proofs.DefaultLemmas.{IsOnWay, one_end, way_begins, way_goes, way_ends, halve_falls, total}
+use Rattle.default_chunks.specs.Halving.{default_chunk, halved_while, is_large}
 
 large : (size : ℕ) (chunk : List ℕ) → is_large size chunk ≡ true → IsLarge size chunk
 large size chunk e =
@@ -42,3 +42,7 @@ unfolding default_chunk
 default_is size dims =
     let start = at_least_one dims in
     on_way (sum start) size start start (way_begins size start) (omega (arith, total_sum start))
+
+-- a default chunk is this one
+pub default_only : (size : ℕ) (dims chunk : List ℕ) → IsDefault size dims chunk → default_chunk size dims ≡ chunk
+default_only size dims chunk is = one_end size (at_least_one dims) (default_chunk size dims) chunk (default_is size dims) is
