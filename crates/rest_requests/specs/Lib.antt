@@ -3,3 +3,4 @@ pub mod Forms
 pub mod Parameters
 pub mod Operations
 pub mod Requests
+pub mod Order

@@ -3,11 +3,12 @@ use Rattle.std.specs.Prelude.{ℕ, List, Option, Result, option_and_then, slice_
 use Rattle.std.specs.List.{slice_split}
 use Rattle.json_trees.specs.Faults.{◌>>=◌}
 use Rattle.object_ids.specs.IdValues.{Id}
+use Rattle.object_ids.specs.Paths.{is_slash}
 use Rattle.object_ids.specs.declared.ids.Kind.{Kind}
 use Rattle.object_ops.specs.declared.refusals.Refusal.{Refusal}
 use Rattle.object_ops.specs.declared.refusals.Refusal.TheVariants.{BadField, BadName}
 use Rattle.object_ops.specs.declared.words.FieldWord.TheVariants as field
-use Rattle.query_pairs.specs.Targets.{is_slash, parameter_text}
+use Rattle.query_pairs.specs.Targets.{parameter_text}
 use Rattle.query_pairs.specs.Pairs.{Text}
 use Rattle.request_bodies.specs.Bodies.{id_in, name_in, title_in}
 use Rattle.request_bodies.specs.Refusing.{or_refuse}

@@ -8,16 +8,20 @@ mod datasets;
 mod domain;
 mod fault;
 mod forms;
+mod laws;
 mod nodes;
 mod objects;
 mod operations;
 mod parameters;
 mod parts;
 mod reading;
+#[cfg(test)]
+mod tests;
 mod tokens;
 
 pub use fault::RequestFault;
 pub use forms::methods_are_served;
+pub use laws::refusals_in_order;
 pub use parts::RequestParts;
 pub use reading::read_request;
 pub use tokens::Tokens;
