@@ -1,5 +1,9 @@
 -- The numbers and the words of the program's ends.
 use Rattle.std.specs.Prelude.{ℕ, List, codes}
+use Rattle.configuration.specs.declared.fault.ConfigFault.{ConfigFault}
+use Rattle.configuration.specs.declared.fault.ConfigFault.TheVariants as config
+use Rattle.hsds_cli.specs.declared.text.TextFault.{TextFault}
+use Rattle.hsds_cli.specs.declared.text.TextFault.TheVariants as text
 use Rattle.hsds_cli.specs.declared.status.Status.{Status}
 use Rattle.hsds_cli.specs.declared.status.Status.TheVariants.{Done, Words, Configuration, ReadFault, WriteFault, InputCut, Budget, NoMemory}
 
@@ -23,3 +27,15 @@ word_of WriteFault = codes "write-fault"
 word_of InputCut = codes "input-cut"
 word_of Budget = codes "budget"
 word_of NoMemory = codes "no-memory"
+
+-- the status where a configuration couldn't be read from its source
+abbrev pub text_status : TextFault → Status
+text_status text.TooLong = Configuration
+text_status text.ReadFault = ReadFault
+text_status text.NoMemory = NoMemory
+
+-- or where its text spells none
+abbrev pub config_status : ConfigFault → Status
+config_status config.BadToml = Configuration
+config_status config.BadKey = Configuration
+config_status config.NoMemory = NoMemory

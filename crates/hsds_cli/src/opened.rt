@@ -4,7 +4,8 @@ use edge_traits::{Failed, FaultCount, Source};
 use std::io::Read;
 
 /// A file that may not have been opened. It tells what is left where its reader does, and each read of a missing file is
-/// a fault.
+/// a fault. It owns its reader and holds no end that is lent, so the trait's empty list of names is right for it, as it is
+/// for the sources and sinks over std.
 #[derive(Drop)]
 pub struct Opened<R: Read> {
     reader: Option<R>,

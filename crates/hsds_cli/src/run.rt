@@ -1,4 +1,5 @@
-ghost use Rattle.std.specs.Prelude.{◌≡◌, ◌⊎◌, ◌<◌, ◌≤◌, ℕ, List, Some, IsSome, map, length, string_bytes, vec_len, IfOk, IfErr};
+ghost use Rattle.std.specs.Prelude.{◌≡◌, ◌⊎◌, ◌<◌, ◌≤◌, ℕ, List, Some, IsSome, map, length};
+ghost use Rattle.std.specs.Prelude.{string_bytes, vec_len, IfOk, IfErr};
 ghost use Rattle.edge_traits.specs.Causes.{Rose};
 ghost use Rattle.configuration.specs.declared.config.Config.{Config};
 ghost use Rattle.configuration.specs.ConfiguredNodes.{HasFirstRoots};
@@ -13,10 +14,10 @@ ghost use Rattle.hsds_cli.specs.Status.{number_of};
 ghost use Rattle.hsds_cli.specs.Runs.{IsRun, IsRefusal, IsSession, Spells, configured, status_of};
 
 use crate::status::Status;
-use crate::text::{TextFault, read_text};
+use crate::text::read_text;
 use crate::two_ends::TwoEnds;
 use command_words::{WordsFault, wanted};
-use configuration::{Config, ConfigFault, read_config};
+use configuration::{Config, read_config};
 use domains::Catalogue;
 use edge_traits::{Disk, Door, Link, Sink, Source};
 use link_service::LinkEnd;
@@ -82,10 +83,13 @@ pub fn run<C: Source, S: Source, K: Sink, D: Disk, F: Door>(
     ensures doors { result.doors ≡ doors }
 
     // A command over whole messages is done, but for a fault or want of memory.
-    ensures complete { (text : List ℕ) (made : Config) (messages : List RequestMessage) → IsSome (command_of (map string_bytes words.now))
+    ensures complete { (text : List ℕ) (made : Config) (messages : List RequestMessage)
+        → IsSome (command_of (map string_bytes words.now))
         → C.left config.old ≡ Some text → configured text ≡ Some made
-        → S.left input.old ≡ Some (spellings messages) → AllSpelled messages → length messages < BUDGET
-        → ¬ (Rose (C.faults config.old) (C.faults config.new)) → ¬ (Rose (S.faults input.old) (S.faults input.new))
+        → S.left input.old ≡ Some (spellings messages) → AllSpelled messages
+        → length messages < BUDGET
+        → ¬ (Rose (C.faults config.old) (C.faults config.new))
+        → ¬ (Rose (S.faults input.old) (S.faults input.new))
         → ¬ (Rose (K.faults out.old) (K.faults out.new))
         → (result.status ≡ 0) ⊎ (result.status ≡ 13) }
 {
@@ -141,8 +145,10 @@ fn serve_config<S: Source, K: Sink>(
     out: &mut K,
 ) -> LinkEnd
     requires { HasFirstRoots config.catalogue }
-    ensures session { IsSession config (S.left input.old) (S.left input.new) (K.held out.old) (K.held out.new) result }
-    ensures causes { HasCauses (S.Source.faults input.old) (S.Source.faults input.new) (K.Sink.faults out.old) (K.Sink.faults out.new) result }
+    ensures session { IsSession config (S.left input.old) (S.left input.new)
+        (K.held out.old) (K.held out.new) result }
+    ensures causes { HasCauses (S.Source.faults input.old) (S.Source.faults input.new)
+        (K.Sink.faults out.old) (K.Sink.faults out.new) result }
 {
     let mut link = TwoEnds { input, out };
     serve_over(alloc, config, &mut link)
@@ -151,9 +157,11 @@ fn serve_config<S: Source, K: Sink>(
 /// Serves the configured world as one link. Without memory for the world, nothing is read or written.
 fn serve_over<L: Link>(alloc: Global, config: Config, link: &mut L) -> LinkEnd
     requires { HasFirstRoots config.catalogue }
-    ensures session { IsSession config (L.left link.old) (L.left link.new) (L.held link.old) (L.held link.new) result }
+    ensures session { IsSession config (L.left link.old) (L.left link.new)
+        (L.held link.old) (L.held link.new) result }
     ensures names { L.Source.names link.new ≡ L.Source.names link.old }
-    ensures causes { HasCauses (L.Source.faults link.old) (L.Source.faults link.new) (L.Sink.faults link.old) (L.Sink.faults link.new) result }
+    ensures causes { HasCauses (L.Source.faults link.old) (L.Source.faults link.new)
+        (L.Sink.faults link.old) (L.Sink.faults link.new) result }
 {
     let Config { tokens, catalogue } = config;
     let Ok(tokens) = Tokens::of_table(alloc, tokens) else {
@@ -177,19 +185,12 @@ fn opening(alloc: Global, catalogue: Catalogue) -> Result<World, AllocError>
 fn configured<C: Source>(alloc: Global, config: &mut C) -> Result<Config, Status>
     ensures ok { IfOk result (λ made. Spells (C.left config.old) made) }
     ensures roots { IfOk result (λ made. HasFirstRoots made.catalogue) }
-    ensures err { IfErr result (λ status. IsRefusal (C.left config.old) (C.faults config.old) (C.faults config.new) status) }
+    ensures err { IfErr result (λ status. IsRefusal (C.left config.old)
+        (C.faults config.old) (C.faults config.new) status) }
     ensures later { C.faults config.old ≤ C.faults config.new }
 {
-    match read_text(alloc, config) {
-        Ok(text) => match read_config(alloc, text.as_slice()) {
-            Ok(made) => Ok(made),
-            Err(ConfigFault::BadToml | ConfigFault::BadKey) => Err(Status::Configuration),
-            Err(ConfigFault::NoMemory) => Err(Status::NoMemory),
-        },
-        Err(TextFault::TooLong) => Err(Status::Configuration),
-        Err(TextFault::ReadFault) => Err(Status::ReadFault),
-        Err(TextFault::NoMemory) => Err(Status::NoMemory),
-    }
+    let text = read_text(alloc, config)?;
+    Ok(read_config(alloc, text.as_slice())?)
 }
 
 /// The status of a session whose link ended so.

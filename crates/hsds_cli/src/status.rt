@@ -1,6 +1,9 @@
 ghost use Rattle.std.specs.Prelude.{◌≡◌};
-ghost use Rattle.hsds_cli.specs.Status.{number_of, word_of};
+ghost use Rattle.hsds_cli.specs.Status.{config_status, number_of, text_status, word_of};
 ghost use Rattle.hsds_cli.specs.declared.status.Status.{Status};
+
+use crate::text::TextFault;
+use configuration::ConfigFault;
 
 /// How a run of the program ends.
 #[derive(Clone, Copy, Debug, PartialEq, Eq)]
@@ -37,6 +40,29 @@ impl Status {
             Status::InputCut => 10,
             Status::Budget => 12,
             Status::NoMemory => 13,
+        }
+    }
+}
+
+impl From<TextFault> for Status {
+    ghost from_gives = { λ fault status. status ≡ text_status fault };
+
+    fn from(fault: TextFault) -> Status {
+        match fault {
+            TextFault::TooLong => Status::Configuration,
+            TextFault::ReadFault => Status::ReadFault,
+            TextFault::NoMemory => Status::NoMemory,
+        }
+    }
+}
+
+impl From<ConfigFault> for Status {
+    ghost from_gives = { λ fault status. status ≡ config_status fault };
+
+    fn from(fault: ConfigFault) -> Status {
+        match fault {
+            ConfigFault::BadToml | ConfigFault::BadKey => Status::Configuration,
+            ConfigFault::NoMemory => Status::NoMemory,
         }
     }
 }

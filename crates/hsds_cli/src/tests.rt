@@ -49,40 +49,56 @@ update = true
 const BOB_READS: &str = "GET /?domain=/home/lab HTTP/1.1\r\nAuthorization: Bearer tb\r\n\r\n";
 
 const LAB_NODE: &str =
-    "HTTP/1.1 200 OK\r\nContent-Type: application/json\r\nContent-Length: 82\r\n\r\n{\"class\":\"domain\",\"owner\":\"alice\",\"root\":\"g-00000000-0001-8000-8000-000000000000\"}";
+    "HTTP/1.1 200 OK\r\nContent-Type: application/json\r\nContent-Length: 82\r\n\r\n\
+     {\"class\":\"domain\",\"owner\":\"alice\",\"root\":\"g-00000000-0001-8000-8000-000000000000\"}";
 
 const FORBIDDEN: &str =
-    "HTTP/1.1 403 Forbidden\r\nContent-Type: application/json\r\nContent-Length: 58\r\nWWW-Authenticate: Bearer realm=\"hsds\"\r\n\r\n{\"domain\":\"/home/lab\",\"reason\":\"forbidden\",\"right\":\"read\"}";
+    "HTTP/1.1 403 Forbidden\r\nContent-Type: application/json\r\nContent-Length: 58\r\n\
+     WWW-Authenticate: Bearer realm=\"hsds\"\r\n\r\n{\"domain\":\"/home/lab\",\
+     \"reason\":\"forbidden\",\"right\":\"read\"}";
 
 const BAD_TOKEN: &str =
-    "HTTP/1.1 401 Unauthorized\r\nContent-Type: application/json\r\nContent-Length: 22\r\nWWW-Authenticate: Bearer realm=\"hsds\"\r\n\r\n{\"reason\":\"bad-token\"}";
+    "HTTP/1.1 401 Unauthorized\r\nContent-Type: application/json\r\nContent-Length: 22\r\n\
+     WWW-Authenticate: Bearer realm=\"hsds\"\r\n\r\n{\"reason\":\"bad-token\"}";
 
 const NO_DOMAIN: &str =
-    "HTTP/1.1 404 Not Found\r\nContent-Type: application/json\r\nContent-Length: 44\r\n\r\n{\"domain\":\"/home/none\",\"reason\":\"no-domain\"}";
+    "HTTP/1.1 404 Not Found\r\nContent-Type: application/json\r\nContent-Length: 44\r\n\r\n\
+     {\"domain\":\"/home/none\",\"reason\":\"no-domain\"}";
 
 const BAD_HEAD: &str =
-    "HTTP/1.1 400 Bad Request\r\nContent-Type: application/json\r\nContent-Length: 21\r\nConnection: close\r\n\r\n{\"reason\":\"bad-head\"}";
+    "HTTP/1.1 400 Bad Request\r\nContent-Type: application/json\r\nContent-Length: 21\r\n\
+     Connection: close\r\n\r\n{\"reason\":\"bad-head\"}";
 
 const HEAD_TOO_LONG: &str =
-    "HTTP/1.1 431 Request Header Fields Too Large\r\nContent-Type: application/json\r\nContent-Length: 26\r\nConnection: close\r\n\r\n{\"reason\":\"head-too-long\"}";
+    "HTTP/1.1 431 Request Header Fields Too Large\r\nContent-Type: application/json\r\n\
+     Content-Length: 26\r\nConnection: close\r\n\r\n{\"reason\":\"head-too-long\"}";
 
 const BODY_TOO_LONG: &str =
-    "HTTP/1.1 413 Content Too Large\r\nContent-Type: application/json\r\nContent-Length: 26\r\nConnection: close\r\n\r\n{\"reason\":\"body-too-long\"}";
+    "HTTP/1.1 413 Content Too Large\r\nContent-Type: application/json\r\nContent-Length: 26\r\n\
+     Connection: close\r\n\r\n{\"reason\":\"body-too-long\"}";
 
 const NO_ROUTE: &str =
-    "HTTP/1.1 404 Not Found\r\nContent-Type: application/json\r\nContent-Length: 21\r\n\r\n{\"reason\":\"no-route\"}";
+    "HTTP/1.1 404 Not Found\r\nContent-Type: application/json\r\nContent-Length: 21\r\n\r\n\
+     {\"reason\":\"no-route\"}";
 
 const ROOT_FORBIDDEN: &str =
-    "HTTP/1.1 403 Forbidden\r\nContent-Type: application/json\r\nContent-Length: 50\r\nWWW-Authenticate: Bearer realm=\"hsds\"\r\n\r\n{\"domain\":\"/\",\"reason\":\"forbidden\",\"right\":\"read\"}";
+    "HTTP/1.1 403 Forbidden\r\nContent-Type: application/json\r\nContent-Length: 50\r\n\
+     WWW-Authenticate: Bearer realm=\"hsds\"\r\n\r\n{\"domain\":\"/\",\"reason\":\"forbidden\",\
+     \"right\":\"read\"}";
 
 const CREATE_FORBIDDEN: &str =
-    "HTTP/1.1 403 Forbidden\r\nContent-Type: application/json\r\nContent-Length: 56\r\nWWW-Authenticate: Bearer realm=\"hsds\"\r\n\r\n{\"domain\":\"/home\",\"reason\":\"forbidden\",\"right\":\"create\"}";
+    "HTTP/1.1 403 Forbidden\r\nContent-Type: application/json\r\nContent-Length: 56\r\n\
+     WWW-Authenticate: Bearer realm=\"hsds\"\r\n\r\n{\"domain\":\"/home\",\"reason\":\"forbidden\",\
+     \"right\":\"create\"}";
 
 const CLOSING: &str =
-    "HTTP/1.1 403 Forbidden\r\nContent-Type: application/json\r\nContent-Length: 58\r\nWWW-Authenticate: Bearer realm=\"hsds\"\r\nConnection: close\r\n\r\n{\"domain\":\"/home/lab\",\"reason\":\"forbidden\",\"right\":\"read\"}";
+    "HTTP/1.1 403 Forbidden\r\nContent-Type: application/json\r\nContent-Length: 58\r\n\
+     WWW-Authenticate: Bearer realm=\"hsds\"\r\nConnection: close\r\n\r\n{\"domain\":\"/home/lab\",\
+     \"reason\":\"forbidden\",\"right\":\"read\"}";
 
 const ONLY_GET: &str =
-    "HTTP/1.1 405 Method Not Allowed\r\nContent-Type: application/json\r\nContent-Length: 19\r\nAllow: GET\r\n\r\n{\"reason\":\"method\"}";
+    "HTTP/1.1 405 Method Not Allowed\r\nContent-Type: application/json\r\nContent-Length: 19\r\n\
+     Allow: GET\r\n\r\n{\"reason\":\"method\"}";
 
 const CREATED: &str =
     "HTTP/1.1 201 Created\r\nContent-Type: application/json\r\nContent-Length: 2\r\n\r\n{}";
@@ -194,8 +210,8 @@ fn a_link_ends_where_a_message_closes_it_or_is_none(rt: HostRuntime) -> Result<(
 
 #[test]
 fn a_body_ends_at_its_limit(rt: HostRuntime) -> Result<(), Fail> {
-    let front =
-        "PUT /acls/bob HTTP/1.1\r\nAuthorization: Bearer ta\r\nX-Hdf-domain: /home/lab\r\nContent-Length: 16777216\r\n\r\n{}";
+    let front = "PUT /acls/bob HTTP/1.1\r\nAuthorization: Bearer ta\r\nX-Hdf-domain: /home/lab\r\n\
+         Content-Length: 16777216\r\n\r\n{}";
     let text = repeated(
         rt.alloc(),
         front,
@@ -217,8 +233,12 @@ fn a_body_ends_at_its_limit(rt: HostRuntime) -> Result<(), Fail> {
 
 #[test]
 fn a_stream_has_its_answers_in_whatever_pieces_it_comes(rt: HostRuntime) -> Result<(), Fail> {
-    let requests =
-        "GET /?domain=/home/lab HTTP/1.1\r\nAuthorization: Bearer tb\r\n\r\nGET /?domain=/home/lab HTTP/1.1\r\nAuthorization: Bearer tb\r\n\r\nGET /?domain=/home/lab HTTP/1.1\r\n\r\nGET /?domain=/nowhere HTTP/1.1\r\nAuthorization: Bearer tz\r\n\r\nGET /?domain=/home/none HTTP/1.1\r\nAuthorization: Bearer ta\r\n\r\nGET /?domain=/home/lab HTTP/1.1\r\nAuthorization: Bearer tc\r\n\r\n";
+    let requests = "GET /?domain=/home/lab HTTP/1.1\r\nAuthorization: Bearer tb\r\n\r\n\
+         GET /?domain=/home/lab HTTP/1.1\r\nAuthorization: Bearer tb\r\n\r\n\
+         GET /?domain=/home/lab HTTP/1.1\r\n\r\nGET /?domain=/nowhere HTTP/1.1\r\n\
+         Authorization: Bearer tz\r\n\r\nGET /?domain=/home/none HTTP/1.1\r\n\
+         Authorization: Bearer ta\r\n\r\nGET /?domain=/home/lab HTTP/1.1\r\n\
+         Authorization: Bearer tc\r\n\r\n";
     let answers = format!(in rt.alloc();
         "{LAB_NODE}{LAB_NODE}{FORBIDDEN}{BAD_TOKEN}{NO_DOMAIN}{FORBIDDEN}"
     )?;

@@ -45,17 +45,18 @@ impl From<Failed> for TextFault {
 ///
 /// `TooLong` where the source has more than `CONFIG_LIMIT` bytes; `ReadFault` where it had a fault; `NoMemory`.
 pub fn read_text<C: Source>(alloc: Global, source: &mut C) -> Result<Vec<u8>, TextFault>
-    ensures ok { IfOk result (λ text. IsWholeText (C.left source.old) (C.left source.new) text.items) }
-    ensures too_long { IsErrOf result TextFault.TooLong → IsLongText (C.left source.old) (C.left source.new) }
-    ensures read_fault { IsErrOf result TextFault.ReadFault → Rose (C.faults source.old) (C.faults source.new) }
+    ensures ok { IfOk result
+        (λ text. IsWholeText (C.left source.old) (C.left source.new) text.items) }
+    ensures too_long { IsErrOf result TextFault.TooLong
+        → IsLongText (C.left source.old) (C.left source.new) }
+    ensures read_fault { IsErrOf result TextFault.ReadFault
+        → Rose (C.faults source.old) (C.faults source.new) }
     ensures later { C.faults source.old ≤ C.faults source.new }
 {
     let mut text = Vec::new(alloc);
     let mut piece = vec![in alloc; 0u8; PIECE]?;
-    match read_pieces(source, &mut piece, &mut text) {
-        Ok(()) => Ok(text),
-        Err(fault) => Err(fault),
-    }
+    read_pieces(source, &mut piece, &mut text)?;
+    Ok(text)
 }
 
 /// Reads a source to its end, piece after piece, behind a text that is empty.
@@ -66,9 +67,12 @@ fn read_pieces<C: Source>(
 ) -> Result<(), TextFault>
     requires room { 0 < length piece.old }
     requires empty { text.old.items ≡ [] }
-    ensures ok { OnOk result (IsWholeText (C.left source.old) (C.left source.new) text.new.items) }
-    ensures too_long { IsErrOf result TextFault.TooLong → IsLongText (C.left source.old) (C.left source.new) }
-    ensures read_fault { IsErrOf result TextFault.ReadFault → Rose (C.faults source.old) (C.faults source.new) }
+    ensures ok { OnOk result
+        (IsWholeText (C.left source.old) (C.left source.new) text.new.items) }
+    ensures too_long { IsErrOf result TextFault.TooLong
+        → IsLongText (C.left source.old) (C.left source.new) }
+    ensures read_fault { IsErrOf result TextFault.ReadFault
+        → Rose (C.faults source.old) (C.faults source.new) }
     ensures later { C.faults source.old ≤ C.faults source.new }
 {
     'pieces: loop {
@@ -88,9 +92,11 @@ fn read_piece<C: Source>(
     text: &mut Vec<u8>,
 ) -> Result<usize, TextFault>
     requires { 0 < length piece.old }
-    ensures ok { IfOk result (λ n. Gained (C.left source.old) (C.left source.new) text.old.items text.new.items n) }
+    ensures ok { IfOk result (λ n. Gained (C.left source.old) (C.left source.new)
+        text.old.items text.new.items n) }
     ensures not_too_long { IsErrOf result TextFault.TooLong → ⊥ }
-    ensures read_fault { IsErrOf result TextFault.ReadFault → Rose (C.faults source.old) (C.faults source.new) }
+    ensures read_fault { IsErrOf result TextFault.ReadFault
+        → Rose (C.faults source.old) (C.faults source.new) }
     ensures later { C.faults source.old ≤ C.faults source.new }
 {
     let count = source.read(piece)?;

@@ -4,13 +4,11 @@ use Rattle.httparse.specs.Spans.{name_and_value}
 use Rattle.http_wire.specs.Heads.{first_value}
 use Rattle.http_wire.specs.Messages.{RequestMessage, closes}
 use Rattle.http_wire.specs.Replies.{no_memory_reply}
-use Rattle.http_wire.specs.declared.extra.Methods as wire
 use Rattle.access_lists.specs.declared.people.Caller.{Caller}
 use Rattle.bearer_tokens.specs.Bearer.{TokenTable}
 use Rattle.object_ops.specs.Needs.{decided_at}
 use Rattle.object_ops.specs.declared.ops.Request.{Request}
 use Rattle.object_ops.specs.declared.refusals.Refusal.{Refusal}
-use Rattle.route_table.specs.declared.routes.Methods.{Methods}
 use Rattle.rest_requests.specs.Requests.{RequestText, allow_of, request_of}
 use Rattle.service_core.specs.Steps.{Steps, World}
 use Rattle.service_core.specs.declared.answers.Answer.{Answer}
@@ -30,10 +28,6 @@ said_by m = record {
   body = m.body;
 }
 
--- the methods of a route, as an answer lists them
-abbrev pub listed : Methods → wire.Methods
-listed m = record { delete = m.delete; get = m.get; post = m.post; put = m.put }
-
 -- the tokens that are known, and the world
 pub record Served : Type 0 where
   pub tokens : TokenTable
@@ -41,7 +35,7 @@ pub record Served : Type 0 where
 
 -- what is no request is refused, and the world stays; a request is one step of the world
 abbrev pub IsAnsweredBy : World → List ℕ → Result (Caller × Request) Refusal → Bool → List ℕ → World → Type 0
-IsAnsweredBy w target (Err refusal) close bytes v = (bytes ≡ refused [] refusal (listed (allow_of target refusal)) close) × (v ≡ w)
+IsAnsweredBy w target (Err refusal) close bytes v = (bytes ≡ refused [] refusal (allow_of target refusal) close) × (v ≡ w)
 IsAnsweredBy w target (Ok read) close bytes v =
     (answer : Answer) × Steps w read.0 read.1 answer v × IsResponse (decided_at read.1) answer.what close bytes
 

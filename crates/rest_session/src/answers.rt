@@ -1,29 +1,19 @@
-//! Answers to requests, with their bodies as compact JSON.
+//! Answers to requests, as a link writes them.
 
-ghost use Rattle.std.specs.Prelude.{◌≡◌, Bool, IfOk, string_bytes};
-ghost use Rattle.serde_json.specs.View.{view};
-ghost use Rattle.serde_json.specs.Written.{compact_text};
-ghost use Rattle.object_ops.specs.Refusals.{refusal_tree};
+ghost use Rattle.std.specs.Prelude.{◌≡◌, Bool, IfOk};
 ghost use Rattle.link_service.specs.Replies.{reply_bytes};
 ghost use Rattle.http_wire.specs.Replies.{no_memory_reply};
-ghost use Rattle.service_core.specs.declared.answers.What.TheVariants.{Replied};
-ghost use Rattle.rest_session.specs.Responses.{IsDone, IsJson, IsResponse, IsSaid, extra_of, refused};
+ghost use Rattle.answer_trees.specs.Exact.{IsExact};
+ghost use Rattle.rest_session.specs.Responses.{IsResponse, IsSaid, refused};
+ghost use Rattle.rest_session.specs.Responses.{extra_of, extra_said, listed, status_said};
 
-use http_wire::{Extra, Methods};
-use json_trees::Tree;
+use crate::texts::{answer_text, refusal_text};
+use http_wire::Extra;
 use link_service::{Reply, ReplyBody};
-use object_ops::{Refusal, Reply as Outcome, refusal_json};
-use serde_json::Value;
-use service_core::What;
+use object_ops::{Refusal, Reply as Outcome};
+use route_table::Methods;
+use service_core::{Answer, What};
 use std::alloc::{AllocError, Global};
-
-/// The methods of an answer that names none.
-pub const NO_METHODS: Methods = Methods {
-    delete: false,
-    get: false,
-    post: false,
-    put: false,
-};
 
 /// The answer that says that memory is wanting. It takes none.
 pub fn no_memory() -> Reply
@@ -47,7 +37,8 @@ pub fn refusal_reply(
     refusal: &Refusal,
     allow: Methods,
 ) -> Result<Reply, AllocError>
-    ensures { IfOk result (λ reply. (close : Bool) → reply_bytes reply close ≡ refused path.now refusal.now allow close) }
+    ensures { IfOk result (λ reply. (close : Bool)
+        → reply_bytes reply close ≡ refused path.now refusal.now allow close) }
 {
     let text = refusal_text(alloc, path, refusal)?;
     Ok(Reply {
@@ -63,78 +54,68 @@ fn extra_of(refusal: &Refusal, allow: Methods) -> Extra
 {
     match refusal {
         Refusal::BadToken | Refusal::Forbidden { .. } => Extra::Bearer,
-        Refusal::Method => Extra::Allow(allow),
+        Refusal::Method => Extra::Allow(listed(allow)),
         _ => Extra::None,
     }
 }
 
-// The body of a refusal.
-fn refusal_text(alloc: Global, path: &str, refusal: &Refusal) -> Result<String, AllocError>
-    ensures { IfOk result (λ text. string_bytes text ≡ compact_text (refusal_tree path.now refusal.now)) }
+// The methods of a route, as an answer lists them.
+fn listed(methods: Methods) -> http_wire::Methods
+    ensures { result ≡ listed methods }
 {
-    refusal_json(alloc, path, refusal)?.to_string(alloc)
+    http_wire::Methods {
+        delete: methods.delete,
+        get: methods.get,
+        post: methods.post,
+        put: methods.put,
+    }
 }
 
-/// The answer to a request that was decided at a path. Where its text finds no memory, it says that memory is wanting.
-pub fn answer_reply(alloc: Global, path: &str, what: &What) -> Reply
-    ensures { (close : Bool) → IsResponse path.now what.now close (reply_bytes result close) }
+/// The answer to a request that was decided at `path`. Where its text finds no memory, it says that memory is wanting.
+pub fn answer_reply(alloc: Global, path: &str, answer: &Answer) -> Reply
+    requires { IsExact answer.now.what }
+    ensures { (close : Bool)
+        → IsResponse path.now answer.now.what close (reply_bytes result close) }
 {
-    match said(alloc, path, what) {
+    match said(alloc, path, answer) {
         Ok(reply) => reply,
         Err(_) => no_memory(),
     }
 }
 
 // The answer with its text.
-fn said(alloc: Global, path: &str, what: &What) -> Result<Reply, AllocError>
-    ensures { IfOk result (λ reply. (close : Bool) → IsSaid path.now what.now close (reply_bytes reply close)) }
-{
-    match what {
-        What::Replied(outcome) => outcome_reply(alloc, path, outcome),
-        What::Denied { right } => {
-            refusal_reply(
-                alloc,
-                path,
-                &Refusal::Forbidden { right: *right },
-                NO_METHODS,
-            )
-        }
-        What::NoMemory => Ok(no_memory()),
-    }
-}
-
-// The answer to a request that was done or refused.
-fn outcome_reply(alloc: Global, path: &str, outcome: &Outcome) -> Result<Reply, AllocError>
+fn said(alloc: Global, path: &str, answer: &Answer) -> Result<Reply, AllocError>
+    requires { IsExact answer.now.what }
     ensures { IfOk result (λ reply. (close : Bool)
-        → IsSaid path.now (Replied outcome.now) close (reply_bytes reply close)) }
+        → IsSaid path.now answer.now.what close (reply_bytes reply close)) }
 {
-    match outcome {
-        Outcome::Done { status, body } => done_reply(alloc, *status, body),
-        Outcome::Refused(refusal) => refusal_reply(alloc, path, refusal, NO_METHODS),
-    }
-}
-
-// The answer to a request that was done.
-fn done_reply(alloc: Global, status: u16, body: &Tree) -> Result<Reply, AllocError>
-    ensures { IfOk result (λ reply. (close : Bool) → IsDone status body.now close (reply_bytes reply close)) }
-{
-    let text = tree_text(alloc, body)?;
+    let text = answer_text(alloc, path, answer)?;
     Ok(Reply {
-        status,
-        extra: Extra::None,
+        status: status_said(&answer.what),
+        extra: extra_said(&answer.what),
         body: ReplyBody::Text(text),
     })
 }
 
-// A tree's compact JSON.
-fn tree_text(alloc: Global, tree: &Tree) -> Result<String, AllocError>
-    ensures { IfOk result (λ text. IsJson tree.now (string_bytes text)) }
+// The status of an answer.
+fn status_said(what: &What) -> u16
+    ensures { result ≡ status_said what.now }
 {
-    value_text(alloc, tree.value())
+    match what {
+        What::Replied(Outcome::Done { status, .. }) => *status,
+        What::Replied(Outcome::Refused(refusal)) => refusal.status(),
+        What::Denied { .. } => 403,
+        What::NoMemory => 507,
+    }
 }
 
-fn value_text(alloc: Global, tree: &Value) -> Result<String, AllocError>
-    ensures { IfOk result (λ text. IsJson (view tree.now) (string_bytes text)) }
+// The header line that an answer has beside.
+fn extra_said(what: &What) -> Extra
+    ensures { result ≡ extra_said what.now }
 {
-    tree.to_string(alloc)
+    match what {
+        What::Replied(Outcome::Refused(refusal)) => extra_of(refusal, Methods::NONE),
+        What::Denied { .. } => Extra::Bearer,
+        What::Replied(Outcome::Done { .. }) | What::NoMemory => Extra::None,
+    }
 }

@@ -3,9 +3,12 @@
 #![tactic(auto)]
 
 mod answers;
+pub mod laws;
 mod serving;
+mod texts;
 mod world_session;
 
 pub use answers::{answer_reply, refusal_reply};
 pub use serving::serve_world;
+pub use texts::answer_text;
 pub use world_session::WorldSession;

@@ -23,7 +23,8 @@ pub fn serve_world<L: Link>(
     ensures transcript { (taken : List ℕ) × (sent : List ℕ)
         × Consumes (L.left link.old) (L.left link.new) taken
         × Appends (L.held link.old) (L.held link.new) sent
-        × IsTranscript IsServed (record { tokens = tokens.now; world = world.old }) taken sent (L.left link.new)
+        × IsTranscript IsServed (record { tokens = tokens.now; world = world.old })
+        taken sent (L.left link.new)
         (record { tokens = tokens.now; world = world.new }) result }
     ensures names { L.Source.names link.new ≡ L.Source.names link.old }
     ensures causes { HasCauses (L.Source.faults link.old) (L.Source.faults link.new)

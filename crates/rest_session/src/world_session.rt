@@ -11,14 +11,16 @@ ghost use Rattle.rest_requests.specs.Requests.{said};
 ghost use Rattle.service_core.specs.Steps.{Steps};
 ghost use Rattle.service_core.specs.declared.answers.Answer as answer;
 ghost use Rattle.rest_session.specs.Responses.{IsResponse, refused};
-ghost use Rattle.rest_session.specs.Sessions.{IsServed, Served, listed, said_by};
+ghost use Rattle.rest_session.specs.Sessions.{IsServed, Served, said_by};
 
 use crate::answers::{answer_reply, no_memory, refusal_reply};
 use access_lists::Caller;
-use http_wire::{Message, Methods};
+use answer_trees::bodies_have_no_floats;
+use http_wire::Message;
 use link_service::{Reply, Service};
 use object_ops::{Refusal, Request, on_text};
 use rest_requests::{RequestFault, RequestParts, Tokens, read_request};
+use route_table::Methods;
 use service_core::World;
 use std::alloc::{AllocError, Global};
 
@@ -47,9 +49,7 @@ impl<'a> Service for WorldSession<'a> {
     fn answer(&mut self, message: &Message<'_>) -> Reply {
         match read_request(self.alloc, &parts_of(message), self.tokens) {
             Ok((caller, request)) => step(self.alloc, self.world, &caller, &request),
-            Err(RequestFault::Refused { refusal, allow }) => {
-                refuse(self.alloc, &refusal, listed(allow))
-            }
+            Err(RequestFault::Refused { refusal, allow }) => refuse(self.alloc, &refusal, allow),
             Err(RequestFault::NoMemory) => no_memory(),
         }
     }
@@ -57,7 +57,8 @@ impl<'a> Service for WorldSession<'a> {
 
 /// What a message says of its request.
 fn parts_of<'m>(message: &Message<'m>) -> RequestParts<'m>
-    ensures { (m : RequestMessage) → IsMessage message.now m → IsSpelled m → said result ≡ said_by m }
+    ensures { (m : RequestMessage) → IsMessage message.now m → IsSpelled m
+        → said result ≡ said_by m }
 {
     RequestParts {
         method: message.method(),
@@ -65,18 +66,6 @@ fn parts_of<'m>(message: &Message<'m>) -> RequestParts<'m>
         authorization: message.header("Authorization"),
         domain: message.header("X-Hdf-domain"),
         body: message.body(),
-    }
-}
-
-/// The methods of a route, as an answer lists them.
-fn listed(methods: route_table::Methods) -> Methods
-    ensures { result ≡ listed methods }
-{
-    Methods {
-        delete: methods.delete,
-        get: methods.get,
-        post: methods.post,
-        put: methods.put,
     }
 }
 
@@ -94,13 +83,15 @@ fn refuse(alloc: Global, refusal: &Refusal, allow: Methods) -> Reply
 /// Answers a request by one step of the world. Where no place is left, it says that memory is wanting.
 fn step(alloc: Global, world: &mut World, caller: &Caller, request: &Request) -> Reply
     requires { IsSoundOp request.now.op }
-    ensures { (close : Bool) → ((answer : answer.Answer) × Steps world.old caller.now request.now answer world.new
+    ensures { (close : Bool) → ((answer : answer.Answer)
+        × Steps world.old caller.now request.now answer world.new
         × IsResponse (decided_at request.now) answer.what close (reply_bytes result close))
         ⊎ ((reply_bytes result close ≡ no_memory_reply close) × (world.new ≡ world.old)) }
 {
     if !world.has_room() {
         return no_memory();
     }
+    bodies_have_no_floats();
     let answer = world.step(caller, request);
-    answer_reply(alloc, on_text(request), &answer.what)
+    answer_reply(alloc, on_text(request), &answer)
 }

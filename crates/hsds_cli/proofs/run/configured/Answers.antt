@@ -4,7 +4,7 @@ use Rattle.configuration.specs.Configured.{config_of, document_in}
 use Rattle.hsds_cli.proofs.RunLemmas.{spells}
 use Rattle.hsds_cli.proofs.run.configured.Goals as goal
 
-pub returns-in-Ok-read_config-clause-ok : goal.returns-in-Ok-read_config-clause-ok
-returns-in-Ok-read_config-clause-ok g c =
-    spells _ _ _ c.in-Ok-read_config.made c.in-Ok.ensures.ok
-    (ap (λ text. option_and_then config_of (document_in text)) (sym c.as_slice.ensures.value) ∙ c.in-Ok-read_config.ensures.ok)
+pub returns-clause-ok : goal.returns-clause-ok
+returns-clause-ok g c =
+    spells _ _ _ _ c.in_ok-text.ensures.ok
+    (ap (λ text. option_and_then config_of (document_in text)) (sym c.as_slice.ensures.value) ∙ c.in_ok-read_config.ensures.ok)

@@ -1,8 +1,7 @@
-use Rattle.std.proofs.Common.{◌≡◌, Err, ap}
-use Rattle.hsds_cli.specs.declared.text.TextFault.TheVariants.{TooLong}
+use Rattle.configuration.proofs.TableLemmas.{passed_on}
 use Rattle.hsds_cli.proofs.text.read_text.Goals as goal
 
-pub returns-in-Err-clause-too_long : goal.returns-in-Err-clause-too_long
-returns-in-Err-clause-too_long g c = λ e.
-    let same : c.in-Err.fault ≡ TooLong = cc in
-    c.in-Err.ensures.too_long (ap (λ fault. Err fault) same)
+pub returns-in_err-read_pieces-clause-too_long : goal.returns-in_err-read_pieces-clause-too_long
+returns-in_err-read_pieces-clause-too_long g c = λ err.
+    c.in_err-read_pieces.ensures.too_long
+    (passed_on c.from_residual-in_err-read_pieces.result c.in_err-read_pieces.field-0.0 _ c.from_residual-in_err-read_pieces.ensures.1 err)

@@ -1,0 +1,94 @@
+//! The texts of answers' bodies: compact JSON.
+
+ghost use Rattle.std.specs.Prelude.{◌≡◌, ◌≤◌, IfOk, Some, codes, false, string_bytes};
+ghost use Rattle.serde_json.specs.Data.{depth, object};
+ghost use Rattle.serde_json.specs.Read.{max_depth, read};
+ghost use Rattle.serde_json.specs.View.{view};
+ghost use Rattle.serde_json.specs.Written.{has_float};
+ghost use Rattle.object_ops.specs.Refusals.{reason_alone, refusal_tree};
+ghost use Rattle.service_core.specs.declared.answers.What.TheVariants.{Replied};
+ghost use Rattle.answer_trees.specs.Exact.{IsExact};
+ghost use Rattle.rest_session.specs.Responses.{IsJson, body_text, body_tree};
+
+use json_trees::Tree;
+use object_ops::{Refusal, Reply as Outcome, refusal_json};
+use serde_json::{Value, json};
+use service_core::{Answer, What};
+use std::alloc::{AllocError, Global};
+
+/// The text of the body of an answer to a request that was decided at `path`.
+///
+/// # Errors
+///
+/// Only where memory runs out.
+pub fn answer_text(alloc: Global, path: &str, answer: &Answer) -> Result<String, AllocError>
+    requires { IsExact answer.now.what }
+    ensures text { IfOk result (λ text. string_bytes text ≡ body_text path.now answer.now.what) }
+    ensures reads_back { IfOk result (λ text. depth (body_tree path.now answer.now.what) ≤ max_depth
+        → read (string_bytes text) ≡ Some (body_tree path.now answer.now.what)) }
+{
+    what_text(alloc, path, &answer.what)
+}
+
+// The same for what is answered, without its place.
+fn what_text(alloc: Global, path: &str, what: &What) -> Result<String, AllocError>
+    requires { IsExact what.now }
+    ensures { IfOk result (λ text. IsJson (body_tree path.now what.now) (string_bytes text)) }
+{
+    match what {
+        What::Replied(outcome) => outcome_text(alloc, path, outcome),
+        What::Denied { right } => {
+            refusal_text(alloc, path, &Refusal::Forbidden { right: *right })
+        }
+        What::NoMemory => no_memory_text(alloc),
+    }
+}
+
+// The body where a request was done or refused.
+fn outcome_text(alloc: Global, path: &str, outcome: &Outcome) -> Result<String, AllocError>
+    requires { IsExact (Replied outcome.now) }
+    ensures { IfOk result (λ text. IsJson (body_tree path.now (Replied outcome.now))
+        (string_bytes text)) }
+{
+    match outcome {
+        Outcome::Done { body, .. } => tree_text(alloc, body),
+        Outcome::Refused(refusal) => refusal_text(alloc, path, refusal),
+    }
+}
+
+/// The body of a refusal that was decided at `path`.
+pub fn refusal_text(alloc: Global, path: &str, refusal: &Refusal) -> Result<String, AllocError>
+    ensures { IfOk result (λ text. IsJson (refusal_tree path.now refusal.now)
+        (string_bytes text)) }
+{
+    refusal_json(alloc, path, refusal)?.to_string(alloc)
+}
+
+// The body where memory was wanting.
+fn no_memory_text(alloc: Global) -> Result<String, AllocError>
+    ensures { IfOk result (λ text. IsJson (object (reason_alone (codes "no-memory")))
+        (string_bytes text)) }
+{
+    no_memory_tree(alloc)?.to_string(alloc)
+}
+
+fn no_memory_tree(alloc: Global) -> Result<Value, AllocError>
+    ensures { IfOk result (λ tree. view tree ≡ object (reason_alone (codes "no-memory"))) }
+{
+    json!(in alloc; {"reason": "no-memory"})
+}
+
+// A tree's compact JSON.
+fn tree_text(alloc: Global, tree: &Tree) -> Result<String, AllocError>
+    requires { has_float tree.now ≡ false }
+    ensures { IfOk result (λ text. IsJson tree.now (string_bytes text)) }
+{
+    value_text(alloc, tree.value())
+}
+
+fn value_text(alloc: Global, tree: &Value) -> Result<String, AllocError>
+    requires { has_float (view tree.now) ≡ false }
+    ensures { IfOk result (λ text. IsJson (view tree.now) (string_bytes text)) }
+{
+    tree.to_string(alloc)
+}
