@@ -1,11 +1,9 @@
--- The creation properties of an array spell its chunk and its fill, and the default chunk is the one that a layout has where none is asked for.
-use Rattle.std.proofs.Common.{◌≡◌, ℕ, zero, suc, ◌+◌, ◌*◌, ◌<◌, ◌≤◌, nat_lt, ◌&&◌, Bool, true, false, cond, if◌then◌else◌, List, [], ◌∷◌, map, length, Option, Some, None, option_map, option_and_then, Result, Ok, Err, codes, refl, sym, ap, subst, ◌∙◌, arith}
+-- The creation properties of an array spell its chunk and its fill.
+use Rattle.std.proofs.Common.{◌≡◌, ℕ, Bool, true, if◌then◌else◌, List, [], ◌∷◌, map, length, Option, Some, None, option_map, option_and_then, Result, Ok, Err, codes, refl, sym, ap, subst, ◌∙◌, arith}
 use Rattle.std.specs.List.{AllZip}
-use Rattle.std.proofs.lemmas.Bool.{ltb-true, lt-ltb}
 use Rattle.serde_json.specs.Data.{Data, object}
 use Rattle.serde_json.specs.Find.{get}
 use Rattle.serde_json.specs.View.{items_of}
-use Rattle.json_trees.proofs.TreeLemmas.{both_true}
 use Rattle.hdf_types.specs.Elems.{Elem}
 use Rattle.hdf_types.specs.Reading.{size_of}
 use Rattle.hdf_types.specs.Types.{IsSoundType}
@@ -14,7 +12,6 @@ use Rattle.shapes.specs.declared.Shape.TheVariants.{Null, Scalar, Simple}
 use Rattle.shapes.specs.declared.printing.Form.TheVariants.{Rest}
 use Rattle.shapes.specs.Extents.{SpellsList}
 use Rattle.shapes.specs.Printed.{limit_tree, numbers_tree}
-use Rattle.shapes.specs.Places.{cell_count}
 use Rattle.shapes.specs.Shapes.{dims_of}
 use Rattle.hdf_values.specs.Elements.{IsEncoded, decoded}
 use Rattle.hdf_values.proofs.ElementLemmas.{encoded-fits}
@@ -22,65 +19,20 @@ use Rattle.hdf_values.proofs.PieceLemmas.{decoded_fits}
 use Rattle.chunk_layout.specs.Asked.{IsAnswer, asked_of}
 use Rattle.chunk_layout.specs.declared.Layout.{Layout}
 use Rattle.chunk_layout.specs.declared.LayoutFault.{LayoutFault}
-use Rattle.chunk_layout.specs.Defaults.{IsDefault, IsHalvedDown, IsLarge, at_least_one, halved, largest}
 use Rattle.chunk_layout.specs.Layouts.{Fits, IsWhole as IsWholeNumber}
-use Rattle.chunk_layout.specs.declared.TheConstants.{DEFAULT_CHUNK_BYTES}
-use Rattle.chunk_layout.proofs.DefaultLemmas.{total as sum_of}
-use Rattle.chunk_layout.proofs.DefaultLemmas.{IsOnWay, halve_falls, one_end, way_begins, way_ends, way_goes}
+use Rattle.default_chunks.specs.Halving.{default_chunk}
+use Rattle.default_chunks.proofs.HalvingLemmas.{default_only}
 use Rattle.chunk_layout.proofs.LayoutLemmas.{asked_read}
 use Rattle.chunk_store.specs.Grids.{Grid, IsWhole, blank_of}
 use Rattle.array_acts.specs.Creation.{creation_tree, fill_members, layout_members, layout_tree}
-use Rattle.object_records.specs.Creations.{chunk_or, creation_in, default_chunk, fill_in, halved_down, has_no_filter, is_large, total}
+use Rattle.object_records.specs.Creations.{chunk_or, creation_in, fill_in, has_no_filter}
 use Rattle.object_records.specs.Lists.{no_fault}
 use Rattle.object_records.proofs.ListLemmas.{list_of-items}
-
--- ---- the default chunk
-
-large_told : (size : ℕ) (chunk : List ℕ) → is_large size chunk ≡ true → IsLarge size chunk
-large_told size chunk e =
-    let both = both_true _ _ e in
-    (ltb-true DEFAULT_CHUNK_BYTES (size * cell_count chunk) both.0, ltb-true 1 (largest chunk) both.1)
-
-large_read : (size : ℕ) (chunk : List ℕ) → IsLarge size chunk → is_large size chunk ≡ true
-large_read size chunk h =
-    ap (λ b. b && nat_lt 1 (largest chunk)) (lt-ltb DEFAULT_CHUNK_BYTES (size * cell_count chunk) h.0) ∙ lt-ltb 1 (largest chunk) h.1
-
-not_large : (size : ℕ) (chunk : List ℕ) → is_large size chunk ≡ false → IsLarge size chunk → ⊥
-not_large size chunk e h = let both : true ≡ false = sym (large_read size chunk h) ∙ e in cc
-
-least_total : (ns : List ℕ) → largest ns ≤ total ns
-least_total [] = omega arith
-least_total (n ∷ ns) = omega (arith, least_total ns)
-
-none_left : (ns : List ℕ) → total ns ≤ 0 → 1 < largest ns → ⊥
-none_left ns few h = omega (arith, least_total ns)
-
--- the two sums of dims are one
-same_total : (ns : List ℕ) → total ns ≡ sum_of ns
-same_total [] = refl
-same_total (n ∷ ns) = ap (λ m. n + m) (same_total ns)
-
--- with as many halvings as the dims' sum, the way comes to its end
-down : (k size : ℕ) (start chunk : List ℕ) → IsOnWay size start chunk → total chunk ≤ k → IsHalvedDown size start (halved_down k size chunk)
-down zero size start chunk way few = way_ends size start chunk way (λ h. none_left chunk few h.1)
-down (suc k) size start chunk way few = at (is_large size chunk) refl (λ less h. down k size start (halved chunk) less h) where
-  at : (b : Bool) → is_large size chunk ≡ b → (IsOnWay size start (halved chunk) → total (halved chunk) ≤ k → IsHalvedDown size start (halved_down k size (halved chunk)))
-      → IsHalvedDown size start (cond b (halved_down k size (halved chunk)) chunk)
-  at true e next =
-      let large = large_told size chunk e in
-      let less = halve_falls (largest chunk) chunk large.1 refl in
-      next (way_goes size start chunk way large) (omega (arith, less, few, same_total chunk, same_total (halved chunk)))
-  at false e next = way_ends size start chunk way (not_large size chunk e)
-
--- the default chunk is the default
-pub is_default : (size : ℕ) (dims : List ℕ) → IsDefault size dims (default_chunk size dims)
-unfolding default_chunk
-is_default size dims = down (total (at_least_one dims)) size (at_least_one dims) (at_least_one dims) (way_begins size (at_least_one dims)) (omega arith)
 
 -- an answer to what is asked for is the chunk of the definition
 pub chunk_answered : (size : ℕ) (dims : List ℕ) (asked : Result (Option (List ℕ)) LayoutFault) (layout : Layout) → IsAnswer dims size asked (Ok layout) → chunk_or size dims asked ≡ Some layout.chunk
 chunk_answered size dims (Err fault) layout h = cc
-chunk_answered size dims (Ok None) layout h = ap Some (one_end size (at_least_one dims) (default_chunk size dims) layout.chunk (is_default size dims) h)
+chunk_answered size dims (Ok None) layout h = ap Some (default_only size dims layout.chunk h)
 chunk_answered size dims (Ok (Some chunk)) layout h = let same : layout ≡ record { chunk = chunk } = cc in ap (λ (l : Layout). Some l.chunk) (sym same)
 
 -- ---- creation properties

@@ -1,37 +1,18 @@
 -- The creation properties of a dataset, as a tree spells them.
-use Rattle.std.specs.Prelude.{ℕ, zero, suc, ◌*◌, ◌+◌, ◌&&◌, nat_lt, List, [], ◌∷◌, Option, Some, None, option_map, option_and_then, Result, Ok, Err, Bool, true, false, if◌then◌else◌, codes}
+use Rattle.std.specs.Prelude.{ℕ, List, [], ◌∷◌, Option, Some, None, option_map, option_and_then, Result, Ok, Err, Bool, true, false, if◌then◌else◌, codes}
 use Rattle.serde_json.specs.Data.{Data}
 use Rattle.serde_json.specs.Find.{get}
 use Rattle.json_trees.specs.Trees.{list_in}
 use Rattle.hdf_types.specs.Elems.{Elem}
 use Rattle.hdf_types.specs.Reading.{size_of}
 use Rattle.shapes.specs.declared.Shape.{Shape}
-use Rattle.shapes.specs.Places.{cell_count}
 use Rattle.shapes.specs.Shapes.{dims_of}
 use Rattle.hdf_values.specs.Elements.{encoded}
 use Rattle.chunk_layout.specs.Asked.{asked_of}
-use Rattle.chunk_layout.specs.Defaults.{at_least_one, halved, largest}
 use Rattle.chunk_layout.specs.declared.LayoutFault.{LayoutFault}
-use Rattle.chunk_layout.specs.declared.TheConstants.{DEFAULT_CHUNK_BYTES}
+use Rattle.default_chunks.specs.Halving.{default_chunk}
 use Rattle.object_records.specs.declared.creations.Creation.{Creation}
 use Rattle.object_records.specs.Lists.{no_fault}
-
--- a chunk has too many bytes, and a dim that can be halved
-abbrev pub is_large : ℕ → List ℕ → Bool
-is_large size chunk = nat_lt DEFAULT_CHUNK_BYTES (size * cell_count chunk) && nat_lt 1 (largest chunk)
-
--- halved while it is large, and at most so many times
-abbrev pub halved_down : ℕ → ℕ → List ℕ → List ℕ
-halved_down zero size chunk = chunk
-halved_down (suc k) size chunk = if is_large size chunk then halved_down k size (halved chunk) else chunk
-
-abbrev pub total : List ℕ → ℕ
-total [] = 0
-total (n ∷ ns) = n + total ns
-
--- the chunk where none is asked for; each halving makes the sum of the dims less
-unfoldable pub default_chunk : ℕ → List ℕ → List ℕ
-default_chunk size dims = halved_down (total (at_least_one dims)) size (at_least_one dims)
 
 -- the chunk that is asked for, or the default
 abbrev pub chunk_or : ℕ → List ℕ → Result (Option (List ℕ)) LayoutFault → Option (List ℕ)

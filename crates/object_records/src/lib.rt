@@ -16,5 +16,5 @@ mod tests;
 
 pub use faults::BodyFault;
 pub use laws::entries_tell_apart;
-pub use objects::{object_json, object_text};
+pub use objects::{is_whole, object_json, object_text};
 pub use reading::{object_in, read_object};

@@ -42,8 +42,8 @@ pub fn object_text(alloc: Global, object: &Object) -> Result<String, AllocError>
     Ok(text)
 }
 
-// What is true of every body: each part of it can be spelled.
-fn is_whole(body: &Body)
+/// What is true of every body: each part of it can be spelled.
+pub fn is_whole(body: &Body)
     requires { IsSoundBody body.now }
     ensures { IsKeptBody body.now }
 {

@@ -1,0 +1,39 @@
+use Rattle.std.proofs.Common.{◌≡◌, ◌⊎◌, Option, Some, None, subst, sym}
+use Rattle.std.specs.FinMap.{get}
+use Rattle.object_slots.specs.Settled.{Settles}
+use Rattle.flush_journal.specs.Batches.{records}
+use Rattle.text_maps.specs.Nexts.{IsNext}
+use Rattle.object_ids.specs.IdValues.{Id}
+use Rattle.object_slots.specs.Slots.{AreOfKind, Slots}
+use Rattle.object_slots.proofs.LaneCuts.{far_still, far_whole, next_cut, next_front, next_smaller}
+use Rattle.object_slots.proofs.cuts.cut.Goals as goal
+
+pub returns-in_err-cut_at-clause-cut : goal.returns-in_err-cut_at-clause-cut
+returns-in_err-cut_at-clause-cut c =
+    next_front c.args.slots.now c.loop-id.slots (records c.args.into.now) (records c.loop-id.into) (records c.cut_at.new.into) c.loop-id.last c.loop-id.invariant c.in-Some.id c.in_err-cut_at.ensures.range
+    (subst (λ (after : Option Id). IsNext c.loop-id.slots after (Some c.in-Some.id)) c.as_ref.ensures.value c.in-Some.ensures.least) c.cut_at.new.slots c.in_err-cut_at.ensures.same c.in_err-cut_at.ensures.front
+
+pub returns-in_err-cut_at-clause-kinds : goal.returns-in_err-cut_at-clause-kinds
+returns-in_err-cut_at-clause-kinds c = subst (λ (x : Slots). AreOfKind x) (sym c.in_err-cut_at.ensures.same) c.loop-id.invariant.kinds
+
+pub loop-id-smaller : goal.loop-id-smaller
+loop-id-smaller c =
+    next_smaller c.args.slots.now c.loop-id.slots (records c.args.into.now) (records c.loop-id.into) (records c.cut_at.new.into) c.loop-id.last c.loop-id.invariant c.in-Some.id c.in_ok-cut_at.ensures.range
+    (subst (λ (after : Option Id). IsNext c.loop-id.slots after (Some c.in-Some.id)) c.as_ref.ensures.value c.in-Some.ensures.least)
+
+pub loop-id-preserved : goal.loop-id-preserved
+loop-id-preserved c =
+    next_cut c.args.slots.now c.loop-id.slots (records c.args.into.now) (records c.loop-id.into) (records c.cut_at.new.into) c.loop-id.last c.loop-id.invariant c.in-Some.id c.in_ok-cut_at.ensures.range
+    (subst (λ (after : Option Id). IsNext c.loop-id.slots after (Some c.in-Some.id)) c.as_ref.ensures.value c.in-Some.ensures.least) c.cut_at.new.slots c.in_ok-cut_at.ensures.others c.in_ok-cut_at.ensures.added
+    c.in_ok-cut_at.ensures.settled
+
+pub returns-clause-cut : goal.returns-clause-cut
+returns-clause-cut c = far_whole c.args.slots.now c.loop-id.slots (records c.args.into.now) (records c.loop-id.into) c.loop-id.last c.loop-id.invariant
+
+pub returns-clause-still : goal.returns-clause-still
+returns-clause-still c =
+    far_still c.args.slots.now c.loop-id.slots (records c.args.into.now) (records c.loop-id.into) c.loop-id.last c.loop-id.invariant
+    (subst (λ (after : Option Id). IsNext c.loop-id.slots after None) c.as_ref.ensures.value c.in_default.ensures.least)
+
+pub returns-in_err-cut_at-clause-each : goal.returns-in_err-cut_at-clause-each
+returns-in_err-cut_at-clause-each c = subst (λ (x : Slots). (q : Id) → (get x q ≡ get c.args.slots.now q) ⊎ Settles (get c.args.slots.now q) (get x q)) (sym c.in_err-cut_at.ensures.same) c.loop-id.invariant.each

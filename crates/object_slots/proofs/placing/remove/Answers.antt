@@ -1,0 +1,16 @@
+use Rattle.std.proofs.Common.{refl, sym}
+use Rattle.object_slots.proofs.KeptSlots.{put_others}
+use Rattle.object_slots.proofs.Placed.{removed_gone, removed_kind, removed_said}
+use Rattle.object_slots.proofs.placing.remove.Goals as goal
+
+pub returns-in-Some-clause-gone : goal.returns-in-Some-clause-gone
+returns-in-Some-clause-gone c = removed_gone c.args.slots.now c.args.id.now c.in-Some.slot.now _ (sym c.in-Some.ensures.value) refl refl
+
+pub returns-in-Some-clause-others : goal.returns-in-Some-clause-others
+returns-in-Some-clause-others c = put_others c.args.slots.now c.args.id.now _
+
+pub returns-in-Some-clause-says : goal.returns-in-Some-clause-says
+returns-in-Some-clause-says c = removed_said c.args.slots.now c.args.id.now c.in-Some.slot.now _ (sym c.in-Some.ensures.value) refl refl
+
+pub returns-in-Some-clause-kinds : goal.returns-in-Some-clause-kinds
+returns-in-Some-clause-kinds c = removed_kind c.args.slots.now c.args.id.now c.in-Some.slot.now _ (sym c.in-Some.ensures.value) refl refl c.requires.kinds

@@ -1,0 +1,4 @@
+pub mod Slots
+pub mod Cutting
+pub mod Settled
+pub mod Changed

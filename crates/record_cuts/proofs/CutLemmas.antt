@@ -1,0 +1,36 @@
+-- Cuts in turn.
+use Rattle.std.proofs.Common.{◌≡◌, ◌≢◌, ℕ, List, [], ◌∷◌, ◌++◌, ◌⊎◌, inl, inr, refl, sym, ap, subst, ◌∙◌, append_assoc}
+use Rattle.std.specs.List.{AllByRecursion}
+use Rattle.flush_journal.specs.Records.{Record, Held, put_all, put_record}
+use Rattle.record_cuts.specs.Cuts.{IsWithout, AreOnce, AreApart, IsEither, IsCut}
+
+pub put_all-append : (xs ys : List Record) (m : Held) → put_all (xs ++ ys) m ≡ put_all ys (put_all xs m)
+put_all-append [] ys m = refl
+put_all-append (x ∷ xs) ys m = put_all-append xs ys (put_record x m)
+
+pub all_append : (P : Record → Type 0) (xs ys : List Record) → AllByRecursion P xs → AllByRecursion P ys → AllByRecursion P (xs ++ ys)
+all_append P [] ys h g = g
+all_append P (x ∷ xs) ys h g = (h.0, all_append P xs ys h.1 g)
+
+pub all_more : (P Q : Record → Type 0) (xs : List Record) → ((r : Record) → P r → Q r) → AllByRecursion P xs → AllByRecursion Q xs
+all_more P Q [] f h = tt
+all_more P Q (x ∷ xs) f h = (f x h.0, all_more P Q xs f h.1)
+
+module _ (first second : List ℕ → Type 0) (apart : AreApart first second) where
+  pub without_marked : (key : List ℕ) (ys : List Record) → first key → AllByRecursion (λ r. second r.0) ys → IsWithout key ys
+  without_marked key ys mine theirs = all_more (λ r. second r.0) (λ r. r.0 ≢ key) ys (λ r marked same. apart key mine (subst second same marked)) theirs
+
+  pub once_append : (xs ys : List Record) → AllByRecursion (λ r. first r.0) xs → AllByRecursion (λ r. second r.0) ys → AreOnce xs → AreOnce ys → AreOnce (xs ++ ys)
+  once_append [] ys h g x y = y
+  once_append (r ∷ rs) ys h g x y = (all_append (λ s. s.0 ≢ r.0) rs ys x.0 (without_marked r.0 ys h.0 g), once_append rs ys h.1 g x.1 y)
+
+  pub in_turn : (base : Held) (old mid new : List Record) (between later : Held → Type 0) → IsCut first base old mid between → ((held : Held) → between held → IsCut second held mid new later)
+      → IsCut (IsEither first second) base old new later
+  in_turn base old mid new between later c next = let d = next (put_all c.added base) c.stands in record {
+    added = c.added ++ d.added;
+    appended = d.appended ∙ ap (λ (rs : List Record). rs ++ d.added) c.appended ∙ append_assoc old c.added d.added;
+    changed = all_append (λ r. IsEither first second r.0) c.added d.added (all_more (λ r. first r.0) (λ r. IsEither first second r.0) c.added (λ r m. inl m) c.changed)
+        (all_more (λ r. second r.0) (λ r. IsEither first second r.0) d.added (λ r m. inr m) d.changed);
+    once = once_append c.added d.added c.changed d.changed c.once d.once;
+    stands = subst later (sym (put_all-append c.added d.added base)) d.stands;
+  }
