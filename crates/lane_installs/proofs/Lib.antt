@@ -1,0 +1,6 @@
+pub mod Fronts
+pub mod LaneKeys
+pub mod Taking
+pub mod Walking
+pub mod Telling
+pub mod Standing
