@@ -1,0 +1,4 @@
+pub mod NodeKeys
+pub mod NodeWalks
+pub mod RegisterFaults
+pub mod RegisterWalks

@@ -1,0 +1,9 @@
+//! The register, made from the records that a journal held.
+#![tactic(auto)]
+
+mod faults;
+mod installs;
+mod nodes;
+mod numbers;
+
+pub use installs::{KeptRegister, install};
