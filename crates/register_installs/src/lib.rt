@@ -5,5 +5,7 @@ mod faults;
 mod installs;
 mod nodes;
 mod numbers;
+#[cfg(test)]
+mod tests;
 
 pub use installs::{KeptRegister, install};
