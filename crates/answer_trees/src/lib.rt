@@ -7,8 +7,8 @@ ghost use Rattle.answer_trees.specs.Readable.{AnswersAreReadable, CallsAreReadab
 ghost use Rattle.answer_trees.specs.Readable.{RefusalsAreReadable, ShallowStaysShallow};
 ghost use Rattle.answer_trees.specs.Readable.{SoundIsShallow};
 
-/// No answer of the service has a number with a fraction or an exponent in its body, so each body has exactly one compact
-/// text.
+/// What is done for a request is answered with a body that has no number with a fraction or an exponent, so that it has
+/// exactly one compact text. Refusals and denials are told of by [`replies_have_no_floats`].
 pub fn bodies_have_no_floats()
     ensures { AnswersAreExact }
 {}
