@@ -20,7 +20,7 @@ use Rattle.object_ops.specs.declared.ops.Op.TheVariants.{GetNode, PutNode, Flush
 use Rattle.object_ops.specs.declared.ops.Request.{Request}
 use Rattle.chunk_store.specs.Grids.{Grid}
 use Rattle.object_acts.specs.declared.objects.Object.{Object}
-use Rattle.register.specs.Decided.{Door, at_maybe, at_node, decided, domain_made, entry_put, entry_read, fits, folder_made, foreign_in, forgotten, granted, in_domain, make_granted, make_steps, node_made, node_removed, object_granted, one_step, owner_of, serial_limit}
+use Rattle.register.specs.Decided.{changed_at, Door, at_maybe, at_node, decided, domain_made, entry_put, entry_read, fits, folder_made, foreign_in, forgotten, granted, in_domain, make_granted, make_steps, node_made, node_removed, object_granted, one_step, owner_of, serial_limit}
 use Rattle.register.specs.declared.verdicts.Verdict.{Verdict}
 use Rattle.answer_trees.specs.Bodies.{VerdictHas}
 use Rattle.answer_trees.proofs.Trees.{Trees, either_way}
@@ -50,7 +50,7 @@ module _ {P : Data → Type 0} {Q : Object → Type 0} {G : Grid → Type 0} {S 
   forgotten_has d (Domain number root) = tt
 
   removed_has : (d : Door) (path : List ℕ) (class : NodeClass) (o : Option CatFault) → DecidedHas (node_removed d path class o)
-  removed_has d path class None = forgotten_has (record d { catalogue = without_node d.catalogue path }) class
+  removed_has d path class None = forgotten_has (changed_at d path (without_node d.catalogue path)) class
   removed_has d path class (Some fault) = tt
 
   -- ---- access lists

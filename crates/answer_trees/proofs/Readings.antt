@@ -33,7 +33,9 @@ use Rattle.register.specs.Decided.{acls_body, children_body}
 use Rattle.service_core.specs.declared.answers.Answer.{Answer}
 use Rattle.service_core.specs.Steps.{Steps, World}
 use Rattle.answer_trees.specs.Readable.{AnswersAreReadable, AreShallow, CallsAreReadable, IsShallowBody, IsShallowGrid, IsShallowObject, NoneAreShallow, ReadsBack, RefusalsAreReadable, ShallowStaysShallow}
-use Rattle.answer_trees.proofs.Depths.{attribute_deep, attributes_deep, creation_deep, each_deep, link_deep, links_deep, nested_deep, part_deep, shape_deep, type_deep}
+use Rattle.hdf_values.specs.Attributes.{content}
+use Rattle.tree_depths.proofs.Depths.{attribute_deep, attributes_deep, each_deep, link_deep, links_deep, nested_deep, shape_deep, type_deep}
+use Rattle.answer_trees.proofs.Depths.{creation_deep, part_deep}
 use Rattle.answer_trees.proofs.Shallow.{change_shallow, linked_shallow, made_shallow}
 use Rattle.answer_trees.proofs.Trees.{ArrayHas, Trees}
 use Rattle.answer_trees.proofs.Worlds.{Gives, answer_gives}
@@ -114,7 +116,7 @@ readable = record {
   links = λ titles. omega (arith, links_deep titles Rest);
   link = λ title to. omega (arith, link_deep title to Rest);
   attributes = λ o h. omega (arith, attributes_deep o.attributes Rest false h.attributes);
-  attribute = λ o name a h there. omega (arith, attribute_deep name a Rest true (h.attributes name a there));
+  attribute = λ o name a h there. omega (arith, attribute_deep name (content a) Rest true (h.attributes name a there));
   array = λ o h. array_shallow o.body h.body;
   shape = λ g h. omega (arith, shape_deep g.shape Rest);
   kind = λ g h. omega (arith, type_deep g.kind, h.nested);

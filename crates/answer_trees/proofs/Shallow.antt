@@ -1,6 +1,6 @@
 -- Where types nest little and shapes have few axes, each request leaves it so.
-use Rattle.std.proofs.Common.{◌≡◌, ℕ, ◌≤◌, List, [], ◌∷◌, length, Option, Some, None, Result, Ok, Err, arith}
-use Rattle.std.specs.FinMap.{contains_key, get}
+use Rattle.std.proofs.Common.{ℕ, ◌≤◌, List, [], ◌∷◌, length, Option, Some, None, Result, Ok, Err}
+use Rattle.std.specs.FinMap.{contains_key}
 use Rattle.serde_json.specs.Data.{Data}
 use Rattle.object_ids.specs.IdValues.{Id}
 use Rattle.object_ids.specs.Puts.{put_fault}
@@ -13,7 +13,7 @@ use Rattle.shapes.specs.declared.Shape.{Shape}
 use Rattle.shapes.specs.declared.Shape.TheVariants.{Null, Scalar, Simple}
 use Rattle.shapes.specs.declared.ShapeFault.{ShapeFault}
 use Rattle.shapes.specs.declared.TheConstants.{MAX_RANK}
-use Rattle.shapes.specs.Shapes.{IsSound, dims_of, resized_of}
+use Rattle.shapes.specs.Shapes.{dims_of, resized_of}
 use Rattle.hyperslab.specs.declared.Slab.{Slab}
 use Rattle.hyperslab.specs.declared.SlabFault.{SlabFault}
 use Rattle.hyperslab.specs.Judged.{lists_slab}
@@ -42,24 +42,15 @@ use Rattle.object_acts.specs.declared.objects.Object.{Object}
 use Rattle.object_acts.specs.Objects.{body_made, made}
 use Rattle.object_acts.specs.Acts.{Names, Titles, change_of, drop_from, link_put, on_array, on_links, put_in}
 use Rattle.chunk_owner.specs.Acts.{link_to}
-use Rattle.answer_trees.specs.Readable.{IsShallow, IsShallowBody, IsShallowGrid, IsShallowObject, SoundIsShallow}
+use Rattle.tree_depths.specs.Shallow.{AreShallowAttributes, IsShallow}
+use Rattle.tree_depths.proofs.Depths.{sound_shallow}
+use Rattle.answer_trees.specs.Readable.{IsShallowBody, IsShallowGrid, IsShallowObject}
 use Rattle.answer_trees.proofs.Trees.{either_way}
 
 -- ---- new objects
 
-few_axes_of : (s : Shape) → IsSound s → length (dims_of s) ≤ MAX_RANK
-few_axes_of Null sound = omega arith
-few_axes_of Scalar sound = omega arith
-few_axes_of (Simple dims limits) sound = sound.fitting.few_axes
-
-pub sound_shallow : SoundIsShallow
-sound_shallow e s kind shape = record { nested = kind.nested; few_axes = few_axes_of s shape }
-
 abbrev NameAt : List ℕ → Attribute → Type 0
 NameAt name a = IsShallow (elem a.elem) a.shape
-
-abbrev AreNames : Names → Type 0
-AreNames names = (name : List ℕ) (a : Attribute) → get names name ≡ Some a → NameAt name a
 
 body_made_shallow : (m : Make) → IsSoundMake m → IsShallowBody (body_made m)
 body_made_shallow make.Group sound = tt
@@ -72,15 +63,15 @@ made_shallow m sound = record { attributes = each_of_none NameAt; body = body_ma
 -- ---- what is changed of an object
 
 put_shallow : (most : ℕ) (what : LimitKind) (name : List ℕ) (a : Attribute) (names : Names) (o : Option PutFault) → NameAt name a
-    → AreNames names → AreNames (put_in most what name a names o).1
+    → AreShallowAttributes names → AreShallowAttributes (put_in most what name a names o).1
 put_shallow most what name a names None new old = each_inserted NameAt names name a new old
 put_shallow most what name a names (Some put.Taken) new old = old
 put_shallow most what name a names (Some put.Limit) new old = old
 put_shallow most what name a names (Some put.NoMemory) new old = old
 
-drop_shallow : (name : List ℕ) (names : Names) → AreNames names → AreNames (drop_from name names).1
+drop_shallow : (name : List ℕ) (names : Names) → AreShallowAttributes names → AreShallowAttributes (drop_from name names).1
 drop_shallow name names old =
-    either_way (λ (p : Reply × Names). AreNames p.1) (contains_key names name) (each_left NameAt names name old) old
+    either_way (λ (p : Reply × Names). AreShallowAttributes p.1) (contains_key names name) (each_left NameAt names name old) old
 
 -- links have nothing that nests
 on_links_shallow : (id : Id) (f : Titles → Reply × Titles) (o : Object) → IsShallowObject o

@@ -1,20 +1,18 @@
 -- Answers whose bodies nest no deeper than JSON is read, and the worlds that give them.
-use Rattle.std.specs.Prelude.{◌≡◌, ◌≤◌, ℕ, List, length, Some}
-use Rattle.std.specs.FinMap.{empty, get}
+use Rattle.std.specs.Prelude.{◌≤◌, ℕ, List}
+use Rattle.std.specs.FinMap.{empty}
 use Rattle.std.specs.List.{AllByRecursion}
 use Rattle.serde_json.specs.Data.{Data, depth}
 use Rattle.serde_json.specs.Read.{max_depth}
 use Rattle.access_lists.specs.declared.people.Caller.{Caller}
-use Rattle.hdf_types.specs.Elems.{Elem}
-use Rattle.hdf_types.specs.Elems.{depth as nesting}
+use Rattle.hdf_types.specs.Elems.{Elem, depth as nesting}
 use Rattle.hdf_types.specs.Types.{IsSoundType}
 use Rattle.hdf_types.specs.Views.{elem}
 use Rattle.hdf_types.specs.declared.TheConstants.{MAX_NESTING}
 use Rattle.shapes.specs.declared.Shape.{Shape}
-use Rattle.shapes.specs.declared.TheConstants.{MAX_RANK}
-use Rattle.shapes.specs.Shapes.{IsSound, dims_of}
-use Rattle.hdf_values.specs.declared.attributes.Attribute.{Attribute}
+use Rattle.shapes.specs.Shapes.{IsSound}
 use Rattle.chunk_store.specs.Grids.{Grid}
+use Rattle.tree_depths.specs.Shallow.{AreShallowAttributes, IsShallow}
 use Rattle.object_ops.specs.Conditions.{IsSoundOp}
 use Rattle.object_ops.specs.Refusals.{refusal_tree}
 use Rattle.object_ops.specs.declared.ops.Request.{Request}
@@ -31,11 +29,7 @@ use Rattle.answer_trees.specs.Bodies.{AnswerHas}
 
 -- ---- worlds
 
--- the compounds of a type nest no deeper than they may, and a shape has no more axes than it may
-pub record IsShallow (e : Elem) (s : Shape) : Type 0 where
-  pub nested : nesting e ≤ MAX_NESTING
-  pub few_axes : length (dims_of s) ≤ MAX_RANK
-
+-- the type and the shape of an array are within their limits
 abbrev pub IsShallowGrid : Grid → Type 0
 IsShallowGrid g = IsShallow g.kind g.shape
 
@@ -46,7 +40,7 @@ IsShallowBody (Datatype type) = nesting (elem type) ≤ MAX_NESTING
 
 -- so are an object's attributes and its body
 pub record IsShallowObject (o : Object) : Type 0 where
-  pub attributes : (name : List ℕ) (a : Attribute) → get o.attributes name ≡ Some a → IsShallow (elem a.elem) a.shape
+  pub attributes : AreShallowAttributes o.attributes
   pub body : IsShallowBody o.body
 
 abbrev pub AreShallow : Objects → Type 0

@@ -1,5 +1,4 @@
 pub mod ListLemmas
-pub mod DepthLemmas
 pub mod TreeLemmas
 pub mod CreationLemmas
 pub mod ReadLemmas

@@ -22,8 +22,9 @@ pub list_of-items : (ds : List Data) → list_of (items_of ds) ≡ ds
 list_of-items [] = refl
 list_of-items (d ∷ ds) = ap (λ xs. d ∷ xs) (list_of-items ds)
 
-unlike : (x y : List ℕ) → text_order x y ≡ Less → eq_by_cmp text_order y x ≡ false
-unlike x y e = ap is_eq (nat_list_cmp_total.antisymm y x ∙ ap ordering_reverse e)
+-- a greater key isn't tied with a lesser one
+pub greater : (x y : List ℕ) → text_order x y ≡ Less → eq_by_cmp text_order y x ≡ false
+greater x y e = ap is_eq (nat_list_cmp_total.antisymm y x ∙ ap ordering_reverse e)
 
 module _ {X : Type 0} where
   -- no key of the second list is one of the first
@@ -41,7 +42,7 @@ module _ {X : Type 0} where
   apart_push done e [] none low apart = tt
   apart_push done e (f ∷ fs) none low apart =
       let more : find text_order f.0 (done ++ e ∷ []) ≡ cond (eq_by_cmp text_order f.0 e.0) (Some e.1) (find text_order f.0 done) = find-append text_order nat_list_cmp_total done e.0 e.1 f.0 none in (
-        more ∙ ap (λ b. cond b (Some e.1) (find text_order f.0 done)) (unlike e.0 f.0 (less _ (halves _ _ low).0)) ∙ apart.0,
+        more ∙ ap (λ b. cond b (Some e.1) (find text_order f.0 done)) (greater e.0 f.0 (less _ (halves _ _ low).0)) ∙ apart.0,
         apart_push done e fs none (halves _ _ low).1 apart.1,
       )
 

@@ -1,18 +1,17 @@
 -- What is kept of objects tells them apart.
-use Rattle.std.proofs.Common.{◌≡◌, ℕ, List, Option, Some, None, option_map, refl, sym, ap, ◌∙◌}
+use Rattle.std.proofs.Common.{◌≡◌, Option, Some, None, option_map, refl, sym, ap, ◌∙◌}
 use Rattle.std.specs.FinMap.{FinMap, get, same_map}
 use Rattle.std.proofs.lemmas.Cmp.{nat_list_cmp_total}
 use Rattle.text_maps.specs.Keyed.{text_order, with_values}
 use Rattle.text_maps.proofs.KeyedMaps.{exact_texts}
 use Rattle.text_maps.proofs.ValueMaps.{get-values}
-use Rattle.hdf_types.specs.Elems.{Elem}
 use Rattle.hdf_types.specs.Views.{elem}
 use Rattle.hdf_values.specs.Attributes.{Content, content}
 use Rattle.hdf_values.specs.declared.attributes.Attribute.{Attribute}
 use Rattle.hdf_values.proofs.ContentLemmas.{same_attribute, same_type}
 use Rattle.object_acts.specs.declared.objects.Body.{Body}
 use Rattle.object_acts.specs.declared.objects.Body.TheVariants.{Group, Dataset, Datatype}
-use Rattle.object_records.specs.Entries.{Kept, dataset, datatype, group, kept_of}
+use Rattle.object_records.specs.Entries.{kept_of}
 use Rattle.object_records.specs.Same.{IsSameBody}
 
 same_there : (o p : Option Attribute) → option_map content o ≡ option_map content p → o ≡ p

@@ -37,6 +37,7 @@ use Rattle.groups_links.specs.Titles.{IsGoodTitle, most_of_title}
 use Rattle.groups_links.specs.declared.target.LinkTo.{LinkTo}
 use Rattle.groups_links.specs.declared.target.LinkTo.TheVariants.{Hard, Soft, External}
 use Rattle.groups_links.proofs.LinkLemmas as links
+use Rattle.tree_depths.proofs.Depths.{attributes_deep, element_deep, links_deep, numbers_deep, shape_deep, sound_shallow, type_deep}
 use Rattle.chunk_layout.specs.Layouts.{Fits}
 use Rattle.chunk_store.specs.Grids.{Grid, IsWhole}
 use Rattle.array_acts.specs.Creation.{creation_tree}
@@ -49,7 +50,6 @@ use Rattle.object_acts.specs.declared.objects.Body.TheVariants.{Group, Dataset, 
 use Rattle.object_records.specs.Entries.{Entry, Kept, Names, dataset, datatype, entry_of, group, kept_of}
 use Rattle.object_records.specs.Lists.{attribute_in, attributes_in, links_in, listed, name_at, no_fault, titled_in}
 use Rattle.object_records.specs.Objects.{IsKeptBody, body_tree, dataset_in, dataset_tree, kept_in, object_in, object_tree, spelled_in}
-use Rattle.object_records.proofs.DepthLemmas.{attribute_depth, each_depth, element_depth, link_depth, numbers_depth, shape_depth, type_depth}
 use Rattle.object_records.proofs.CreationLemmas.{creation_back}
 use Rattle.object_records.proofs.ListLemmas.{list_back, list_of-items, zip_of}
 use Rattle.object_records.proofs.ReadLemmas.{attribute_read, title_read}
@@ -145,28 +145,23 @@ object_back o names body =
 -- ---- depths
 
 names_depth : (m : FinMap text_order Attribute) → AreAttributes m → depth (attributes_list m Document true) ≤ 38
-names_depth m held =
-    let each = each_entry (λ name a. depth (attribute_tree name (content a) Document true) ≤ 37) m (λ name a e. attribute_depth name (content a) Document (held.sound name a e)) in
-    omega (arith, each_depth 37 (entry_tree Document true) (entries m) each)
-
-links_depth : (m : FinMap text_order LinkTo) → AreLinks m → depth (links_list m Document) ≤ 2
-links_depth m held =
-    let each = each_entry (λ title link. depth (link_tree title link Document) ≤ 1) m (λ title link e. link_depth title link Document) in
-    omega (arith, each_depth 1 (λ (e : List ℕ × LinkTo). link_tree e.0 e.1 Document) (entries m) each)
+names_depth m held = attributes_deep m Document true (λ name a e.
+    let sound = held.sound name a e in
+    sound_shallow (elem a.elem) a.shape sound.kind sound.shape)
 
 properties_depth : (e : Elem) (s : Shape) (chunk : List ℕ) (fill : Option (List ℕ)) → IsSoundType e → depth (object (fill_members e fill (layout_members s chunk))) ≤ 5
 properties_depth e Null chunk None sound = omega arith
-properties_depth e Null chunk (Some bs) sound = omega (arith, element_depth e bs sound)
+properties_depth e Null chunk (Some bs) sound = omega (arith, element_deep e bs, sound.nested)
 properties_depth e Scalar chunk None sound = omega arith
-properties_depth e Scalar chunk (Some bs) sound = omega (arith, element_depth e bs sound)
-properties_depth e (Simple dims limits) chunk None sound = omega (arith, numbers_depth Rest chunk)
-properties_depth e (Simple dims limits) chunk (Some bs) sound = omega (arith, element_depth e bs sound, numbers_depth Rest chunk)
+properties_depth e Scalar chunk (Some bs) sound = omega (arith, element_deep e bs, sound.nested)
+properties_depth e (Simple dims limits) chunk None sound = omega (arith, numbers_deep Rest chunk)
+properties_depth e (Simple dims limits) chunk (Some bs) sound = omega (arith, element_deep e bs, sound.nested, numbers_deep Rest chunk)
 
 body_depth : (attributes : Data) (b : Body) → depth attributes ≤ 38 → IsKeptBody b → depth (body_tree attributes b) ≤ 39
-body_depth attributes (Group links) few h = omega (arith, few, links_depth links h)
+body_depth attributes (Group links) few h = omega (arith, few, links_deep links Document)
 body_depth attributes (Dataset array) few h =
-    omega (arith, few, properties_depth array.grid.kind array.grid.shape array.grid.chunk array.grid.fill h.0.kind, shape_depth array.grid.shape Document, type_depth array.grid.kind h.0.kind)
-body_depth attributes (Datatype type) few h = omega (arith, few, type_depth (elem type) h)
+    omega (arith, few, properties_depth array.grid.kind array.grid.shape array.grid.chunk array.grid.fill h.0.kind, shape_deep array.grid.shape Document, type_deep array.grid.kind, h.0.kind.nested)
+body_depth attributes (Datatype type) few h = omega (arith, few, type_deep (elem type), h.nested)
 
 pub object_depth : (o : Object) → AreAttributes o.attributes → IsKeptBody o.body → depth (object_tree o) ≤ max_depth
 object_depth o names body = omega (arith, body_depth (attributes_list o.attributes Document true) o.body (names_depth o.attributes names) body)

@@ -1,5 +1,5 @@
 use Rattle.answer_trees.proofs.Readings.{answers_readable, calls_readable, none_shallow, refusals_readable, stays_shallow}
-use Rattle.answer_trees.proofs.Shallow.{sound_shallow}
+use Rattle.tree_depths.proofs.Depths.{sound_shallow}
 use Rattle.answer_trees.proofs.bodies_read_back.Goals as goal
 
 pub returns : goal.returns
