@@ -3,3 +3,4 @@ pub mod Stops
 pub mod Creation
 pub mod Arrays
 pub mod Writes
+pub mod Marked

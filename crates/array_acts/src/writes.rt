@@ -1,6 +1,6 @@
 //! What requests write to an array.
 
-ghost use Rattle.std.specs.Prelude.{◌≡◌, ◌≤◌, ℕ, List, All, IfOk};
+ghost use Rattle.std.specs.Prelude.{◌≡◌, ◌≤◌, ℕ, List, All, IfOk, true};
 ghost use Rattle.serde_json.specs.View.{view};
 ghost use Rattle.json_trees.specs.Shown.{shown};
 ghost use Rattle.json_trees.specs.Faults.{Gives};
@@ -11,11 +11,13 @@ ghost use Rattle.hyperslab.specs.Judged.{lists_slab};
 ghost use Rattle.hyperslab.specs.Selected.{IsSlab, SlabIn, extents as extents_of, slab_cells};
 ghost use Rattle.hdf_values.specs.Nested.{AreEncoded};
 ghost use Rattle.point_select.specs.Faults.{points_of};
-ghost use Rattle.chunk_store.specs.Marks.{IsTracked};
+ghost use Rattle.chunk_store.specs.Marks.{IsTracked, touches};
 ghost use Rattle.object_ops.specs.Answers.{Follows};
 ghost use Rattle.array_acts.specs.Stops.{Tells, settled};
 ghost use Rattle.array_acts.specs.Arrays.{bytes_read, tree_written, slab_written, points_written};
 ghost use Rattle.array_acts.specs.Arrays.{value_written, shape_changed};
+ghost use Rattle.array_acts.specs.Marked.{IsDone, MarksAlone, cells_in, is_cut, is_written, was_done};
+ghost use Rattle.array_acts.specs.Writes.{points_region, slab_region};
 
 use crate::MAX_BYTES;
 use crate::bytes::{bytes_of, too_many_bytes};
@@ -48,6 +50,8 @@ pub fn write_value(
         result array.new.grid }
     ensures tracked { (held : List ℕ → List ℕ) → IsTracked held array.old
         → IsTracked held array.new }
+    ensures alone { MarksAlone (λ i. IsDone result
+        × (is_written part.now array.old.grid i ≡ true)) array.old array.new }
 {
     match part {
         Part::Slab { start, stop, step } => write_lists(
@@ -75,6 +79,8 @@ pub fn change_shape(array: &mut Array, alloc: Global, dims: &Dims) -> Reply
     ensures acts { (result, array.new.grid) ≡ shape_changed dims.now array.old.grid }
     ensures tracked { (held : List ℕ → List ℕ) → IsTracked held array.old
         → IsTracked held array.new }
+    ensures alone { MarksAlone (λ i. (was_done result ≡ true)
+        × (is_cut dims.now array.old.grid i ≡ true)) array.old array.new }
 {
     match resized(array.shape(), dims) {
         Ok(_) => {
@@ -108,6 +114,10 @@ fn write_lists(
         array.old.grid result array.new.grid }
     ensures tracked { (held : List ℕ → List ℕ) → IsTracked held array.old
         → IsTracked held array.new }
+    ensures alone { MarksAlone (λ i. IsDone result × (touches array.old.grid.chunk
+        (cells_in (slab_region array.old.grid.shape (lists_slab array.old.grid.shape
+        (shown start.entry) (shown stop.entry) (shown step.entry)))) i ≡ true))
+        array.old array.new }
 {
     array.is_whole();
     match from_lists(start, stop, step, array.shape()) {
@@ -124,6 +134,8 @@ fn write_slab(alloc: Global, array: &mut Array, slab: &Slab, value: &Value) -> R
         array.old.grid (settled result) array.new.grid }
     ensures tracked { (held : List ℕ → List ℕ) → IsTracked held array.old
         → IsTracked held array.new }
+    ensures alone { MarksAlone (λ i. IsDone (settled result) × (touches array.old.grid.chunk
+        (slab_cells slab.now array.old.grid.shape) i ≡ true)) array.old array.new }
 {
     let bytes = elements(alloc, array, slab.count(), &slab.extents(), value)?;
     array.write_slab(alloc, slab, bytes.as_slice())?;
@@ -141,6 +153,9 @@ fn write_points(
         array.old.grid (settled result) array.new.grid }
     ensures tracked { (held : List ℕ → List ℕ) → IsTracked held array.old
         → IsTracked held array.new }
+    ensures alone { MarksAlone (λ i. IsDone (settled result) × (touches array.old.grid.chunk
+        (cells_in (points_region (points_of (view points.now) array.old.grid.shape))) i ≡ true))
+        array.old array.new }
 {
     let points = read_points(alloc, points, array.shape())?;
     let many = points.len() as u64;

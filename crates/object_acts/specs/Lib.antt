@@ -1,3 +1,4 @@
 pub mod Objects
 pub mod Trees
 pub mod Acts
+pub mod Marked

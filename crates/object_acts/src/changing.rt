@@ -1,6 +1,6 @@
 //! What is answered to operations that change one object, and what they leave.
 
-ghost use Rattle.std.specs.Prelude.{◌≡◌, true};
+ghost use Rattle.std.specs.Prelude.{◌≡◌, ℕ, List, true};
 ghost use Rattle.groups_links.specs.Titles.{IsGoodTitle};
 ghost use Rattle.groups_links.specs.Targets.{IsSoundLink};
 ghost use Rattle.groups_links.specs.declared.target.LinkTo.TheVariants.{Hard};
@@ -8,9 +8,11 @@ ghost use Rattle.object_ids.specs.declared.ids.Kind.{Kind};
 ghost use Rattle.object_ops.specs.Answers.{Follows};
 ghost use Rattle.object_ops.specs.Conditions.{IsSoundOp, AreDims};
 ghost use Rattle.array_acts.specs.Arrays.{shape_changed, value_written};
+ghost use Rattle.array_acts.specs.Marked.{IsDone, is_cut, is_written, was_done};
 ghost use Rattle.object_acts.specs.Objects.{unmarked, IsOfKind, KeepsTrack};
 ghost use Rattle.object_acts.specs.Acts.{change_of, changes_object, drop_from, link_put};
 ghost use Rattle.object_acts.specs.Acts.{on_array, on_links};
+ghost use Rattle.object_acts.specs.Marked.{MarksAloneIn, in_array, is_changed_by, is_dirty_in};
 
 use crate::attribute_acts::{drop_attribute, put_attribute};
 use crate::link_acts::{drop_link, put_link};
@@ -36,6 +38,8 @@ pub fn change(alloc: Global, object: &mut Object, op: &Op) -> Result<Reply, Allo
         result (unmarked object.new) }
     ensures kind { (k : Kind) → IsOfKind k object.old → IsOfKind k object.new }
     ensures tracked { KeepsTrack object.old.body object.new.body }
+    ensures alone { MarksAloneIn (λ i. IsDone result
+        × (is_changed_by op.now object.old.body i ≡ true)) object.old.body object.new.body }
 {
     match op {
         Op::PutLink { id, title, link } => link_put(alloc, object, id, title, link),
@@ -70,6 +74,7 @@ pub fn link_made(
         result (unmarked object.new) }
     ensures kind { (k : Kind) → IsOfKind k object.old → IsOfKind k object.new }
     ensures tracked { KeepsTrack object.old.body object.new.body }
+    ensures alone { (i : List ℕ) → is_dirty_in object.new.body i ≡ is_dirty_in object.old.body i }
 {
     link_put(alloc, object, id, title, &LinkTo::Hard(fresh))
 }
@@ -88,6 +93,7 @@ fn link_put(
         result (unmarked object.new) }
     ensures kind { (k : Kind) → IsOfKind k object.old → IsOfKind k object.new }
     ensures tracked { KeepsTrack object.old.body object.new.body }
+    ensures alone { (i : List ℕ) → is_dirty_in object.new.body i ≡ is_dirty_in object.old.body i }
 {
     match &mut object.body {
         Body::Group(links) => put_link(alloc, links, title, link),
@@ -106,6 +112,7 @@ fn link_dropped(
         result (unmarked object.new) }
     ensures kind { (k : Kind) → IsOfKind k object.old → IsOfKind k object.new }
     ensures tracked { KeepsTrack object.old.body object.new.body }
+    ensures alone { (i : List ℕ) → is_dirty_in object.new.body i ≡ is_dirty_in object.old.body i }
 {
     match &mut object.body {
         Body::Group(links) => drop_link(alloc, links, title),
@@ -121,6 +128,9 @@ fn shape_put(alloc: Global, object: &mut Object, id: &ObjectId, dims: &Dims) -> 
         (unmarked object.old).attributes (unmarked object.old).body).1 }
     ensures kind { (k : Kind) → IsOfKind k object.old → IsOfKind k object.new }
     ensures tracked { KeepsTrack object.old.body object.new.body }
+    ensures alone { MarksAloneIn (λ i. (was_done result ≡ true)
+        × (in_array (λ g. is_cut dims.now g i) object.old.body ≡ true))
+        object.old.body object.new.body }
 {
     match &mut object.body {
         Body::Dataset(array) => change_shape(array, alloc, dims),
@@ -140,6 +150,9 @@ fn value_put(
         result (unmarked object.new) }
     ensures kind { (k : Kind) → IsOfKind k object.old → IsOfKind k object.new }
     ensures tracked { KeepsTrack object.old.body object.new.body }
+    ensures alone { MarksAloneIn (λ i. IsDone result
+        × (in_array (λ g. is_written part.now g i) object.old.body ≡ true))
+        object.old.body object.new.body }
 {
     match &mut object.body {
         Body::Dataset(array) => write_value(alloc, array, part, value),

@@ -1,12 +1,13 @@
 //! What an object is.
 
-ghost use Rattle.std.specs.Prelude.{◌≡◌, [], IfOk, IfSome, option_map};
+ghost use Rattle.std.specs.Prelude.{◌≡◌, ℕ, List, [], false, IfOk, IfSome, option_map};
 ghost use Rattle.hdf_types.specs.Elems.{Elem};
 ghost use Rattle.hdf_values.specs.Elements.{IsEncoded};
 ghost use Rattle.object_ops.specs.Conditions.{IsSoundMake, IsSoundFill};
 ghost use Rattle.object_ops.specs.Parts.{kind_made};
 ghost use Rattle.object_acts.specs.Objects.{empty_group, made, unmarked, unmarked_body, IsOfKind};
 ghost use Rattle.object_acts.specs.Objects.{body_made, kind_of_body, IsSoundBody, IsTrackedBody};
+ghost use Rattle.object_acts.specs.Marked.{is_dirty_in};
 
 use attributes::Attributes;
 use chunk_store::Array;
@@ -57,6 +58,7 @@ impl Object {
         ensures made { IfOk result (λ o. unmarked o ≡ made make.now) }
         ensures kind { IfOk result (IsOfKind (kind_made make.now)) }
         ensures tracked { IfOk result (λ o. IsTrackedBody (λ _. []) o.body) }
+        ensures still { IfOk result (λ o. (i : List ℕ) → is_dirty_in o.body i ≡ false) }
     {
         Ok(Object {
             attributes: Attributes::new(alloc),
@@ -71,6 +73,7 @@ fn new_body(alloc: Global, make: &Make) -> Result<Body, AllocError>
     ensures kind { IfOk result (λ b. kind_of_body b ≡ kind_made make.now) }
     ensures sound { IfOk result IsSoundBody }
     ensures tracked { IfOk result (IsTrackedBody (λ _. [])) }
+    ensures still { IfOk result (λ b. (i : List ℕ) → is_dirty_in b i ≡ false) }
 {
     match make {
         Make::Group => Ok(Body::Group(Links::new(alloc))),

@@ -15,10 +15,10 @@ use Rattle.object_slots.specs.Changed.{ChangesAt}
 use Rattle.object_slots.specs.Slots.{AreOfKind, HasSameIds, Says, Slots, StillSays, object_by, object_of, objects_of}
 use Rattle.object_slots.proofs.Passing.{contrary}
 use Rattle.object_slots.proofs.KeptSlots.{put_here, put_others}
-use Rattle.object_slots.proofs.Placed.{everywhere, StillKind, StillSaid, kind_there}
+use Rattle.object_slots.proofs.Placed.{everywhere, StillKind, StillSaid, kind_there, replaced_ids}
 use Rattle.object_slots.proofs.Standing.{get-objects_of, objects-insert}
 
-live_object : (m : Mark) (o : Object) → m ≢ Dropped → object_by m o ≡ Some (unmarked o)
+pub live_object : (m : Mark) (o : Object) → m ≢ Dropped → object_by m o ≡ Some (unmarked o)
 live_object Kept o live = refl
 live_object Changed o live = refl
 live_object Dropped o live = absurd (live refl)
@@ -59,6 +59,4 @@ module _ (m : Slots) (id : Id) (s t : Slot) (here : get m id ≡ Some s) (live :
 
   -- no id more has a slot
   pub same_ids : HasSameIds m (insert m id t)
-  same_ids = everywhere (λ q o p. o ≡ None → p ≡ None) m (insert m id t) id (put_others m id t) (λ none. never (sym here ∙ none)) (λ q w none. none) where
-    never : {P : Type 0} → Some s ≡ None → P
-    never e = absurd (cc)
+  same_ids = replaced_ids m id s t here

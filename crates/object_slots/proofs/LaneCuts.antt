@@ -36,29 +36,32 @@ use Rattle.object_slots.proofs.SlotCuts.{front_cut, slot_cut}
 
 -- ---- keys of one id alone
 
-same_id : (a b : Id) → InRange a → InRange b → (m n : Mark) (x y : Body) (key : List ℕ) → IsMarkedIn a m x key → IsMarkedIn b n y key → a ≡ b
+pub same_id : (a b : Id) → InRange a → InRange b → (m n : Mark) (x y : Body) (key : List ℕ) → IsMarkedIn a m x key → IsMarkedIn b n y key → a ≡ b
 same_id a b ha hb m n x y key (inl f) (inl g) = object_once a b ha hb (sym f.0 ∙ g.0)
 same_id a b ha hb m n x y key (inl f) (inr g) = absurd (object_no_chunk a b g.0 (sym f.0 ∙ g.1))
 same_id a b ha hb m n x y key (inr f) (inl g) = absurd (object_no_chunk b a f.0 (sym g.0 ∙ f.1))
 same_id a b ha hb m n x y key (inr f) (inr g) = chunk_id_once a b f.0 g.0 ha hb f.3 g.3 f.2 g.2 (sym f.1 ∙ g.1)
 
-module _ (id q : Id) (range : InRange id) (mine : InRange q) (other : q ≢ id) (m : Mark) (b : Body) (added : List Record) (marked : AllByRecursion (λ r. IsMarkedIn id m b r.0) added) (held : Held) where
+-- a key that is neither that of an id's object nor that of one of its chunks
+abbrev pub IsKeyApart : Id → List ℕ → Type 0
+IsKeyApart q key = (key ≢ object_key q) × ((i : List ℕ) → is_index i ≡ true → q.kind ≡ kinds.Dataset → key ≢ chunk_key q i)
+
+-- what is marked at one id is apart from each other id
+pub marked_apart : (id q : Id) → InRange id → InRange q → q ≢ id → (m : Mark) (b : Body) (key : List ℕ) → IsMarkedIn id m b key → IsKeyApart q key
+marked_apart id q range mine other m b key (inl h) = (λ same. other (object_once q id mine range (sym same ∙ h.0)), λ i index dataset same. object_no_chunk id q i (sym h.0 ∙ same))
+marked_apart id q range mine other m b key (inr h) =
+    (λ same. object_no_chunk q id h.0 (sym same ∙ h.1), λ i index dataset same. other (chunk_id_once q id i h.0 mine range dataset h.3 index h.2 (sym same ∙ h.1)))
+
+module _ (q : Id) (added : List Record) (apart : AllByRecursion (λ r. IsKeyApart q r.0) added) (held : Held) where
   object_stays : get (put_all added held) (object_key q) ≡ get held (object_key q)
-  object_stays = put_others held added (object_key q) (all_more (λ r. IsMarkedIn id m b r.0) (λ r. r.0 ≢ object_key q) added (λ r h same. not_mine r.0 h same) marked) where
-    not_mine : (key : List ℕ) → IsMarkedIn id m b key → key ≡ object_key q → ⊥
-    not_mine key (inl h) same = other (object_once q id mine range (sym same ∙ h.0))
-    not_mine key (inr h) same = object_no_chunk q id h.0 (sym same ∙ h.1)
+  object_stays = put_others held added (object_key q) (all_more (λ r. IsKeyApart q r.0) (λ r. r.0 ≢ object_key q) added (λ r h. h.0) apart)
 
   chunks_stay : q.kind ≡ kinds.Dataset → chunks_at (put_all added held) q ≡ chunks_at held q
   chunks_stay dataset k i = at i k where
-    not_mine : (i key : List ℕ) → is_index i ≡ true → IsMarkedIn id m b key → key ≡ chunk_key q i → ⊥
-    not_mine i key index (inl h) same = object_no_chunk id q i (sym h.0 ∙ same)
-    not_mine i key index (inr h) same = other (chunk_id_once q id i h.0 mine range dataset h.3 index h.2 (sym same ∙ h.1))
-
     at : (i : List ℕ) → chunks_at (put_all added held) q i ≡ chunks_at held q i
     at i = by_bool (is_index i) (chunks_at (put_all added held) q i ≡ chunks_at held q i)
         (λ index. ap (λ (o : Option (List ℕ)). cond (is_index i) (option_map_or (λ body. body) o []) [])
-        (put_others held added (chunk_key q i) (all_more (λ r. IsMarkedIn id m b r.0) (λ r. r.0 ≢ chunk_key q i) added (λ r h same. not_mine i r.0 index h same) marked)))
+        (put_others held added (chunk_key q i) (all_more (λ r. IsKeyApart q r.0) (λ r. r.0 ≢ chunk_key q i) added (λ r h. h.1 i index dataset) apart)))
         (λ none. ap (λ b. cond b (option_map_or (λ body. body) (get (put_all added held) (chunk_key q i)) []) []) none
         ∙ sym (ap (λ b. cond b (option_map_or (λ body. body) (get held (chunk_key q i)) []) []) none))
 
@@ -67,13 +70,19 @@ module _ (id q : Id) (range : InRange id) (mine : InRange q) (other : q ≢ id) 
   body_stays mark (body.Dataset array) kind said = subst (λ (f : List ℕ → List ℕ). AreChunksIn mark f (body.Dataset array)) (sym (chunks_stay (sym kind))) said
   body_stays mark (body.Datatype type) kind said = tt
 
-  -- what is held says of another id what it said
-  pub others_said : (o : Option Slot) → ((s : Slot) → o ≡ Some s → IsOfKind q.kind s.object) → Says o q held → Says o q (put_all added held)
-  others_said None kind said = (object_stays ∙ said.0, λ dataset i. (λ k. chunks_stay dataset k i) ∙ said.1 dataset i)
-  others_said (Some s) kind said = (
+  -- what is held says of the id what it said
+  pub said_apart : (o : Option Slot) → ((s : Slot) → o ≡ Some s → IsOfKind q.kind s.object) → Says o q held → Says o q (put_all added held)
+  said_apart None kind said = (object_stays ∙ said.0, λ dataset i. (λ k. chunks_stay dataset k i) ∙ said.1 dataset i)
+  said_apart (Some s) kind said = (
     subst (λ (r : Option (List ℕ)). HasRecord s.mark s.object r) (sym object_stays) said.0,
     body_stays s.mark s.object.body (kind s refl).kind said.1,
   )
+
+-- what was marked at one id says of another what was said
+pub others_said : (id q : Id) → InRange id → InRange q → q ≢ id → (m : Mark) (b : Body) (added : List Record) → AllByRecursion (λ r. IsMarkedIn id m b r.0) added → (held : Held)
+    → (o : Option Slot) → ((s : Slot) → o ≡ Some s → IsOfKind q.kind s.object) → Says o q held → Says o q (put_all added held)
+others_said id q range mine other m b added marked held =
+    said_apart q added (all_more (λ r. IsMarkedIn id m b r.0) (λ r. IsKeyApart q r.0) added (λ r h. marked_apart id q range mine other m b r.0 h) marked) held
 
 -- ---- what a settled slot is
 
@@ -108,13 +117,13 @@ still_body (body.Group links) y h = subst (λ (z : Body). IsStillBody z) (sym h)
 still_body (body.Dataset array) y h = subst (λ (z : Body). IsStillBody z) (sym h.1) (λ i. ap flagged (h.2.marks i) ∙ clean (in_grid array.grid i) (state array i))
 still_body (body.Datatype type) y h = subst (λ (z : Body). IsStillBody z) (sym h) tt
 
-none_is : {P : Type 0} (t : Slot) → None ≡ Some t → P
+pub none_is : {P : Type 0} (t : Slot) → None ≡ Some t → P
 none_is t e = absurd (cc)
 
 some_is : (s t : Slot) → Some s ≡ Some t → s ≡ t
 some_is s t e = cc
 
-settled_still : (mark : Mark) (s t : Slot) (new : Option Slot) → SettlesBy mark s new → new ≡ Some t → IsStill t
+pub settled_still : (mark : Mark) (s t : Slot) (new : Option Slot) → SettlesBy mark s new → new ≡ Some t → IsStill t
 settled_still Kept s t new h e = subst IsStill (some_is h.0 t (sym h.1 ∙ e)) (h.2.mark, still_body s.object.body h.0.object.body h.2.body)
 settled_still Changed s t new h e = subst IsStill (some_is h.0 t (sym h.1 ∙ e)) (h.2.mark, still_body s.object.body h.0.object.body h.2.body)
 settled_still Dropped s t new h e = none_is t (sym h ∙ e)
@@ -184,7 +193,7 @@ far_begin old records kinds = record {
   kinds = kinds;
 }
 
-all_marks : (P Q : List ℕ → Type 0) (base : Held) (old new : List Record) (later : Held → Type 0) → ((key : List ℕ) → P key → Q key) → IsCut P base old new later → IsCut Q base old new later
+pub all_marks : (P Q : List ℕ → Type 0) (base : Held) (old new : List Record) (later : Held → Type 0) → ((key : List ℕ) → P key → Q key) → IsCut P base old new later → IsCut Q base old new later
 all_marks P Q base old new later f c = record {
   added = c.added;
   appended = c.appended;

@@ -10,3 +10,5 @@ pub mod Placed
 pub mod StillTold
 pub mod Standing
 pub mod ChangedSlots
+pub mod Marks
+pub mod Spelled

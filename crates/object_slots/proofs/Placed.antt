@@ -17,7 +17,7 @@ use Rattle.object_slots.specs.declared.slot.Mark.{Mark}
 use Rattle.object_slots.specs.declared.slot.Mark.TheVariants.{Kept, Changed, Dropped}
 use Rattle.object_slots.specs.declared.slot.Slot.{Slot}
 use Rattle.record_keys.specs.Keys.{object_key}
-use Rattle.object_slots.specs.Slots.{AreChunksIn, AreChunksOf, AreOfKind, HasNoChunks, HasRecord, Says, Slots, chunks_at, object_by, object_of}
+use Rattle.object_slots.specs.Slots.{AreChunksIn, AreChunksOf, AreOfKind, HasNoChunks, HasRecord, HasSameIds, Says, Slots, chunks_at, object_by, object_of}
 use Rattle.object_slots.proofs.Passing.{by_bool, contrary}
 use Rattle.object_slots.proofs.KeptSlots.{put_here, put_others}
 
@@ -137,3 +137,9 @@ module _ (m : Slots) (id : Id) (s t : Slot) (here : get m id ≡ Some s) (same :
   pub removed_kind : AreOfKind m → AreOfKind (insert m id t)
   removed_kind kinds q = everywhere StillKind m (insert m id t) id (put_others m id t)
       (λ were x e. kind_there id t (subst (λ (y : Object). IsOfKind id.kind y) (sym same) (were s here)) x (sym removed_there ∙ e)) (λ x w were. were) q (kinds q)
+
+-- no id more has a slot where one is replaced
+pub replaced_ids : (m : Slots) (id : Id) (s t : Slot) → get m id ≡ Some s → HasSameIds m (insert m id t)
+replaced_ids m id s t here = everywhere (λ q o p. o ≡ None → p ≡ None) m (insert m id t) id (put_others m id t) (λ none. never (sym here ∙ none)) (λ q w none. none) where
+  never : {P : Type 0} → Some s ≡ None → P
+  never e = absurd (cc)

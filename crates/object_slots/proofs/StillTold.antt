@@ -21,6 +21,7 @@ use Rattle.object_ops.specs.declared.replies.Reply.{Reply}
 use Rattle.object_ops.specs.declared.replies.Reply.TheVariants.{Done, Refused}
 use Rattle.object_ops.specs.Answers.{Follows}
 use Rattle.array_acts.specs.Arrays.{bytes_read, bytes_written, points_written, slab_written, tree_written, value_written}
+use Rattle.array_acts.specs.Marked.{was_done}
 use Rattle.object_acts.specs.declared.objects.Object.{Object}
 use Rattle.object_acts.specs.declared.objects.Body.{Body}
 use Rattle.object_acts.specs.declared.objects.Body.TheVariants as body
@@ -33,7 +34,7 @@ use Rattle.record_keys.specs.Keys.{object_key}
 use Rattle.object_slots.specs.declared.slot.Mark.{Mark}
 use Rattle.object_slots.specs.declared.slot.Mark.TheVariants.{Kept, Changed, Dropped}
 use Rattle.object_slots.specs.declared.slot.Slot.{Slot}
-use Rattle.object_slots.specs.Changed.{is_outdated, was_done, writes_cells}
+use Rattle.object_slots.specs.Changed.{is_outdated, writes_cells}
 use Rattle.object_slots.specs.Slots.{AreChunksIn, AreChunksOf, HasRecord, IsRecordOf, Says, chunks_at}
 use Rattle.object_slots.proofs.Passing.{contrary}
 use Rattle.object_slots.proofs.Describing.{entry_unmarked, kind_unmarked}

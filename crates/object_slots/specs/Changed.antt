@@ -8,13 +8,9 @@ use Rattle.object_ops.specs.Answers.{Follows}
 use Rattle.object_ops.specs.declared.ops.Op.{Op}
 use Rattle.object_ops.specs.declared.ops.Op.TheVariants.{PutValue}
 use Rattle.object_ops.specs.declared.replies.Reply.{Reply}
-use Rattle.object_ops.specs.declared.replies.Reply.TheVariants.{Done, Refused}
+use Rattle.array_acts.specs.Marked.{was_done}
 use Rattle.object_slots.specs.declared.slot.Mark.{Mark}
 use Rattle.object_slots.specs.declared.slot.Mark.TheVariants.{Changed}
-
-abbrev pub was_done : Reply → Bool
-was_done (Done status body) = true
-was_done (Refused refusal) = false
 
 -- cells have records of their own
 abbrev pub writes_cells : Op → Bool

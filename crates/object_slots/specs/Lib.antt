@@ -2,3 +2,4 @@ pub mod Slots
 pub mod Cutting
 pub mod Settled
 pub mod Changed
+pub mod Marking

@@ -1,6 +1,6 @@
 //! Changes of one object.
 
-ghost use Rattle.std.specs.Prelude.{◌≡◌, ◌≢◌, true, is_some, Some, IfOk, OnErr};
+ghost use Rattle.std.specs.Prelude.{◌≡◌, ◌≢◌, ℕ, List, true, is_some, Some, IfOk, OnErr};
 ghost use Rattle.std.specs.FinMap.{get};
 ghost use Rattle.groups_links.specs.Titles.{IsGoodTitle};
 ghost use Rattle.groups_links.specs.declared.target.LinkTo.TheVariants.{Hard};
@@ -9,9 +9,13 @@ ghost use Rattle.object_ids.specs.IdValues.{Id};
 ghost use Rattle.object_ids.specs.declared.ids.Kind.{Kind};
 ghost use Rattle.object_ops.specs.Answers.{Follows};
 ghost use Rattle.object_ops.specs.Conditions.{IsSoundOp};
+ghost use Rattle.array_acts.specs.Marked.{IsDone, was_done};
 ghost use Rattle.object_acts.specs.Acts.{change_of, changes_object, link_put, on_links};
+ghost use Rattle.object_acts.specs.Marked.{MarksAloneIn, is_changed_by, is_dirty_in};
 ghost use Rattle.object_acts.specs.Objects.{IsOfKind, unmarked};
-ghost use Rattle.object_slots.specs.Changed.{ChangesAt, is_outdated, mark_after, was_done, writes_cells};
+ghost use Rattle.record_keys.specs.Keys.{object_key};
+ghost use Rattle.object_slots.specs.Changed.{ChangesAt, is_outdated, mark_after, writes_cells};
+ghost use Rattle.object_slots.specs.Marking.{AddsMarks, IsOutdatedAt};
 ghost use Rattle.object_slots.specs.Slots.{AreOfKind, HasSameIds, Says, StillSays, object_of, objects_of};
 ghost use Rattle.object_slots.specs.declared.slot.Mark.TheVariants.{Dropped};
 
@@ -40,6 +44,9 @@ pub fn change(alloc: Global, slot: &mut Slot, op: &Op) -> Result<Reply, AllocErr
     ensures kind { (k : Kind) → IsOfKind k slot.old.object → IsOfKind k slot.new.object }
     ensures says { (id : Id) (held : Held) → Says (Some slot.old) id held
         → Says (Some slot.new) id held }
+    ensures alone { MarksAloneIn (λ i. IsDone result
+        × (is_changed_by op.now slot.old.object.body i ≡ true))
+        slot.old.object.body slot.new.object.body }
 {
     refusals_leave_the_object();
     let reply = change_object(alloc, &mut slot.object, op)?;
@@ -71,6 +78,8 @@ pub fn link_made(
     ensures kind { (k : Kind) → IsOfKind k slot.old.object → IsOfKind k slot.new.object }
     ensures says { (id : Id) (held : Held) → Says (Some slot.old) id held
         → Says (Some slot.new) id held }
+    ensures alone { (i : List ℕ)
+        → is_dirty_in slot.new.object.body i ≡ is_dirty_in slot.old.object.body i }
 {
     refusals_leave_the_object();
     let reply = link_object(alloc, &mut slot.object, id, title, fresh)?;
@@ -96,6 +105,9 @@ pub fn change_at(
     ensures acts { ChangesAt id.now (change_of op.now) (objects_of slots.old) result
         (objects_of slots.new) }
     ensures says { StillSays slots.old slots.new }
+    ensures alone { AddsMarks (λ key. IsDone result
+        × IsOutdatedAt id.now op.now (object_of (get slots.old id.now)) key)
+        slots.old slots.new }
     ensures kinds { AreOfKind slots.new }
     ensures same_ids { HasSameIds slots.old slots.new }
 {
@@ -124,6 +136,8 @@ pub fn link_at(
         (λ o. on_links id.now (link_put title.now (Hard fresh)) o.attributes o.body)
         (objects_of slots.old) result (objects_of slots.new) }
     ensures says { StillSays slots.old slots.new }
+    ensures alone { AddsMarks (λ key. IsDone result × (key ≡ object_key id.now))
+        slots.old slots.new }
     ensures kinds { AreOfKind slots.new }
     ensures same_ids { HasSameIds slots.old slots.new }
 {

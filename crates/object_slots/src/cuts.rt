@@ -1,6 +1,6 @@
 //! Cuts of all objects of a lane.
 
-ghost use Rattle.std.specs.Prelude.{◌≡◌, ◌≢◌, ◌⊎◌, true, false, OnOk, OnErr};
+ghost use Rattle.std.specs.Prelude.{◌≡◌, ◌≢◌, ◌⊎◌, ℕ, List, true, false, OnOk, OnErr};
 ghost use Rattle.std.specs.FinMap.{get};
 ghost use Rattle.flush_journal.specs.Batches.{records};
 ghost use Rattle.flush_journal.specs.Records.{Held};
@@ -39,6 +39,7 @@ pub fn cut(alloc: Global, slots: &mut IdMap<Slot>, into: &mut Batch) -> Result<(
     ensures still { OnOk result (AreStill slots.new) }
     ensures each { (id : Id) → (get slots.new id ≡ get slots.old id)
         ⊎ Settles (get slots.old id) (get slots.new id) }
+    ensures marks { (key : List ℕ) → IsMarked slots.new key → IsMarked slots.old key }
     ensures same { (id : Id) → object_of (get slots.new id) ≡ object_of (get slots.old id) }
     ensures kinds { AreOfKind slots.new }
 {

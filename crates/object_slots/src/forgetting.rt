@@ -3,7 +3,8 @@
 ghost use Rattle.std.specs.Prelude.{◌≡◌, ◌≢◌, ◌==◌, None, if◌then◌else◌};
 ghost use Rattle.std.specs.FinMap.{get};
 ghost use Rattle.object_ids.specs.IdValues.{Id};
-ghost use Rattle.object_slots.specs.Slots.{AreOfKind, StillSays, object_of};
+ghost use Rattle.object_slots.specs.Marking.{AddsMarks, IsToDrop, IsToForget};
+ghost use Rattle.object_slots.specs.Slots.{AreOfKind, HasSameIds, StillSays, object_of};
 
 use crate::placing::remove;
 use crate::slot::Slot;
@@ -15,7 +16,9 @@ pub fn forget(slots: &mut IdMap<Slot>, number: u64)
     ensures rest { (id : Id) → object_of (get slots.new id)
         ≡ (if id.domain == number then None else object_of (get slots.old id)) }
     ensures says { StillSays slots.old slots.new }
+    ensures alone { AddsMarks (IsToForget number (get slots.old)) slots.old slots.new }
     ensures kinds { AreOfKind slots.new }
+    ensures same_ids { HasSameIds slots.old slots.new }
 {
     let mut last = None;
     while let Some(id) = slots.next_id(last.as_ref()) {
@@ -32,7 +35,10 @@ fn forget_at(slots: &mut IdMap<Slot>, id: &ObjectId, number: u64)
     ensures others { (other : Id) → other ≢ id.now
         → get slots.new other ≡ get slots.old other }
     ensures says { StillSays slots.old slots.new }
+    ensures alone { AddsMarks (λ key. (id.now.domain ≡ number)
+        × IsToDrop id.now (get slots.old id.now) key) slots.old slots.new }
     ensures kinds { AreOfKind slots.new }
+    ensures same_ids { HasSameIds slots.old slots.new }
 {
     if is_of(id, number) {
         remove(slots, id);

@@ -4,7 +4,9 @@ ghost use Rattle.std.specs.Prelude.{◌≡◌, ◌≢◌, [], is_some, Some, Non
 ghost use Rattle.std.specs.FinMap.{get};
 ghost use Rattle.object_acts.specs.Objects.{IsOfKind, IsTrackedBody, unmarked};
 ghost use Rattle.object_ids.specs.IdValues.{Id};
-ghost use Rattle.object_slots.specs.Slots.{AreOfKind, StillSays, object_of};
+ghost use Rattle.object_slots.specs.Marking.{AddsMarks, IsToDrop};
+ghost use Rattle.object_slots.specs.Slots.{AreOfKind, HasSameIds, IsMarkedIn, StillSays, object_of};
+ghost use Rattle.object_slots.specs.declared.slot.Mark.TheVariants.{Changed};
 
 use crate::slot::{Mark, Slot};
 use object_acts::Object;
@@ -25,6 +27,7 @@ pub fn put(slots: &mut IdMap<Slot>, id: ObjectId, object: Object) -> Result<(), 
     ensures others { (other : Id) → other ≢ id → get slots.new other ≡ get slots.old other }
     ensures err { OnErr result (slots.new ≡ slots.old) }
     ensures says { StillSays slots.old slots.new }
+    ensures alone { AddsMarks (IsMarkedIn id Changed object.body) slots.old slots.new }
     ensures kinds { AreOfKind slots.new }
 {
     if is_there(slots, &id) {
@@ -50,7 +53,9 @@ pub fn remove(slots: &mut IdMap<Slot>, id: &ObjectId)
     ensures gone { object_of (get slots.new id.now) ≡ None }
     ensures others { (other : Id) → other ≢ id.now → get slots.new other ≡ get slots.old other }
     ensures says { StillSays slots.old slots.new }
+    ensures alone { AddsMarks (IsToDrop id.now (get slots.old id.now)) slots.old slots.new }
     ensures kinds { AreOfKind slots.new }
+    ensures same_ids { HasSameIds slots.old slots.new }
 {
     if let Some(slot) = slots.get_mut(id) {
         slot.mark = Mark::Dropped;

@@ -1,6 +1,7 @@
 use Rattle.std.proofs.Common.{sym}
 use Rattle.object_acts.specs.Acts.{change_of}
 use Rattle.object_slots.proofs.ChangedSlots.{changed_kinds, changed_said, changes_at, same_ids, there_live}
+use Rattle.object_slots.proofs.Marks.{change_alone}
 use Rattle.object_slots.proofs.changing.change_at.Goals as goal
 
 pub returns-clause-acts : goal.returns-clause-acts
@@ -22,3 +23,8 @@ pub returns-clause-same_ids : goal.returns-clause-same_ids
 returns-clause-same_ids c =
     same_ids c.args.slots.now c.args.id.now c.in-Some.slot.now c.change.new.slot (sym c.in-Some.ensures.value) (there_live c.args.slots.now c.args.id.now c.in-Some.slot.now (sym c.in-Some.ensures.value) c.requires.held)
     c.change.ensures.live
+
+pub returns-clause-alone : goal.returns-clause-alone
+returns-clause-alone c =
+    change_alone c.args.slots.now c.args.id.now c.in-Some.slot.now c.change.new.slot (sym c.in-Some.ensures.value) (there_live c.args.slots.now c.args.id.now c.in-Some.slot.now (sym c.in-Some.ensures.value) c.requires.held)
+    c.change.ensures.live c.args.op.now c.change.result c.change.ensures.mark c.change.ensures.unmarked c.change.ensures.alone

@@ -2,6 +2,7 @@ use Rattle.std.proofs.Common.{sym}
 use Rattle.groups_links.specs.declared.target.LinkTo.TheVariants.{Hard}
 use Rattle.object_acts.specs.Acts.{link_put, on_links}
 use Rattle.object_slots.proofs.ChangedSlots.{changed_kinds, changed_said, changes_at, same_ids, there_live}
+use Rattle.object_slots.proofs.Marks.{link_alone}
 use Rattle.object_slots.proofs.changing.link_at.Goals as goal
 
 pub returns-clause-acts : goal.returns-clause-acts
@@ -23,3 +24,8 @@ pub returns-clause-same_ids : goal.returns-clause-same_ids
 returns-clause-same_ids c =
     same_ids c.args.slots.now c.args.id.now c.in-Some.slot.now c.link_made.new.slot (sym c.in-Some.ensures.value) (there_live c.args.slots.now c.args.id.now c.in-Some.slot.now (sym c.in-Some.ensures.value) c.requires.held)
     c.link_made.ensures.live
+
+pub returns-clause-alone : goal.returns-clause-alone
+returns-clause-alone c =
+    link_alone c.args.slots.now c.args.id.now c.in-Some.slot.now c.link_made.new.slot (sym c.in-Some.ensures.value) (there_live c.args.slots.now c.args.id.now c.in-Some.slot.now (sym c.in-Some.ensures.value) c.requires.held)
+    c.link_made.ensures.live c.link_made.result c.link_made.ensures.mark c.link_made.ensures.unmarked c.link_made.ensures.alone

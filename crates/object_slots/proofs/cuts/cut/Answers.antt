@@ -1,11 +1,12 @@
-use Rattle.std.proofs.Common.{◌≡◌, ◌⊎◌, Option, Some, None, subst, sym}
+use Rattle.std.proofs.Common.{◌≡◌, ◌⊎◌, ℕ, List, Option, Some, None, subst, sym}
 use Rattle.std.specs.FinMap.{get}
 use Rattle.object_slots.specs.Settled.{Settles}
 use Rattle.flush_journal.specs.Batches.{records}
 use Rattle.text_maps.specs.Nexts.{IsNext}
 use Rattle.object_ids.specs.IdValues.{Id}
-use Rattle.object_slots.specs.Slots.{AreOfKind, Slots}
+use Rattle.object_slots.specs.Slots.{AreOfKind, IsMarked, Slots}
 use Rattle.object_slots.proofs.LaneCuts.{far_still, far_whole, next_cut, next_front, next_smaller}
+use Rattle.object_slots.proofs.Marks.{cut_marks}
 use Rattle.object_slots.proofs.cuts.cut.Goals as goal
 
 pub returns-in_err-cut_at-clause-cut : goal.returns-in_err-cut_at-clause-cut
@@ -37,3 +38,9 @@ returns-clause-still c =
 
 pub returns-in_err-cut_at-clause-each : goal.returns-in_err-cut_at-clause-each
 returns-in_err-cut_at-clause-each c = subst (λ (x : Slots). (q : Id) → (get x q ≡ get c.args.slots.now q) ⊎ Settles (get c.args.slots.now q) (get x q)) (sym c.in_err-cut_at.ensures.same) c.loop-id.invariant.each
+
+pub returns-clause-marks : goal.returns-clause-marks
+returns-clause-marks c = cut_marks c.args.slots.now c.loop-id.slots c.loop-id.invariant.each
+
+pub returns-in_err-cut_at-clause-marks : goal.returns-in_err-cut_at-clause-marks
+returns-in_err-cut_at-clause-marks c = subst (λ (x : Slots). (key : List ℕ) → IsMarked x key → IsMarked c.args.slots.now key) (sym c.in_err-cut_at.ensures.same) (cut_marks c.args.slots.now c.loop-id.slots c.loop-id.invariant.each)

@@ -13,4 +13,4 @@ pub loop-id-preserved : goal.loop-id-preserved
 loop-id-preserved c =
     forgot_more c.args.number c.args.slots.now c.loop-id.slots c.loop-id.last c.loop-id.invariant c.forget_at.new.slots c.in-Some.id
     (subst (λ (after : Option Id). IsNext c.loop-id.slots after (Some c.in-Some.id)) c.as_ref.ensures.value c.in-Some.ensures.least)
-    c.forget_at.ensures.here c.forget_at.ensures.others (λ q held said. c.forget_at.ensures.says q held said) c.forget_at.ensures.kinds
+    c.forget_at.ensures.here c.forget_at.ensures.others (λ q held said. c.forget_at.ensures.says q held said) c.forget_at.ensures.alone c.forget_at.ensures.kinds c.forget_at.ensures.same_ids

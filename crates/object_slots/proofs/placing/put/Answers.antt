@@ -1,5 +1,6 @@
 use Rattle.std.proofs.Common.{sym, ◌∙◌}
 use Rattle.std.specs.FinMap.{get}
+use Rattle.object_slots.proofs.Marks.{put_alone}
 use Rattle.object_slots.proofs.Placed.{nothing_there, put_elsewhere, put_kinds, put_says, put_there}
 use Rattle.object_slots.proofs.placing.put.Goals as goal
 
@@ -22,3 +23,6 @@ pub returns-clause-kinds : goal.returns-clause-kinds
 returns-clause-kinds c =
     put_kinds c.args.slots.now c.args.id c.args.object (nothing_there (get c.args.slots.now c.args.id) (sym c.is_there.ensures ∙ c.if-is_there.false)) c.requires.kind c.requires.fresh c.put.new.self c.put.result
     c.put.ensures.ok c.put.ensures.err c.requires.kinds
+
+pub returns-clause-alone : goal.returns-clause-alone
+returns-clause-alone c = put_alone c.args.slots.now c.put.new.self c.args.id c.args.object c.put.result c.put.ensures.ok c.put.ensures.err

@@ -1,6 +1,7 @@
 use Rattle.std.proofs.Common.{refl, sym}
 use Rattle.object_slots.proofs.KeptSlots.{put_others}
-use Rattle.object_slots.proofs.Placed.{removed_gone, removed_kind, removed_said}
+use Rattle.object_slots.proofs.Marks.{removed_alone}
+use Rattle.object_slots.proofs.Placed.{removed_gone, removed_kind, removed_said, replaced_ids}
 use Rattle.object_slots.proofs.placing.remove.Goals as goal
 
 pub returns-in-Some-clause-gone : goal.returns-in-Some-clause-gone
@@ -14,3 +15,9 @@ returns-in-Some-clause-says c = removed_said c.args.slots.now c.args.id.now c.in
 
 pub returns-in-Some-clause-kinds : goal.returns-in-Some-clause-kinds
 returns-in-Some-clause-kinds c = removed_kind c.args.slots.now c.args.id.now c.in-Some.slot.now _ (sym c.in-Some.ensures.value) refl refl c.requires.kinds
+
+pub returns-in-Some-clause-alone : goal.returns-in-Some-clause-alone
+returns-in-Some-clause-alone c = removed_alone c.args.slots.now c.args.id.now c.in-Some.slot.now _ (sym c.in-Some.ensures.value) refl refl
+
+pub returns-in-Some-clause-same_ids : goal.returns-in-Some-clause-same_ids
+returns-in-Some-clause-same_ids c = replaced_ids c.args.slots.now c.args.id.now c.in-Some.slot.now _ (sym c.in-Some.ensures.value)

@@ -1,0 +1,31 @@
+-- Which chunks operations mark as changed.
+use Rattle.std.specs.Prelude.{◌≡◌, ◌⊎◌, ℕ, Bool, true, false, List}
+use Rattle.chunk_store.specs.Grids.{Grid}
+use Rattle.chunk_store.specs.Marks.{is_dirty}
+use Rattle.object_ops.specs.declared.ops.Op.{Op}
+use Rattle.object_ops.specs.declared.ops.Op.TheVariants.{PutShape, PutValue}
+use Rattle.array_acts.specs.Marked.{is_cut, is_written}
+use Rattle.object_acts.specs.declared.objects.Body.{Body}
+use Rattle.object_acts.specs.declared.objects.Body.TheVariants.{Group, Dataset, Datatype}
+
+-- only an array has chunks
+abbrev pub in_array : (Grid → Bool) → Body → Bool
+in_array f (Group links) = false
+in_array f (Dataset array) = f array.grid
+in_array f (Datatype type) = false
+
+-- the operation writes to the chunk, or cuts it
+abbrev pub is_changed_by : Op → Body → List ℕ → Bool
+is_changed_by (PutValue id part value) b i = in_array (λ g. is_written part g i) b
+is_changed_by (PutShape id dims) b i = in_array (λ g. is_cut dims g i) b
+is_changed_by op b i = false
+
+-- the chunk is marked as changed
+abbrev pub is_dirty_in : Body → List ℕ → Bool
+is_dirty_in (Group links) i = false
+is_dirty_in (Dataset array) i = is_dirty array i
+is_dirty_in (Datatype type) i = false
+
+-- each chunk that is marked as changed afterwards was so before, or is one of these
+abbrev pub MarksAloneIn : (List ℕ → Type 0) → Body → Body → Type 0
+MarksAloneIn P old new = (i : List ℕ) → is_dirty_in new i ≡ true → (is_dirty_in old i ≡ true) ⊎ P i
