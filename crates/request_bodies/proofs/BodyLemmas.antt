@@ -1,12 +1,14 @@
 -- Between what `serde_json` promises and the definition of a body.
-use Rattle.std.proofs.Common.{◌≡◌, ◌∙◌, ap, ℕ, Bool, true, false, List, Option, Some, None, is_some, Result, Ok, Err, refl}
-use Rattle.std.specs.Prelude.{IsUtf8, option_and_then, cond}
+use Rattle.std.proofs.Common.{◌≡◌, ◌⊎◌, inl, inr, ◌∙◌, ap, sym, ℕ, Bool, true, false, List, Option, Some, None, is_some, Result, Ok, Err, refl}
+use Rattle.std.specs.Prelude.{IfOk, IfErr, IsUtf8, MatchResult, option_and_then, cond}
 use Rattle.std.specs.Str.{is_utf8}
 use Rattle.std.proofs.lemmas.Str.{IsUtf8-from_is_utf8, is_utf8-from_IsUtf8}
 use Rattle.serde_json.specs.Data.{Data}
+use Rattle.serde_json.specs.Errors.{IsMemory}
 use Rattle.serde_json.specs.Find.{as_object}
 use Rattle.serde_json.specs.Read.{read}
 use Rattle.serde_json.specs.View.{view}
+use Rattle.serde_json.specs.declared.error.Error.{Error}
 use Rattle.serde_json.specs.declared.value.Value.{Value}
 use Rattle.std.specs.Result.{IsErrAnd}
 use Rattle.object_ops.specs.declared.refusals.Refusal.{Refusal}
@@ -25,6 +27,20 @@ tree_missing text none = go (is_utf8 text) refl
     go : (b : Bool) → is_utf8 text ≡ b → tree_in text ≡ None
     go true e = ap (λ b. cond b (read text) None) e ∙ none (IsUtf8-from_is_utf8 text e)
     go false e = ap (λ b. cond b (read text) None) e
+
+-- what was read, or why it was refused
+pub tree_gives : (text : List ℕ) (read_as : Result Value Error) (given : Result Value BodyFault) → IfOk read_as (λ v. IsUtf8 text × (read text ≡ Some (view v)))
+    → IfErr read_as (λ e. ¬ (IsMemory e) → IsUtf8 text → read text ≡ None)
+    → MatchResult read_as (λ v. given ≡ Ok v) (λ e. IsErrAnd given (λ f. (f ≡ NoMemory) ⊎ ((f ≡ Refused BadJson) × ¬ (IsMemory e))))
+    → Gives view given (or_refuse BadJson (tree_in text))
+tree_gives text (Ok v) (Ok w) ok err is = let same : v ≡ w = cc in ap (or_refuse BadJson) (tree_read text (view v) ok.0 ok.1) ∙ ap (λ v. Ok (view v)) same
+tree_gives text (Ok v) (Err f) ok err is = let other : Err f ≡ Ok v = is in absurd (cc)
+tree_gives text (Err e) (Ok w) ok err is = absurd is
+tree_gives text (Err e) (Err NoMemory) ok err is = tt
+tree_gives text (Err e) (Err (Refused refusal)) ok err is = elim is [
+  | inl x ↦ let other : Refused refusal ≡ NoMemory = x in absurd (cc)
+  | inr x ↦ let same : Refused BadJson ≡ Refused refusal = sym x.0 in ap (or_refuse BadJson) (tree_missing text (err x.1)) ∙ cc
+]
 
 pub object_read : (text : List ℕ) (d : Data) → tree_in text ≡ Some d → is_some (as_object d) ≡ true → object_in text ≡ Some d
 unfolding object_in

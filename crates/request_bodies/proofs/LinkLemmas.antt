@@ -1,5 +1,5 @@
 -- Texts, and the ids and titles that they are.
-use Rattle.std.proofs.Common.{◌≡◌, ◌≢◌, ◌∙◌, ◌&&◌, ap, sym, ℕ, List, [], ◌∷◌, Bool, true, false, not, nat_eq, cond, Option, Some, None, Result, Ok, Err, All, refl}
+use Rattle.std.proofs.Common.{◌≡◌, ◌≢◌, ◌∙◌, ap, sym, ℕ, List, [], ◌∷◌, Bool, true, false, not, nat_eq, cond, Option, Some, None, Result, Ok, Err, All, refl}
 use Rattle.std.specs.Prelude.{IfSome, IfNone}
 use Rattle.std.proofs.lemmas.Bool.{and_from, eqb-true}
 use Rattle.std.proofs.lemmas.List.Elements.{All-head, All-tail}

@@ -1,6 +1,5 @@
 -- Faults of types, and layouts.
-use Rattle.std.proofs.Common.{◌≡◌, ap, sym, ℕ, List, Option, Some, None, Result, Ok, Err}
-use Rattle.hdf_types.specs.declared.faults.Cause.{Cause}
+use Rattle.std.proofs.Common.{◌≡◌, ap, ℕ, List, Option, Some, None, Result, Ok, Err}
 use Rattle.hdf_types.specs.declared.faults.Cause.TheVariants.{NotAType, Unsupported, TooDeep, TooMany, BadLength, DupField, TooLarge}
 use Rattle.hdf_types.specs.declared.faults.TypeFault.{TypeFault}
 use Rattle.hdf_types.specs.declared.faults.TypeFault.TheVariants.{NoMemory, Refused}
@@ -9,7 +8,6 @@ use Rattle.hdf_types.specs.Faults.{Fails, Fault, fault}
 use Rattle.chunk_layout.specs.Asked.{IsAnswer}
 use Rattle.chunk_layout.specs.declared.Layout.{Layout}
 use Rattle.chunk_layout.specs.declared.LayoutFault.{LayoutFault}
-use Rattle.default_chunks.specs.Halving.{default_chunk}
 use Rattle.default_chunks.proofs.HalvingLemmas.{default_only}
 use Rattle.object_ops.specs.declared.refusals.Refusal.{Refusal}
 use Rattle.request_bodies.specs.Refusing.{Answers}

@@ -1,5 +1,5 @@
 -- The first refusal of a body is the first that the tests find.
-use Rattle.std.proofs.Common.{◌≡◌, ◌∙◌, refl, ℕ, List, [], ◌∷◌, Option, Some, None, Result, Ok, Err}
+use Rattle.std.proofs.Common.{◌≡◌, ◌∙◌, refl, sym, ap, ℕ, ◌*◌, Bool, true, false, nat_le, if◌then◌else◌, List, [], ◌∷◌, Option, Some, None, Result, Ok, Err}
 use Rattle.std.specs.Prelude.{codes}
 use Rattle.serde_json.specs.Data.{Data}
 use Rattle.serde_json.specs.Find.{get}
@@ -11,22 +11,26 @@ use Rattle.hdf_types.specs.declared.faults.Cause.{Cause}
 use Rattle.hdf_types.specs.declared.faults.Cause.TheVariants.{NotAType, Unsupported, TooDeep, TooMany, BadLength, DupField, TooLarge}
 use Rattle.hdf_types.specs.declared.types.ElemType.{ElemType}
 use Rattle.hdf_types.specs.Elems.{Elem}
+use Rattle.hdf_types.specs.Elems as elems
 use Rattle.hdf_types.specs.Faults.{Fault}
-use Rattle.hdf_types.specs.Reading.{type_of}
+use Rattle.hdf_types.specs.Reading.{size_of, type_of}
 use Rattle.hdf_types.specs.Views.{elem}
-use Rattle.hdf_values.specs.Attributes as values
-use Rattle.hdf_values.specs.Attributes.{Content, attribute_of, shape_or as shape_read, type_or as type_read, typed_at}
+use Rattle.hdf_values.specs.Attributes.{Content, attribute_of, most_bytes, shape_or as shape_read, sized_at, type_or as type_read, typed_at, value_or, valued_at}
 use Rattle.hdf_values.specs.declared.attributes.AttributeFault.{AttributeFault}
+use Rattle.hdf_values.specs.declared.attributes.AttributeFault.TheVariants as attribute
+use Rattle.hdf_values.specs.declared.faults.ValueFault.{ValueFault}
 use Rattle.shapes.specs.declared.Shape.{Shape}
 use Rattle.shapes.specs.declared.ShapeFault.{ShapeFault}
-use Rattle.shapes.specs.Shapes.{shape_of}
+use Rattle.shapes.specs.Shapes.{count_of, shape_of}
 use Rattle.object_ops.specs.declared.ops.Make.{Make}
 use Rattle.object_ops.specs.declared.ops.Make.TheVariants as make
 use Rattle.object_ops.specs.declared.ops.LinkPlace.{LinkPlace}
 use Rattle.object_ops.specs.declared.refusals.Refusal.{Refusal}
-use Rattle.request_bodies.specs.Bodies.{attribute_in, attribute_or, title_in, type_refusal}
+use Rattle.object_ops.specs.declared.refusals.Refusal.TheVariants.{BadField}
+use Rattle.object_ops.specs.declared.words.FieldWord.TheVariants as field
+use Rattle.request_bodies.specs.Bodies.{attribute_in, attribute_or, held, title_in, type_refusal}
 use Rattle.request_bodies.specs.Makes.{class_or, dataset_of, datatype_of, grid_in, group_in, linked, make_in, place, shape_in, shape_or, title_text, type_in, type_or, with_properties}
-use Rattle.request_bodies.specs.Order.{attribute_tests, bad_place, bad_title, class_of, fault, first_of, if_accepted, make_tests, no_title}
+use Rattle.request_bodies.specs.Order.{attribute_tests, bad_place, bad_size, bad_title, class_of, fault, first_of, if_accepted, make_tests, no_title, no_value}
 use Rattle.request_bodies.specs.Properties.{properties_in}
 use Rattle.request_bodies.specs.declared.properties.Properties.{Properties}
 
@@ -108,19 +112,42 @@ cause_first BadLength shape test rest = refl
 cause_first (DupField index) shape test rest = refl
 cause_first TooLarge shape test rest = refl
 
-kind_first : (kind : Result Elem Fault) (shape : Result Shape ShapeFault) (rest : Elem → Shape → Result Content AttributeFault)
-    → let whole = attribute_or (type_read kind >>= λ e. shape_read shape >>= λ s. rest e s) in
-    fault whole ≡ first_of (fault (type_or kind) ∷ if_accepted (type_or kind) (shape_or shape) (λ k s. fault whole) ∷ class_of (type_or kind) ∷ fault (shape_or shape) ∷ [])
-kind_first (Err f) shape rest = cause_first f.cause (shape_or shape) (λ k s. Some (type_refusal f.cause)) (fault (shape_or shape) ∷ [])
-kind_first (Ok e) (Err f) rest = refl
-kind_first (Ok e) (Ok s) rest = alone (fault (attribute_or (rest e s)))
+elem_held : (e : Elem) → elem (held e) ≡ e
+elem_held (elems.int t) = refl
+elem_held (elems.text t) = refl
+elem_held (elems.compound fs) = refl
 
-tree_first : (tree : Option Data) (shape : Result Shape ShapeFault) (rest : Elem → Shape → Result Content AttributeFault)
-    → let whole = attribute_or (typed_at tree >>= λ e. shape_read shape >>= λ s. rest e s) in
-    fault whole ≡ first_of (fault (type_in tree) ∷ if_accepted (type_in tree) (shape_or shape) (λ k s. fault whole) ∷ class_of (type_in tree) ∷ fault (shape_or shape) ∷ [])
-tree_first None shape rest = refl
-tree_first (Some d) shape rest = kind_first (type_of d) shape rest
+-- the fault of what stands behind the type and the shape is what a test finds of the two
+abbrev Finds : (Elem → Shape → Result Content AttributeFault) → (Elem → Shape → Option Refusal) → Type 0
+Finds rest test = (e : Elem) (s : Shape) → fault (attribute_or (rest e s)) ≡ test e s
+
+module _ (rest : Elem → Shape → Result Content AttributeFault) (test : Elem → Shape → Option Refusal) (finds : Finds rest test) where
+  kind_first : (kind : Result Elem Fault) (shape : Result Shape ShapeFault)
+      → fault (attribute_or (type_read kind >>= λ e. shape_read shape >>= λ s. rest e s))
+      ≡ first_of (fault (type_or kind) ∷ if_accepted (type_or kind) (shape_or shape) (λ k s. test (elem k) s) ∷ class_of (type_or kind) ∷ fault (shape_or shape) ∷ [])
+  kind_first (Err f) shape = cause_first f.cause (shape_or shape) (λ k s. test (elem k) s) (fault (shape_or shape) ∷ [])
+  kind_first (Ok e) (Err f) = refl
+  kind_first (Ok e) (Ok s) = finds e s ∙ ap (λ e. test e s) (sym (elem_held e)) ∙ alone (test (elem (held e)) s)
+
+  tree_first : (tree : Option Data) (shape : Result Shape ShapeFault)
+      → fault (attribute_or (typed_at tree >>= λ e. shape_read shape >>= λ s. rest e s))
+      ≡ first_of (fault (type_in tree) ∷ if_accepted (type_in tree) (shape_or shape) (λ k s. test (elem k) s) ∷ class_of (type_in tree) ∷ fault (shape_or shape) ∷ [])
+  tree_first None shape = refl
+  tree_first (Some d) shape = kind_first (type_of d) shape
+
+-- the size, and then the value
+value_first : (small : Bool) (value : Result (List ℕ) ValueFault) (whole : List ℕ → Content)
+    → fault (attribute_or ((if small then value_or value else Err attribute.TooLarge) >>= λ bs. Ok (whole bs)))
+    ≡ first_of ((if small then None else Some (BadField field.Value)) ∷ no_value value ∷ [])
+value_first true (Ok bs) whole = refl
+value_first true (Err f) whole = refl
+value_first false value whole = refl
 
 pub attribute_first : (d : Data) → fault (attribute_in d) ≡ first_of (attribute_tests d)
 unfolding attribute_of
-attribute_first d = tree_first (get (codes "type") d) (shape_of (get (codes "shape") d) None) _
+attribute_first d =
+    let value : Elem → Shape → Result (List ℕ) ValueFault = λ e s. valued_at e s (get (codes "value") d) in
+    let whole : Elem → Shape → List ℕ → Content = λ e s bs. record { kind = e; shape = s; bytes = bs } in
+    tree_first (λ e s. sized_at e s (value_or (value e s)) >>= λ bs. Ok (whole e s bs)) (λ e s. first_of (bad_size e s ∷ no_value (value e s) ∷ []))
+    (λ e s. value_first (nat_le (count_of s * size_of e) most_bytes) (value e s) (whole e s))
+    (get (codes "type") d) (shape_of (get (codes "shape") d) None)

@@ -1,5 +1,5 @@
 -- The objects that bodies are, and what their keys say: a folder, an entry, an attribute, a link, dims.
-use Rattle.std.specs.Prelude.{ℕ, ◌&&◌, ◌==◌, not, List, [], ◌∷◌, Bool, true, false, Option, Some, None, is_some, option_and_then, Result, Ok, Err, codes, if◌then◌else◌}
+use Rattle.std.specs.Prelude.{ℕ, ◌==◌, not, List, [], ◌∷◌, Bool, true, false, Option, Some, None, is_some, option_and_then, Result, Ok, Err, codes, if◌then◌else◌}
 use Rattle.std.specs.List.{list_all}
 use Rattle.std.specs.Str.{is_utf8}
 use Rattle.serde_json.specs.Data.{Data, object, no_members}
@@ -7,6 +7,8 @@ use Rattle.serde_json.specs.Find.{get, as_object}
 use Rattle.serde_json.specs.Read.{read}
 use Rattle.object_ids.specs.IdValues.{Id}
 use Rattle.object_ids.specs.Names.{is_name}
+use Rattle.object_ids.specs.declared.names.NameFault.{NameFault}
+use Rattle.object_ids.specs.declared.names.NameFault.TheVariants as names
 use Rattle.object_ids.specs.declared.ids.Kind.{Kind}
 use Rattle.object_ids.specs.declared.ids.Kind.TheVariants.{Group, Dataset, Datatype}
 use Rattle.access_lists.specs.EntryTrees.{entry_in, truth_at}
@@ -21,13 +23,15 @@ use Rattle.hdf_types.specs.Elems as elems
 use Rattle.hdf_values.specs.Attributes.{Content, attribute_of as content_of}
 use Rattle.hdf_values.specs.declared.attributes.Attribute.{Attribute}
 use Rattle.hdf_values.specs.declared.attributes.AttributeFault.{AttributeFault}
-use Rattle.hdf_values.specs.declared.attributes.AttributeFault.TheVariants.{NoMemory, BadType, BadShape as NoShape, TooLarge as TooManyBytes, BadValue}
+use Rattle.hdf_values.specs.declared.attributes.AttributeFault.TheVariants.{NoMemory, BadType, BadShape as NoShape}
 use Rattle.shapes.specs.Extents.{dims_in}
 use Rattle.shapes.specs.Spelled.{few_of}
 use Rattle.shapes.specs.declared.ShapeFault.{ShapeFault}
 use Rattle.shapes.specs.declared.ShapeFault.TheVariants.{NotAShape, Rank, DimOverMax, TooLarge}
 use Rattle.groups_links.specs.IdTexts.{id_of}
 use Rattle.groups_links.specs.Targets.{link_in}
+use Rattle.groups_links.specs.declared.reading.LinkFault.{LinkFault}
+use Rattle.groups_links.specs.declared.reading.LinkFault.TheVariants as links
 use Rattle.groups_links.specs.declared.target.LinkTo.{LinkTo}
 use Rattle.json_trees.specs.Faults.{◌>>=◌}
 use Rattle.object_ops.specs.declared.refusals.Refusal.{Refusal}
@@ -129,6 +133,15 @@ if_kind kind (Some id) = if same_kind id.kind kind then Some id else None
 -- the id of this kind that a text is
 abbrev pub id_in : Kind → List ℕ → Option Id
 id_in kind text = if_kind kind (id_of text)
+
+-- why a call finds no name, or no link
+abbrev pub name_fault : NameFault → BodyFault
+name_fault names.BadName = bodies.Refused BadName
+name_fault names.NoMemory = bodies.NoMemory
+
+abbrev pub link_fault : LinkFault → BodyFault
+link_fault links.NotALink = bodies.Refused (BadField field.Link)
+link_fault links.NoMemory = bodies.NoMemory
 
 -- the name of an attribute or an entry
 abbrev pub name_in : List ℕ → Result (List ℕ) Refusal

@@ -1,16 +1,21 @@
 -- The refusals of a body, each found by a test of its own.
-use Rattle.std.specs.Prelude.{ℕ, List, [], ◌∷◌, Option, Some, None, Result, Ok, Err, codes}
+use Rattle.std.specs.Prelude.{ℕ, ◌*◌, List, [], ◌∷◌, Option, Some, None, Result, Ok, Err, nat_le, if◌then◌else◌, codes}
 use Rattle.serde_json.specs.Data.{Data}
 use Rattle.serde_json.specs.Find.{get}
 use Rattle.object_ids.specs.declared.ids.Kind.{Kind}
 use Rattle.object_ids.specs.declared.ids.Kind.TheVariants.{Group, Dataset, Datatype}
+use Rattle.hdf_types.specs.Elems.{Elem}
+use Rattle.hdf_types.specs.Reading.{size_of}
 use Rattle.hdf_types.specs.Views.{elem}
 use Rattle.hdf_types.specs.declared.types.ElemType.{ElemType}
-use Rattle.hdf_values.specs.declared.attributes.Attribute.{Attribute}
+use Rattle.hdf_values.specs.Attributes.{most_bytes, valued_at}
+use Rattle.hdf_values.specs.declared.faults.ValueFault.{ValueFault}
 use Rattle.shapes.specs.declared.Shape.{Shape}
-use Rattle.shapes.specs.Shapes.{shape_of}
+use Rattle.shapes.specs.Shapes.{count_of, shape_of}
 use Rattle.object_ops.specs.declared.refusals.Refusal.{Refusal}
-use Rattle.request_bodies.specs.Bodies.{attribute_in, title_in}
+use Rattle.object_ops.specs.declared.refusals.Refusal.TheVariants.{BadField}
+use Rattle.object_ops.specs.declared.words.FieldWord.TheVariants as field
+use Rattle.request_bodies.specs.Bodies.{title_in}
 use Rattle.request_bodies.specs.Makes.{group_in, shape_in, shape_or, title_text, type_in}
 use Rattle.request_bodies.specs.Properties.{properties_in}
 
@@ -89,9 +94,19 @@ make_tests kind d =
 abbrev pub attribute_shape : Data → Result Shape Refusal
 attribute_shape d = shape_or (shape_of (get (codes "shape") d) None)
 
--- what else is wrong with an attribute is its value, or its size
+-- a value of this type and shape has more bytes than it may
+abbrev pub bad_size : Elem → Shape → Option Refusal
+bad_size e s = if nat_le (count_of s * size_of e) most_bytes then None else Some (BadField field.Value)
+
+-- what stands at the key is none of the type and the shape
+abbrev pub no_value : Result (List ℕ) ValueFault → Option Refusal
+no_value (Ok bytes) = None
+no_value (Err fault) = Some (BadField field.Value)
+
+-- the value has too many bytes, is missing, or is none of the type and the shape
 abbrev pub bad_value : Data → Option Refusal
-bad_value d = if_accepted (type_at d) (attribute_shape d) (λ kind shape. fault (attribute_in d))
+bad_value d = if_accepted (type_at d) (attribute_shape d)
+    (λ kind shape. first_of (bad_size (elem kind) shape ∷ no_value (valued_at (elem kind) shape (get (codes "value") d)) ∷ []))
 
 -- the tests of an attribute in their order
 abbrev pub attribute_tests : Data → List (Option Refusal)

@@ -1,15 +1,17 @@
 //! The object that a body is.
 
-ghost use Rattle.std.specs.Prelude.{◌≡◌};
+ghost use Rattle.std.specs.Prelude.{◌≡◌, ◌⊎◌};
+ghost use Rattle.serde_json.specs.Errors.{IsMemory};
 ghost use Rattle.serde_json.specs.View.{view};
 ghost use Rattle.request_bodies.specs.Bodies.{body_in, object_in, tree_in};
 ghost use Rattle.request_bodies.specs.Refusing.{Answers, Gives, or_refuse};
+ghost use Rattle.request_bodies.specs.declared.faults.BodyFault.TheVariants.{NoMemory, Refused};
 ghost use Rattle.object_ops.specs.declared.refusals.Refusal.TheVariants.{BadJson};
 
 use crate::faults::BodyFault;
 use json_trees::Tree;
 use object_ops::Refusal;
-use serde_json::{Map, Value};
+use serde_json::{Error, Map, Value};
 use std::alloc::Global;
 
 /// The object of a body. An empty body stands for `{}`.
@@ -40,9 +42,15 @@ fn object(alloc: Global, bytes: &[u8]) -> Result<Value, BodyFault>
 fn parsed(alloc: Global, bytes: &[u8]) -> Result<Value, BodyFault>
     ensures { Gives view result (or_refuse BadJson (tree_in bytes.now)) }
 {
-    match Value::from_slice(alloc, bytes) {
-        Ok(tree) => Ok(tree),
-        Err(error) if error.is_memory() => Err(BodyFault::NoMemory),
-        Err(_) => Err(BodyFault::Refused(Refusal::BadJson)),
+    Value::from_slice(alloc, bytes).map_err(json_fault)
+}
+
+fn json_fault(error: Error) -> BodyFault
+    ensures { (result ≡ NoMemory) ⊎ ((result ≡ Refused BadJson) × ¬ (IsMemory error)) }
+{
+    if error.is_memory() {
+        BodyFault::NoMemory
+    } else {
+        BodyFault::Refused(Refusal::BadJson)
     }
 }

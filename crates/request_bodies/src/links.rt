@@ -5,7 +5,8 @@ ghost use Rattle.groups_links.specs.IdTexts.{id_of as id_in_text};
 ghost use Rattle.groups_links.specs.Targets.{IsSoundLink};
 ghost use Rattle.groups_links.specs.Titles.{IsGoodTitle};
 ghost use Rattle.object_ops.specs.Conditions.{IsShort};
-ghost use Rattle.request_bodies.specs.Bodies.{id_in, name_in, same_kind, target_in, title_in};
+ghost use Rattle.request_bodies.specs.Bodies.{id_in, link_fault, name_fault, name_in, same_kind, target_in};
+ghost use Rattle.request_bodies.specs.Bodies.{title_in};
 ghost use Rattle.request_bodies.specs.Refusing.{Answers};
 
 use crate::faults::BodyFault;
@@ -18,6 +19,28 @@ use std::alloc::Global;
 
 /// The most bytes of a name or a title.
 pub const MAX_NAME: usize = 255;
+
+impl From<NameFault> for BodyFault {
+    ghost from_gives = { λ fault e. e ≡ name_fault fault };
+
+    fn from(fault: NameFault) -> BodyFault {
+        match fault {
+            NameFault::BadName => BodyFault::Refused(Refusal::BadName),
+            NameFault::NoMemory => BodyFault::NoMemory,
+        }
+    }
+}
+
+impl From<LinkFault> for BodyFault {
+    ghost from_gives = { λ fault e. e ≡ link_fault fault };
+
+    fn from(fault: LinkFault) -> BodyFault {
+        match fault {
+            LinkFault::NotALink => BodyFault::Refused(bad_field(FieldWord::Link)),
+            LinkFault::NoMemory => BodyFault::NoMemory,
+        }
+    }
+}
 
 /// The id of this kind that a text is. It takes no memory.
 pub fn id_of_kind(kind: Kind, text: &str) -> Option<ObjectId>
@@ -51,11 +74,7 @@ pub fn name_of(alloc: Global, text: &str) -> Result<Name, BodyFault>
     ensures exact { Answers result (name_in text.now) }
     ensures short { IfOk result IsShort }
 {
-    match Name::read(alloc, text, MAX_NAME) {
-        Ok(name) => Ok(name),
-        Err(NameFault::BadName) => Err(BodyFault::Refused(Refusal::BadName)),
-        Err(NameFault::NoMemory) => Err(BodyFault::NoMemory),
-    }
+    Ok(Name::read(alloc, text, MAX_NAME)?)
 }
 
 /// The title that a text is: a name without a slash.
@@ -84,9 +103,5 @@ pub fn target_of(alloc: Global, body: &Tree) -> Result<LinkTo, BodyFault>
     ensures exact { Answers result (target_in body.now) }
     ensures sound { IfOk result IsSoundLink }
 {
-    match read_link(alloc, body.value()) {
-        Ok(link) => Ok(link),
-        Err(LinkFault::NotALink) => Err(BodyFault::Refused(bad_field(FieldWord::Link))),
-        Err(LinkFault::NoMemory) => Err(BodyFault::NoMemory),
-    }
+    Ok(read_link(alloc, body.value())?)
 }

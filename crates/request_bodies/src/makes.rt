@@ -163,10 +163,7 @@ fn group_id(text: Option<&str>) -> Option<ObjectId>
     ensures exact { result ≡ option_and_then (id_in Group) (option_map (λ t. t.now) text.entry) }
     ensures group { IfSome result IsGroup }
 {
-    match text {
-        Some(text) => id_of_kind(Kind::Group, text),
-        None => None,
-    }
+    id_of_kind(Kind::Group, text?)
 }
 
 fn title_text(link: &Value) -> Result<&str, BodyFault>

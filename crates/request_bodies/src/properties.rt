@@ -18,7 +18,7 @@ ghost use Rattle.request_bodies.specs.declared.faults.BodyFault.TheVariants.{Ref
 
 use crate::faults::BodyFault;
 use crate::keys::bad_field;
-use chunk_layout::{Layout, default_layout, read_layout};
+use chunk_layout::{Layout, LayoutFault, default_layout, read_layout};
 use hdf_types::ElemType;
 use hdf_values::{Bytes, encode};
 use json_trees::list_items;
@@ -76,9 +76,14 @@ fn layout_of(tree: &Value, shape: &Shape, size: u32) -> Result<Layout, BodyFault
         (chunk_or size (dims_of shape.now) (asked_of (view tree.now) (dims_of shape.now) size)) }
     ensures fits { IfOk result (λ layout. Fits size (dims_of shape.now) layout.chunk) }
 {
-    match read_layout(tree, shape, size) {
-        Ok(layout) => Ok(layout),
-        Err(_fault) => Err(bad_properties()),
+    Ok(read_layout(tree, shape, size)?)
+}
+
+impl From<LayoutFault> for BodyFault {
+    ghost from_gives = { λ _ e. e ≡ Refused bad_properties };
+
+    fn from(_fault: LayoutFault) -> BodyFault {
+        bad_properties()
     }
 }
 

@@ -93,8 +93,5 @@ fn taken(members: &mut Map<String, Value>, key: &str) -> Option<Tree>
         → get_member other (members_view members.new.entries)
         ≡ get_member other (members_view members.old.entries) }
 {
-    match members.remove(key) {
-        Some(value) => Some(Tree::new(value)),
-        None => None,
-    }
+    members.remove(key).map(Tree::new)
 }

@@ -19,10 +19,8 @@ use Rattle.hdf_types.specs.Elems.{Elem}
 use Rattle.hdf_types.specs.Faults.{Fault}
 use Rattle.hdf_types.specs.Reading.{size_of, type_of}
 use Rattle.hdf_types.specs.Views.{elem}
-use Rattle.hdf_values.specs.Attributes.{Content, attribute_of, most_bytes, shape_or as shape_read, sized_at, type_or as type_read, typed_at, valued_at, value_or}
+use Rattle.hdf_values.specs.Attributes.{most_bytes, valued_at}
 use Rattle.hdf_values.specs.Elements.{encoded}
-use Rattle.hdf_values.specs.declared.attributes.AttributeFault.{AttributeFault}
-use Rattle.hdf_values.specs.declared.attributes.AttributeFault.TheVariants as attribute
 use Rattle.hdf_values.specs.declared.faults.Misfit.{Misfit}
 use Rattle.hdf_values.specs.declared.faults.ValueFault.{ValueFault}
 use Rattle.shapes.specs.declared.Shape.{Shape}
@@ -38,7 +36,7 @@ use Rattle.object_ops.specs.declared.refusals.Refusal.TheVariants as no
 use Rattle.object_ops.specs.declared.words.FieldWord.TheVariants as field
 use Rattle.query_pairs.specs.Pairs.{Text}
 use Rattle.query_pairs.specs.Targets.{if_text, path_of, query_of}
-use Rattle.request_bodies.specs.Bodies.{attribute_or, body_in, dims_at, folder_in, has_no_slash, id_in, name_in, object_in, rights_in, target_in, title_in}
+use Rattle.request_bodies.specs.Bodies.{body_in, dims_at, folder_in, has_no_slash, id_in, name_in, object_in, rights_in, target_in, title_in}
 use Rattle.request_bodies.specs.Makes.{class_or, group_in, shape_in, shape_or, title_text, type_in, type_or}
 use Rattle.request_bodies.specs.Order as bodies
 use Rattle.request_bodies.specs.Order.{class_of, fault, first_of, if_accepted, no_title, type_at}
@@ -106,15 +104,6 @@ cause_class BadLength = tt
 cause_class (DupField index) = tt
 cause_class TooLarge = tt
 
-cause_judged : (n : ℕ) (cause : Cause) (shape : Result Shape Refusal) (test : ElemType → Shape → Option Refusal) → Has n (if_accepted (class_or cause) shape test)
-cause_judged n NotAType shape test = tt
-cause_judged n (Unsupported class) shape test = tt
-cause_judged n TooDeep shape test = tt
-cause_judged n TooMany shape test = tt
-cause_judged n BadLength shape test = tt
-cause_judged n (DupField index) shape test = tt
-cause_judged n TooLarge shape test = tt
-
 type_field : (tree : Option Data) → Has 11 (fault (type_in tree))
 type_field None = refl
 type_field (Some d) = go (type_of d)
@@ -172,31 +161,17 @@ properties_field e s (Some d) =
 
 -- ---- the value of an attribute
 
-value_field : (b : Bool) (value : Result (List ℕ) ValueFault) (k : List ℕ → Content)
-    → Has 11 (fault (attribute_or ((if b then value_or value else Err attribute.TooLarge) >>= λ bs. Ok (k bs))))
-value_field true (Ok bs) k = tt
-value_field true (Err f) k = refl
-value_field false value k = refl
-
-attribute_field : (tree : Option Data) (shape : Result Shape ShapeFault) (rest : Elem → Shape → Result Content AttributeFault)
-    → ((e : Elem) (s : Shape) → Has 11 (fault (attribute_or (rest e s))))
-    → Has 11 (if_accepted (type_in tree) (shape_or shape) (λ k s. fault (attribute_or (typed_at tree >>= λ e. shape_read shape >>= λ s. rest e s))))
-attribute_field None shape rest each = tt
-attribute_field (Some d) shape rest each = go (type_of d) shape
-  where
-    go : (kind : Result Elem Fault) (shape : Result Shape ShapeFault)
-        → Has 11 (if_accepted (type_or kind) (shape_or shape) (λ k s. fault (attribute_or (type_read kind >>= λ e. shape_read shape >>= λ s. rest e s))))
-    go (Ok e) (Ok s) = each e s
-    go (Ok e) (Err f) = tt
-    go (Err f) shape = cause_judged 11 f.cause (shape_or shape) (λ k s. fault (attribute_or (type_read (Err f) >>= λ e. shape_read shape >>= λ s. rest e s)))
+value_field : (small : Bool) (value : Result (List ℕ) ValueFault)
+    → Has 11 (first_of ((if small then None else Some (no.BadField field.Value)) ∷ bodies.no_value value ∷ []))
+value_field true (Ok bs) = tt
+value_field true (Err f) = refl
+value_field false value = refl
 
 bad_value_field : (d : Data) → Has 11 (bodies.bad_value d)
-unfolding attribute_of
 bad_value_field d =
-    let whole : Elem → Shape → List ℕ → Content = λ e s bs. record { kind = e; shape = s; bytes = bs } in
-    attribute_field (get (codes "type") d) (shape_of (get (codes "shape") d) None)
-    (λ e s. sized_at e s (value_or (valued_at e s (get (codes "value") d))) >>= λ bs. Ok (whole e s bs))
-    (λ e s. value_field (nat_le (count_of s * size_of e) most_bytes) (valued_at e s (get (codes "value") d)) (whole e s))
+    let value : ElemType → Shape → Result (List ℕ) ValueFault = λ k s. valued_at (elem k) s (get (codes "value") d) in
+    accepted 11 (type_at d) (bodies.attribute_shape d) (λ k s. first_of (bodies.bad_size (elem k) s ∷ bodies.no_value (value k s) ∷ []))
+    (λ k s. value_field (nat_le (count_of s * size_of (elem k)) most_bytes) (value k s))
 
 -- ---- links and names
 
