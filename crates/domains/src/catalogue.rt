@@ -113,6 +113,14 @@ impl Catalogue {
         self.nodes() - self.folders()
     }
 
+    /// All nodes by their paths.
+    pub fn as_map(&self) -> &TextMap<Node>
+        ensures value { result.now ≡ self.now.nodes }
+        ensures valid { IsCatalogue self.now }
+    {
+        &self.nodes
+    }
+
     /// The node at a path.
     pub fn find(&self, path: &DomainPath) -> Option<&Node>
         ensures value { option_copied result ≡ map.get self.now.nodes path.now }

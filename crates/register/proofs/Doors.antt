@@ -1,6 +1,7 @@
 -- A register stays one.
 use Rattle.std.proofs.Common.{◌≡◌, ℕ, ◌+◌, ◌<◌, List, length, arith}
 use Rattle.domains.specs.Contents.{Contents}
+use Rattle.register.specs.Marks.{Marked}
 use Rattle.register.specs.Decided.{AreGivenOut, Door, IsDoor, serial_limit}
 use Rattle.register.proofs.Roots.{all_later}
 
@@ -18,6 +19,6 @@ serial_taken d h below = record {
 pub recounted : (d : Door) (counts : List ℕ) → IsDoor d → length counts ≡ length d.issued → IsDoor (record d { issued = counts })
 recounted d counts h e = record { run = h.run; serial = h.serial; some_lane = omega (arith, h.some_lane, e); few_lanes = omega (arith, h.few_lanes, e); roots = h.roots }
 
--- when the catalogue changes
-pub moved : (d : Door) (catalogue : Contents) → IsDoor d → AreGivenOut catalogue d.run d.serial → IsDoor (record d { catalogue = catalogue })
-moved d catalogue h roots = record { run = h.run; serial = h.serial; some_lane = h.some_lane; few_lanes = h.few_lanes; roots = roots }
+-- when the catalogue changes, and what is marked
+pub moved : (d : Door) (catalogue : Contents) (marks : Marked) → IsDoor d → AreGivenOut catalogue d.run d.serial → IsDoor (record d { catalogue = catalogue; marks = marks })
+moved d catalogue marks h roots = record { run = h.run; serial = h.serial; some_lane = h.some_lane; few_lanes = h.few_lanes; roots = roots }

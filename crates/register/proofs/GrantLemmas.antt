@@ -8,7 +8,6 @@ use Rattle.object_ids.specs.IdValues.{Id}
 use Rattle.object_ids.specs.Ids.{lane_of}
 use Rattle.object_ids.specs.declared.limits.LimitKind.TheVariants as limit
 use Rattle.domains.specs.Changes.{new_domain}
-use Rattle.domains.specs.Contents.{with_node}
 use Rattle.domains.specs.NodeTrees.{node_tree}
 use Rattle.domains.specs.declared.classes.Node.{Node}
 use Rattle.domains.specs.declared.classes.NodeClass.{NodeClass}
@@ -29,7 +28,7 @@ use Rattle.std.specs.FinMap.{get}
 use Rattle.register.specs.Tickets.{AreEach, AreInLanes, Issue, turns_from}
 use Rattle.register.specs.declared.verdicts.Verdict.{Verdict}
 use Rattle.register.specs.declared.verdicts.Verdict.TheVariants.{Granted, Answered, Denied, Refused, NoMemory}
-use Rattle.register.specs.Decided.{Decides, Door, at_maybe, domain_made, entry_put, entry_read, fits, folder_made, foreign, grant_of, granted, in_domain, make_granted, make_steps, most_of, node_made, node_removed, object_granted, passed, refused, serial_limit}
+use Rattle.register.specs.Decided.{Decides, Door, at_maybe, domain_added, domain_made, entry_put, entry_read, fits, folder_made, foreign, grant_of, granted, in_domain, make_granted, make_steps, most_of, node_made, node_removed, object_granted, passed, refused, serial_limit}
 use Rattle.register.specs.Grants.{AreAtHome, AreBare, IfGranted, IsIssueOf}
 use Rattle.register.specs.Laws.{GrantsAreIssues}
 use Rattle.register.proofs.Counting.{lane_below, length-counted}
@@ -48,7 +47,7 @@ domain_issue : (d : Door) (path owner : List ℕ) (fault : Option CatFault) (P :
 domain_issue d path owner None P =
     let node : Node = new_domain d.catalogue.next d.run d.serial owner in
     if_either (nat_lt d.serial serial_limit)
-    (Answered (Done 201 (node_tree node)), record (passed d) { catalogue = with_node d.catalogue path node; serial = d.serial + 1 })
+    (Answered (Done 201 (node_tree node)), passed (domain_added d path owner))
     (refused (Limit (most_of limit.Serial) limit.Serial) d) P tt tt
 domain_issue d path owner (Some fault) P = tt
 

@@ -8,7 +8,7 @@ use Rattle.access_lists.specs.declared.right.Right.{Right}
 use Rattle.access_lists.specs.declared.rights.Rights.{Rights}
 use Rattle.access_lists.specs.InForce.{has}
 use Rattle.domains.specs.Changes.{domain_fault, entry_fault, make_fault, new_domain, remove_fault, without_node}
-use Rattle.domains.specs.Contents.{Contents, with_node}
+use Rattle.domains.specs.Contents.{Contents}
 use Rattle.domains.specs.NodeTrees.{node_tree}
 use Rattle.domains.specs.declared.classes.Node.{Node}
 use Rattle.domains.specs.declared.classes.NodeClass.{NodeClass}
@@ -24,7 +24,7 @@ use Rattle.object_ops.specs.declared.ops.Request.{Request}
 use Rattle.object_ops.specs.declared.refusals.Refusal.{Refusal}
 use Rattle.object_ops.specs.declared.refusals.Refusal.TheVariants.{Limit, NoDomain}
 use Rattle.object_ops.specs.declared.replies.Reply.TheVariants.{Done}
-use Rattle.register.specs.Decided.{Door, at_maybe, decided, domain_made, entry_put, entry_read, fits, folder_made, foreign_in, forgotten, granted, in_domain, make_steps, most_of, node_made, node_removed, object_granted, one_step, owner_of, passed, refused, serial_limit}
+use Rattle.register.specs.Decided.{Door, at_maybe, changed_at, decided, domain_added, domain_made, entry_put, entry_read, fits, folder_made, foreign_in, forgotten, granted, in_domain, make_steps, most_of, node_made, node_removed, object_granted, one_step, owner_of, passed, refused, serial_limit}
 use Rattle.register.specs.Laws.{DecisionsKeep, TakesPlace}
 use Rattle.register.specs.declared.verdicts.Verdict.{Verdict}
 use Rattle.register.specs.declared.verdicts.Verdict.TheVariants.{Granted, Answered, Denied, Refused, NoMemory}
@@ -41,7 +41,7 @@ module _ (d : Door) where
   folder_keeps path owner (Some fault) = refl
 
   new_domain_keeps : (path owner : List ℕ) (few : Bool) → Keeps d (let node = new_domain d.catalogue.next d.run d.serial owner in
-      cond few (Answered (Done 201 (node_tree node)), record (passed d) { catalogue = with_node d.catalogue path node; serial = d.serial + 1 }) (refused (Limit (most_of limit.Serial) limit.Serial) d))
+      cond few (Answered (Done 201 (node_tree node)), passed (domain_added d path owner)) (refused (Limit (most_of limit.Serial) limit.Serial) d))
   new_domain_keeps path owner true = refl
   new_domain_keeps path owner false = refl
 
@@ -53,12 +53,12 @@ module _ (d : Door) where
   node_keeps caller path true = folder_keeps path (owner_of caller) (make_fault d.catalogue path)
   node_keeps caller path false = domain_keeps path (owner_of caller) (domain_fault d.catalogue path)
 
-  drop_keeps : (c : Contents) (class : NodeClass) → Keeps d (forgotten (record d { catalogue = c }) class)
-  drop_keeps c Folder = refl
-  drop_keeps c (Domain number root) = refl
+  drop_keeps : (path : List ℕ) (c : Contents) (class : NodeClass) → Keeps d (forgotten (changed_at d path c) class)
+  drop_keeps path c Folder = refl
+  drop_keeps path c (Domain number root) = refl
 
   removed_keeps : (path : List ℕ) (class : NodeClass) (fault : Option CatFault) → Keeps d (node_removed d path class fault)
-  removed_keeps path class None = drop_keeps (without_node d.catalogue path) class
+  removed_keeps path class None = drop_keeps path (without_node d.catalogue path) class
   removed_keeps path class (Some fault) = refl
 
   read_keeps : (name : List ℕ) (rights : Option Rights) → Keeps d (entry_read d name rights)

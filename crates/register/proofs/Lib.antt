@@ -5,3 +5,11 @@ pub mod Meetings
 pub mod Roots
 pub mod Settling
 pub mod KeepLemmas
+pub mod Marking
+pub mod Parts
+pub mod PathWalks
+pub mod Keeping
+pub mod Installing
+pub mod Describing
+pub mod Saying
+pub mod Texts

@@ -14,6 +14,7 @@ use Rattle.domains.specs.declared.classes.NodeClass.{NodeClass}
 use Rattle.domains.specs.declared.classes.NodeClass.TheVariants.{Folder, Domain}
 use Rattle.object_ids.specs.declared.limits.LimitKind.TheVariants as limit
 use Rattle.domains.specs.Changes.{Blames, children_fault, new_domain}
+use Rattle.register.specs.Marks.{Marked, with_domain, with_path}
 use Rattle.domains.specs.Contents.{Contents, IsFolderAt, with_node}
 use Rattle.domains.specs.NodeTrees.{node_tree}
 use Rattle.domains.specs.declared.faults.CatFault.{CatFault}
@@ -29,8 +30,8 @@ use Rattle.object_ops.specs.declared.refusals.Refusal.TheVariants.{Limit, NoDoma
 use Rattle.register.specs.declared.verdicts.Verdict.{Verdict}
 use Rattle.register.specs.declared.verdicts.Verdict.TheVariants.{Granted, Answered, Denied, Refused, NoMemory}
 use Rattle.register.specs.declared.looking.Looked.TheVariants as seen
-use Rattle.register.specs.Decided.{Decides, Door, IsDenial, answered, at_maybe, cat_refusal, decided, domain_made, entry_put, entry_read, fits, folder_made, forgotten, granted, is_of_nodes, most_of, node_made, node_removed, passed, refused, serial_limit}
-use Rattle.register.specs.Looks.{Answers, Leaves, MaySettle, Reads, Refuses, RefusesFault, Settles, SettlesOp, looked}
+use Rattle.register.specs.Decided.{Decides, Door, IsDenial, answered, at_maybe, cat_refusal, changed_at, decided, domain_added, domain_made, entry_put, entry_read, fits, folder_made, forgotten, granted, is_of_nodes, most_of, node_made, node_removed, passed, refused, serial_limit}
+use Rattle.register.specs.Looks.{Answers, Leaves, MayBlame, MaySettle, Reads, Refuses, RefusesFault, Settles, SettlesOp, looked}
 
 -- ---- replies and refusals settle
 
@@ -64,7 +65,7 @@ told want fault refusal p d new v at e h same = settle_as (p want) (refused refu
 
 -- a fault of the catalogue: `p` says what follows from what speaks against a change
 pub fault_settles : (A : Type 0) (path : List ℕ) (fault : CatFault) (want : Option CatFault) (p : Option CatFault → Verdict × Door) (d new : Door) (v : Verdict)
-    → ((e : CatFault) → p (Some e) ≡ refused (cat_refusal path e) d) → Blames {A = A} (Err fault) want → RefusesFault path fault v → new ≡ d → MaySettle (p want) d v new
+    → ((e : CatFault) → p (Some e) ≡ refused (cat_refusal path e) d) → MayBlame {A = A} (Err fault) want → RefusesFault path fault v → new ≡ d → MaySettle (p want) d v new
 fault_settles A path cat.NoFolder want p d new v at e h same = told want cat.NoFolder _ p d new v (at cat.NoFolder) e h same
 fault_settles A path cat.Taken want p d new v at e h same = told want cat.Taken _ p d new v (at cat.Taken) e h same
 fault_settles A path (cat.Limit what) want p d new v at e h same = told want (cat.Limit what) _ p d new v (at (cat.Limit what)) e h same
@@ -75,21 +76,35 @@ fault_settles A path cat.NoMemory want p d new v at e h same =
     let For : Verdict → Type 0 = λ w. MaySettle (p want) d w new in
     subst For (sym h) same
 
+-- what is refused so may be refused so
+pub may_blame : (A : Type 0) (fault : CatFault) (want : Option CatFault) → Blames {A = A} (Err fault) want → MayBlame {A = A} (Err fault) want
+may_blame A cat.NoFolder want h = h
+may_blame A cat.Taken want h = h
+may_blame A (cat.Limit what) want h = h
+may_blame A cat.NoDomain want h = h
+may_blame A cat.NotEmpty want h = h
+may_blame A cat.Root want h = h
+may_blame A cat.NoMemory want h = tt
+
 -- nothing speaks against a change, and the catalogue is changed
-pub change_settles : (p : Option CatFault → Verdict × Door) (want : Option CatFault) (r reply : Reply) (d : Door) (k catalogue : Contents) → want ≡ None → r ≡ reply → k ≡ catalogue
-    → (Answered reply, passed (record d { catalogue = catalogue })) ≡ p None → (Answered r, passed (record d { catalogue = k })) ≡ p want
-change_settles p want r reply d k catalogue none e same at =
-    let pair : (Answered r, passed (record d { catalogue = k })) ≡ (Answered reply, passed (record d { catalogue = catalogue })) = λ i. (Answered (e i), passed (record d { catalogue = same i })) in
+pub change_settles : (p : Option CatFault → Verdict × Door) (want : Option CatFault) (r reply : Reply) (d : Door) (path : List ℕ) (k catalogue : Contents) (marks : Marked) → want ≡ None
+    → r ≡ reply → k ≡ catalogue → marks ≡ with_path d.marks path
+    → (Answered reply, passed (changed_at d path catalogue)) ≡ p None → (Answered r, passed (record d { catalogue = k; marks = marks })) ≡ p want
+change_settles p want r reply d path k catalogue marks none e same marked at =
+    let pair : (Answered r, passed (record d { catalogue = k; marks = marks })) ≡ (Answered reply, passed (changed_at d path catalogue)) =
+    λ i. (Answered (e i), passed (record d { catalogue = same i; marks = marked i })) in
     pair ∙ at ∙ sym (ap p none)
 
 -- a domain is made
-pub domain_settles : (d : Door) (path owner : List ℕ) (want : Option CatFault) (r : Reply) (k : Contents) → want ≡ None → d.serial < serial_limit
+pub domain_settles : (d : Door) (path owner : List ℕ) (want : Option CatFault) (r : Reply) (k : Contents) (marks : Marked) → want ≡ None → d.serial < serial_limit
     → r ≡ Done 201 (node_tree (new_domain d.catalogue.next d.run d.serial owner)) → k ≡ with_node d.catalogue path (new_domain d.catalogue.next d.run d.serial owner)
-    → (Answered r, passed (record d { catalogue = k; serial = d.serial + 1 })) ≡ domain_made d path owner want
-domain_settles d path owner want r k none below e same =
+    → marks ≡ with_domain d.marks path
+    → (Answered r, passed (record d { catalogue = k; serial = d.serial + 1; marks = marks })) ≡ domain_made d path owner want
+domain_settles d path owner want r k marks none below e same marked =
     let node : Node = new_domain d.catalogue.next d.run d.serial owner in
-    let made : Verdict × Door = (Answered (Done 201 (node_tree node)), record (passed d) { catalogue = with_node d.catalogue path node; serial = d.serial + 1 }) in
-    let pair : (Answered r, passed (record d { catalogue = k; serial = d.serial + 1 })) ≡ made = λ i. (Answered (e i), passed (record d { catalogue = same i; serial = d.serial + 1 })) in
+    let made : Verdict × Door = (Answered (Done 201 (node_tree node)), passed (domain_added d path owner)) in
+    let pair : (Answered r, passed (record d { catalogue = k; serial = d.serial + 1; marks = marks })) ≡ made =
+    λ i. (Answered (e i), passed (record d { catalogue = same i; serial = d.serial + 1; marks = marked i })) in
     let at : (if nat_lt d.serial serial_limit then made else refused (Limit (most_of limit.Serial) limit.Serial) d) ≡ made =
     ap (λ b. if b then made else refused (Limit (most_of limit.Serial) limit.Serial) d) (lt-ltb d.serial serial_limit below) in
     pair ∙ sym at ∙ sym (ap (domain_made d path owner) none)
@@ -99,7 +114,7 @@ pub domain_full : (d : Door) (path owner : List ℕ) (want : Option CatFault) (v
     → v ≡ Refused (Limit (most_of limit.Serial) limit.Serial) → MaySettle (domain_made d path owner want) d v d
 domain_full d path owner want v none full e =
     let node : Node = new_domain d.catalogue.next d.run d.serial owner in
-    let made : Verdict × Door = (Answered (Done 201 (node_tree node)), record (passed d) { catalogue = with_node d.catalogue path node; serial = d.serial + 1 }) in
+    let made : Verdict × Door = (Answered (Done 201 (node_tree node)), passed (domain_added d path owner)) in
     let at : (if nat_lt d.serial serial_limit then made else refused (Limit (most_of limit.Serial) limit.Serial) d) ≡ refused (Limit (most_of limit.Serial) limit.Serial) d =
     ap (λ b. if b then made else refused (Limit (most_of limit.Serial) limit.Serial) d) (le-ltb d.serial serial_limit full) in
     let For : Verdict → Type 0 = λ w. MaySettle (domain_made d path owner want) d w d in
@@ -155,7 +170,7 @@ domain_given : (d : Door) (path owner : List ℕ) (fault : Option CatFault) → 
 domain_given d path owner None =
     let node : Node = new_domain d.catalogue.next d.run d.serial owner in
     given_if (nat_lt d.serial serial_limit)
-    (Answered (Done 201 (node_tree node)), record (passed d) { catalogue = with_node d.catalogue path node; serial = d.serial + 1 })
+    (Answered (Done 201 (node_tree node)), passed (domain_added d path owner))
     (refused (Limit (most_of limit.Serial) limit.Serial) d) (λ h. h) (λ h. h)
 domain_given d path owner (Some fault) = λ h. h
 

@@ -33,17 +33,19 @@ use Rattle.object_ops.specs.declared.replies.Reply.TheVariants.{Done}
 use Rattle.object_ops.specs.declared.refusals.Refusal.{Refusal}
 use Rattle.object_ops.specs.declared.refusals.Refusal.TheVariants.{NoDomain, NoObject, Taken, NotEmpty, NoName, Root, Limit}
 use Rattle.object_ops.specs.Parts.{id_of, kind_made}
+use Rattle.register.specs.Marks.{Marked, all_marks, with_domain, with_path}
 use Rattle.register.specs.Tickets.{turn_at, counted, turns_from, all_counted}
 use Rattle.register.specs.declared.verdicts.Verdict.{Verdict}
 use Rattle.register.specs.declared.verdicts.Verdict.TheVariants.{Granted, Answered, Denied, Refused, NoMemory}
 
--- the catalogue, the run, the next serial, how many places were given, and how many tickets each lane gave
+-- the catalogue, the run, the next serial, how many places were given, how many tickets each lane gave, and what a journal doesn't hold yet
 pub record Door : Type 0 where
   pub catalogue : Contents
   pub run : ℕ
   pub serial : ℕ
   pub places : ℕ
   pub issued : List ℕ
+  pub marks : Marked
 
 -- the serials of a run are below this
 abbrev pub serial_limit : ℕ
@@ -83,9 +85,18 @@ refused refusal d = (Refused refusal, passed d)
 abbrev pub answered : ℕ → Data → Door → Verdict × Door
 answered status body d = (Answered (Done status body), passed d)
 
+-- another catalogue, in which a node was made, changed or removed
+abbrev pub changed_at : Door → List ℕ → Contents → Door
+changed_at d path catalogue = record d { catalogue = catalogue; marks = with_path d.marks path }
+
 -- answered, with another catalogue
-abbrev pub changed : ℕ → Data → Contents → Door → Verdict × Door
-changed status body catalogue d = (Answered (Done status body), record (passed d) { catalogue = catalogue })
+abbrev pub changed : ℕ → Data → List ℕ → Contents → Door → Verdict × Door
+changed status body path catalogue d = (Answered (Done status body), passed (changed_at d path catalogue))
+
+-- a new domain, whose root has the next serial
+abbrev pub domain_added : Door → List ℕ → List ℕ → Door
+domain_added d path owner =
+    record d { catalogue = with_node d.catalogue path (new_domain d.catalogue.next d.run d.serial owner); serial = d.serial + 1; marks = with_domain d.marks path }
 
 -- ---- folders and domains
 
@@ -117,14 +128,14 @@ cat_refusal path cat.Root = Root
 cat_refusal path cat.NoMemory = NoDomain
 
 abbrev pub folder_made : Door → List ℕ → List ℕ → Option CatFault → Verdict × Door
-folder_made d path owner None = let node = new_node Folder owner in changed 201 (node_tree node) (with_node d.catalogue path node) d
+folder_made d path owner None = let node = new_node Folder owner in changed 201 (node_tree node) path (with_node d.catalogue path node) d
 folder_made d path owner (Some fault) = refused (cat_refusal path fault) d
 
 -- a domain takes the next serial for its root
 abbrev pub domain_made : Door → List ℕ → List ℕ → Option CatFault → Verdict × Door
 domain_made d path owner None =
     let node = new_domain d.catalogue.next d.run d.serial owner in
-    if nat_lt d.serial serial_limit then (Answered (Done 201 (node_tree node)), record (passed d) { catalogue = with_node d.catalogue path node; serial = d.serial + 1 })
+    if nat_lt d.serial serial_limit then (Answered (Done 201 (node_tree node)), passed (domain_added d path owner))
     else refused (Limit (most_of limit.Serial) limit.Serial) d
 domain_made d path owner (Some fault) = refused (cat_refusal path fault) d
 
@@ -146,7 +157,7 @@ forgotten d (Domain number root) =
     (Granted (record { place = d.places; grant = grant_of d number root None; left = turns_from 0 d.issued }), record (passed d) { issued = all_counted d.issued })
 
 abbrev pub node_removed : Door → List ℕ → NodeClass → Option CatFault → Verdict × Door
-node_removed d path class None = forgotten (record d { catalogue = without_node d.catalogue path }) class
+node_removed d path class None = forgotten (changed_at d path (without_node d.catalogue path)) class
 node_removed d path class (Some fault) = refused (cat_refusal path fault) d
 
 -- ---- access lists
@@ -162,7 +173,7 @@ entry_read d name None = refused (NoName name) d
 entry_read d name (Some rights) = answered 200 (acl_body name rights) d
 
 abbrev pub entry_put : Door → List ℕ → List ℕ → Rights → Option CatFault → Verdict × Door
-entry_put d path name rights None = changed 201 nothing (with_entry d.catalogue path name rights) d
+entry_put d path name rights None = changed 201 nothing path (with_entry d.catalogue path name rights) d
 entry_put d path name rights (Some fault) = refused (cat_refusal path fault) d
 
 -- ---- objects
@@ -240,10 +251,6 @@ abbrev pub domain_refused : Door → Option CatFault → Option CatFault
 domain_refused d (Some fault) = Some fault
 domain_refused d None = if nat_lt d.serial serial_limit then None else Some (cat.Limit limit.Serial)
 
--- a new domain, whose root has the next serial
-abbrev pub domain_added : Door → List ℕ → List ℕ → Door
-domain_added d path owner = record d { catalogue = with_node d.catalogue path (new_domain d.catalogue.next d.run d.serial owner); serial = d.serial + 1 }
-
 -- a new id has the next serial; there is none where no serial is left
 abbrev pub fresh_given : Door → Kind → ℕ → Option Id × Door
 fresh_given d kind number =
@@ -276,9 +283,9 @@ Decides d caller request verdict new = (verdict, new) ≡ decided d caller reque
 abbrev pub first_serial : Contents → ℕ → ℕ
 first_serial catalogue run = if run == 0 then domain_count catalogue else 0
 
--- a register at the begin of a run
+-- a register at the begin of a run, of which nothing is held
 abbrev pub opened : Contents → ℕ → ℕ → Door
-opened catalogue lanes run = record { catalogue = catalogue; run = run; serial = first_serial catalogue run; places = 0; issued = replicate lanes 0 }
+opened catalogue lanes run = record { catalogue = catalogue; run = run; serial = first_serial catalogue run; places = 0; issued = replicate lanes 0; marks = all_marks }
 
 -- a place and a ticket of each lane are left
 pub record HasRoom (d : Door) : Type 0 where

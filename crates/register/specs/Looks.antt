@@ -1,8 +1,9 @@
 -- What a request meets at the node that decides over it, and what its parts then leave before the place is counted.
-use Rattle.std.specs.Prelude.{◌≡◌, ℕ, List, Option, Some, None, true, if◌then◌else◌}
+use Rattle.std.specs.Prelude.{◌≡◌, ℕ, List, Option, Some, None, Result, Err, true, if◌then◌else◌}
 use Rattle.access_lists.specs.declared.people.Caller.{Caller}
 use Rattle.access_lists.specs.InForce.{has}
 use Rattle.access_lists.specs.declared.rights.Rights.{Rights}
+use Rattle.domains.specs.Changes.{Blames}
 use Rattle.domains.specs.Contents.{NumberFits}
 use Rattle.domains.specs.declared.classes.Node.{Node}
 use Rattle.domains.specs.declared.faults.CatFault.{CatFault}
@@ -45,6 +46,11 @@ Refuses refusal verdict = verdict ≡ Refused refusal
 abbrev pub RefusesFault : List ℕ → CatFault → Verdict → Type 0
 RefusesFault path cat.NoMemory verdict = verdict ≡ NoMemory
 RefusesFault path fault verdict = Refuses (cat_refusal path fault) verdict
+
+-- a change is refused so, or it is made; or there was no memory
+abbrev pub MayBlame : {A : Type 0} → Result A CatFault → Option CatFault → Type 0
+MayBlame (Err cat.NoMemory) fault = Unit {0}
+MayBlame result fault = Blames result fault
 
 -- an entry is answered, or the name is refused
 abbrev pub Reads : List ℕ → Option Rights → Verdict → Type 0

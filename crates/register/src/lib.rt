@@ -1,9 +1,13 @@
 //! Decides requests: each at its place, by the access list in force there, and gives out the turns of lanes that it takes.
 #![tactic(auto)]
 
+mod changes;
 mod counts;
+mod cuts;
+mod installs;
 mod laws;
 mod looking;
+mod marks;
 mod register;
 mod replies;
 #[cfg(test)]
@@ -11,7 +15,8 @@ mod tests;
 mod tickets;
 mod verdicts;
 
-pub use laws::decisions_keep;
+pub use installs::InstallFault;
+pub use laws::{decisions_keep, kept_registers_are_described};
 pub use register::Register;
 pub use tickets::{Tickets, Turn};
 pub use verdicts::Verdict;

@@ -1,16 +1,20 @@
 //! The register: what decides over requests.
 
 ghost use Rattle.std.specs.Prelude.{◌≡◌, ◌↔◌, ◌+◌, ◌<◌, ◌≤◌, ◌^◌, All, IsTrue, Some, None, length};
-ghost use Rattle.std.specs.Prelude.{true, IfOk, OnErr, OnOk};
+ghost use Rattle.std.specs.Prelude.{true, IfErr, IfOk, OnErr, OnOk};
 ghost use Rattle.std.specs.FinMap as map;
 ghost use Rattle.std.specs.Option.{option_copied};
 ghost use Rattle.domains.specs.Changes.{Blames, domain_fault, entry_fault, make_fault, remove_fault, root_of};
-ghost use Rattle.domains.specs.Contents.{IsFolderAt, NumberFits, class_at};
+ghost use Rattle.domains.specs.Contents.{IsCatalogue, IsFolderAt, NumberFits, class_at};
 ghost use Rattle.domains.specs.NodeTrees.{node_tree};
 ghost use Rattle.domains.specs.declared.classes.Node.{Node};
 ghost use Rattle.domains.specs.declared.classes.NodeClass.TheVariants.{Domain};
+ghost use Rattle.flush_journal.specs.Batches.{records};
+ghost use Rattle.flush_journal.specs.Records.{Held};
+ghost use Rattle.lane_installs.specs.Records.{IsLeast};
 ghost use Rattle.object_ops.specs.Needs.{decided_at, right_for};
 ghost use Rattle.object_ops.specs.declared.replies.Reply.TheVariants.{Done};
+ghost use Rattle.record_cuts.specs.Cuts.{IsCut};
 ghost use Rattle.register.specs.Decided.{AreGivenOut, Decides, HasRoom, IsDoor, acls_body, children_body};
 ghost use Rattle.register.specs.Decided.{domain_added, domain_made, domain_refused, entry_put, first_serial, fits};
 ghost use Rattle.register.specs.Decided.{folder_made, foreign, fresh_given};
@@ -18,10 +22,19 @@ ghost use Rattle.register.specs.Decided.{forgotten, grant_of, granted, in_domain
 ghost use Rattle.register.specs.Decided.{node_made, node_removed, object_granted, one_step};
 ghost use Rattle.register.specs.Decided.{opened, serial_limit};
 ghost use Rattle.register.specs.Grants.{IfGranted, IsIssueOf};
+ghost use Rattle.register.specs.Kept.{AreTexts, IsInstalled, IsRegisterMarked, IsUsedUp};
+ghost use Rattle.register.specs.Kept.{MatchFault, MatchUsed, RegisterSays, TellsUsed, all_kept, installed, run_kept};
 ghost use Rattle.register.specs.Looks.{Answers, Leaves, MaySettle, Reads, Settles, SettlesOp};
+ghost use Rattle.register.specs.Marks.{no_marks};
+ghost use Rattle.register_installs.specs.Registers.{DescribesRegister, IsRegisterFault};
 
+use crate::changes::{make_domain, make_folder, remove_node, set_entry};
 use crate::counts::{Counts, MAX_LANES, all_counted, issue};
+use crate::cuts::append_records;
+use crate::installs::InstallFault;
+use crate::laws::kept_registers_are_described;
 use crate::looking::{Looked, look};
+use crate::marks::Marks;
 use crate::replies::{
     acl_verdict, acls_verdict, answered, limit, made_reply, node_verdict, owner_of, refused,
 };
@@ -29,14 +42,19 @@ use crate::tickets::Tickets;
 use crate::verdicts::Verdict;
 use access_lists::{Caller, Rights};
 use domains::{CatFault, Catalogue, NodeClass};
+use flush_journal::{Batch, Recovered};
 use groups_links::LinkTo;
 use object_ids::{DomainPath, Kind, LimitKind, Name, ObjectId};
 use object_ops::{Grant, LinkPlace, Make, Op, Refusal, Reply, Request, Step, needs};
-use std::alloc::Global;
+use register_installs::install;
+use std::alloc::{AllocError, Global};
 use std::marker::Model;
 
 /// The serials of a run are below this one.
 pub(crate) const SERIAL_LIMIT: u64 = 0x100_0000_0000;
+
+// The last run.
+const LAST_RUN: u32 = 0x3f_ffff;
 
 // Fewer places, and fewer tickets of each lane, are given than this.
 const ROOM: u64 = 0x4000_0000_0000_0000;
@@ -50,6 +68,7 @@ pub struct Register {
     serial: u64,
     places: u64,
     issued: Counts,
+    marks: Marks,
 }
 
 impl Model for Register {
@@ -58,16 +77,33 @@ impl Model for Register {
     ghost use Rattle.domains.specs.Contents.{Contents};
     ghost use Rattle.domains.specs.contracts.catalogue.Catalogue as catalogue_row;
     ghost use Rattle.register.specs.Decided.{Door, IsDoor};
+    ghost use Rattle.register.specs.Marks.{Marked};
+    ghost use Rattle.register.specs.contracts.marks.Marks as marks_row;
 
     ghost Value = { Door };
 
-    ghost coded = { code_by (Contents × (ℕ × (ℕ × (ℕ × List ℕ))))
-        (coded× catalogue_row.the_row.coded (coded× coded_ℕ (coded× coded_ℕ (coded× coded_ℕ (coded_list coded_ℕ)))))
-        (λ d. (d.catalogue, (d.run, (d.serial, (d.places, d.issued)))))
-        (λ p. record { catalogue = p.0; run = p.1.0; serial = p.1.1.0; places = p.1.1.1.0; issued = p.1.1.1.1 })
+    ghost coded = { code_by (Contents × (Marked × (ℕ × (ℕ × (ℕ × List ℕ)))))
+        (coded× catalogue_row.the_row.coded (coded× marks_row.the_row.coded
+        (coded× coded_ℕ (coded× coded_ℕ (coded× coded_ℕ (coded_list coded_ℕ))))))
+        (λ d. (d.catalogue, (d.marks, (d.run, (d.serial, (d.places, d.issued))))))
+        (λ p. record {
+          catalogue = p.0;
+          marks = p.1.0;
+          run = p.1.1.0;
+          serial = p.1.1.1.0;
+          places = p.1.1.1.1.0;
+          issued = p.1.1.1.1.1;
+        })
         (λ _. refl) };
 
-    ghost view = { λ a. record { catalogue = a.catalogue; run = a.run; serial = a.serial; places = a.places; issued = a.issued } };
+    ghost view = { λ a. record {
+      catalogue = a.catalogue;
+      run = a.run;
+      serial = a.serial;
+      places = a.places;
+      issued = a.issued;
+      marks = a.marks;
+    } };
 
     ghost invariant = { λ a. IsDoor (record {
       catalogue = a.catalogue;
@@ -75,6 +111,7 @@ impl Model for Register {
       serial = a.serial;
       places = a.places;
       issued = a.issued;
+      marks = a.marks;
     }) };
 }
 
@@ -87,7 +124,10 @@ impl Register {
         requires some_lane { 1 ≤ lanes }
         requires few_lanes { lanes ≤ 16 }
         requires roots { AreGivenOut catalogue run (first_serial catalogue run) }
-        ensures { result ≡ opened catalogue lanes run }
+        ensures opened { result ≡ opened catalogue lanes run }
+
+        // Where nothing is held, that tells the register: all of it is to be written.
+        ensures says { RegisterSays result map.empty }
     {
         let serial = first_serial(&catalogue, run);
         Register {
@@ -97,7 +137,91 @@ impl Register {
             serial,
             places: 0,
             issued: Counts::repeated(0, lanes as usize),
+            marks: Marks::all(alloc),
         }
+    }
+
+    /// The register that a journal's records describe, at the begin of the run after the kept one: no place and no ticket was
+    /// given, and of all records that of the run alone is to be written.
+    ///
+    /// # Errors
+    ///
+    /// `BadRecord` with the least key of the register whose record is missing or can't stand; `RunsUsed` exactly where none
+    /// is and the kept run is the last; or `NoMemory`.
+    pub fn install(alloc: Global, lanes: u32, kept: &Recovered) -> Result<Register, InstallFault>
+        requires some_lane { 1 ≤ lanes }
+        requires few_lanes { lanes ≤ 16 }
+        ensures described { IfOk result (λ r. IsInstalled kept.now lanes r) }
+        ensures says { IfOk result (λ r. RegisterSays r kept.now) }
+        ensures fault { IfErr result (λ e. MatchFault e (IsLeast (IsRegisterFault kept.now))) }
+        ensures used { IfErr result (λ e. MatchUsed e (IsUsedUp kept.now)) }
+        ensures told { IsUsedUp kept.now → TellsUsed result }
+    {
+        match install(alloc, kept) {
+            Ok(kept) => {
+                if kept.run >= LAST_RUN {
+                    return Err(InstallFault::RunsUsed);
+                }
+                Ok(Register::begin(alloc, kept.catalogue, lanes, kept.run + 1))
+            }
+            Err(fault) => Err(InstallFault::from(fault)),
+        }
+    }
+
+    // A register of which nothing but the run is new.
+    fn begin(alloc: Global, catalogue: Catalogue, lanes: u32, run: u32) -> Register
+        requires run { run < 2 ^ 22 }
+        requires some_lane { 1 ≤ lanes }
+        requires few_lanes { lanes ≤ 16 }
+        requires roots { AreGivenOut catalogue run 0 }
+        ensures { result ≡ installed catalogue lanes run }
+    {
+        Register {
+            alloc,
+            catalogue,
+            run,
+            serial: 0,
+            places: 0,
+            issued: Counts::repeated(0, lanes as usize),
+            marks: Marks::of_run(alloc),
+        }
+    }
+
+    /// Appends the records of what changed since the last cut, and takes it as kept: what is held then tells the whole
+    /// register. The record of the run comes first, then that of the next domain's number, then those of nodes; of a register
+    /// that was made, and not changed since, in the order of their paths' bytes.
+    ///
+    /// # Errors
+    ///
+    /// Only where memory runs out. What was appended then stays in the batch, and so do all marks.
+    pub fn cut(&mut self, into: &mut Batch) -> Result<(), AllocError>
+        ensures cut { (base : Held) → IsCut (IsRegisterMarked self.old) base
+            (records into.old) (records into.new)
+            (λ held. RegisterSays self.old base → RegisterSays self.new held) }
+        ensures still { OnOk result (self.new ≡ all_kept self.old) }
+        ensures err { OnErr result (self.new ≡ self.old) }
+    {
+        append_records(self.alloc, self.run, &self.catalogue, &self.marks, into)?;
+        self.marks.clear();
+        Ok(())
+    }
+
+    /// Takes the record of the run as kept.
+    pub fn run_is_kept(&mut self)
+        ensures { self.new ≡ run_kept self.old }
+    {
+        self.marks.clear_run();
+    }
+
+    /// Where nothing is marked, what is held describes the register: each of its records keeps to the rules, and an install
+    /// finds the same run, catalogue and next number. Takes no memory.
+    pub fn is_described(&self)
+        ensures { self.now.marks ≡ no_marks → (held : Held) → RegisterSays self.now held
+            → DescribesRegister held self.now.run self.now.catalogue }
+    {
+        kept_registers_are_described();
+        let _lanes = self.lanes();
+        have_texts(self.catalogue());
     }
 
     /// How many places were given.
@@ -155,6 +279,9 @@ impl Register {
 
         // The tickets of a granted request are of its steps, each in the lane of the object that it touches.
         ensures issue { IfGranted result (IsIssueOf self.old request.now.op) }
+
+        // What changes is marked: what is held tells all else as it did.
+        ensures says { (held : Held) → RegisterSays self.old held → RegisterSays self.new held }
     {
         let verdict = self.verdict(caller, request);
         self.places += 1;
@@ -171,6 +298,7 @@ impl Register {
         ensures root { IfOk result (λ root. root ≡ root_of self.old.catalogue.next self.old.run self.old.serial) }
         ensures err { OnErr result (self.new ≡ self.old) }
         ensures why { Blames result (domain_refused self.old (domain_fault self.old.catalogue path.now)) }
+        ensures says { (held : Held) → RegisterSays self.old held → RegisterSays self.new held }
     {
         let _number = self.catalogue.domain_number(path)?;
         if self.serial >= SERIAL_LIMIT {
@@ -178,9 +306,14 @@ impl Register {
                 what: LimitKind::Serial,
             });
         }
-        let root = self
-            .catalogue
-            .make_domain(path, owner, self.run, self.serial)?;
+        let root = make_domain(
+            &mut self.catalogue,
+            &mut self.marks,
+            path,
+            owner,
+            self.run,
+            self.serial,
+        )?;
         self.serial += 1;
         Ok(root)
     }
@@ -189,7 +322,8 @@ impl Register {
     /// left.
     pub fn fresh(&mut self, kind: Kind, number: u64) -> Option<ObjectId>
         requires number { number < self.old.catalogue.next }
-        ensures { (result, self.new) ≡ fresh_given self.old kind number }
+        ensures given { (result, self.new) ≡ fresh_given self.old kind number }
+        ensures says { (held : Held) → RegisterSays self.old held → RegisterSays self.new held }
     {
         let _next = self.catalogue.next_number();
         if self.serial >= SERIAL_LIMIT {
@@ -293,7 +427,7 @@ impl Register {
         let Ok(reply) = made_reply(self.alloc, &NodeClass::Folder, owner) else {
             return Verdict::NoMemory;
         };
-        match self.catalogue.make_folder(path, owner) {
+        match make_folder(&mut self.catalogue, &mut self.marks, path, owner) {
             Ok(()) => {}
             Err(fault) => return refused(self.alloc, path, fault),
         }
@@ -338,10 +472,15 @@ impl Register {
         let Ok(reply) = made_reply(self.alloc, &NodeClass::Domain { number, root }, owner) else {
             return Verdict::NoMemory;
         };
-        match self
-            .catalogue
-            .make_domain(path, owner, self.run, self.serial)
-        {
+        let made = make_domain(
+            &mut self.catalogue,
+            &mut self.marks,
+            path,
+            owner,
+            self.run,
+            self.serial,
+        );
+        match made {
             Ok(_) => {}
             Err(fault) => return refused(self.alloc, path, fault),
         }
@@ -356,7 +495,7 @@ impl Register {
             self.old result self.new }
         ensures places { self.new.places ≡ self.old.places }
     {
-        match self.catalogue.remove(path) {
+        match remove_node(&mut self.catalogue, &mut self.marks, path) {
             Ok(()) => {}
             Err(fault) => return refused(self.alloc, path, fault),
         }
@@ -407,7 +546,7 @@ impl Register {
             (entry_fault self.old.catalogue path.now name.now)) self.old result self.new }
         ensures places { self.new.places ≡ self.old.places }
     {
-        match self.catalogue.set_entry(path, name, rights) {
+        match set_entry(&mut self.catalogue, &mut self.marks, path, name, rights) {
             Ok(()) => {}
             Err(fault) => return refused(self.alloc, path, fault),
         }
@@ -526,6 +665,14 @@ fn has_tickets(counts: &Counts) -> bool
     ensures { IsTrue result ↔ All (λ n. n < 2 ^ 62) counts.now }
 {
     counts.as_slice().iter().all(|count| *count < ROOM)
+}
+
+// Each path is a text.
+fn have_texts(catalogue: &Catalogue)
+    ensures texts { AreTexts catalogue.now }
+    ensures valid { IsCatalogue catalogue.now }
+{
+    let _tree = catalogue.as_map().as_tree();
 }
 
 // The serial with which a run begins.

@@ -1,6 +1,8 @@
-use crate::{Register, Tickets, Verdict};
+use crate::{InstallFault, Register, Tickets, Verdict};
 use access_lists::{Caller, Names, Rights};
 use domains::{CatFault, Catalogue};
+use edge_traits::MemDisk;
+use flush_journal::{Batch, Journal, Recovered};
 use groups_links::LinkTo;
 use object_ids::{Kind, Name, ObjectId, read_path};
 use object_ops::{LinkPlace, Make, Op, Refusal, Reply, Request, on_text, refusal_json};
@@ -385,4 +387,146 @@ fn domains_are_made_without_a_request(rt: HostRuntime) -> Result<(), Fail> {
         r#"{"class":"domain","owner":"alice","root":"g-00000000-0001-8000-8000-010000000000"}"#;
     assert_eq!(rt; text.as_str(), wanted);
     Ok(())
+}
+
+// How the records of a register's first cut begin: that of the run, that of the next number, and the key of `/`.
+const FIRST: &[u8] =
+    b"\0\0\0\x01\x01\0\0\0\x04\0\0\0\x01\0\0\0\x01\x05\0\0\0\x08\0\0\0\0\0\0\0\x01\0\0\0\x02\x02/";
+
+// How many bytes stand in front of them on a disk.
+const FRONT: usize = 25;
+
+// Cuts the register and appends what was cut; gives what is found there.
+fn kept(
+    rt: &(impl Abort + AllocGlobal),
+    disk: MemDisk,
+    register: &mut Register,
+) -> (MemDisk, Recovered) {
+    let Ok((mut journal, _)) = Journal::recover(rt.alloc(), disk) else {
+        panic!(rt; "a journal");
+    };
+    let mut batch = Batch::new(rt.alloc());
+    assert!(rt; register.cut(&mut batch).is_ok());
+    assert!(rt; !journal.pending());
+    assert!(rt; journal.append(batch).is_ok());
+    match Journal::recover(rt.alloc(), journal.into_disk()) {
+        Ok((journal, held)) => (journal.into_disk(), held),
+        Err(_) => panic!(rt; "what is held"),
+    }
+}
+
+// A disk of an empty journal.
+fn empty_disk(rt: &(impl Abort + AllocGlobal)) -> MemDisk {
+    let none = Vec::new(rt.alloc());
+    let Ok(disk) = MemDisk::new(rt.alloc(), Vec::new(rt.alloc()), 4000, none) else {
+        panic!(rt; "a disk");
+    };
+    match Journal::create(disk, 2) {
+        Ok(journal) => journal.into_disk(),
+        Err(_) => panic!(rt; "a journal"),
+    }
+}
+
+#[test]
+fn a_register_is_kept_and_made_again(rt: HostRuntime) -> Result<(), Fail> {
+    let alloc = rt.alloc();
+    let mut register = opened(alloc)?;
+    let (disk, _) = kept(&rt, empty_disk(&rt), &mut register);
+    let first = disk.bytes().len();
+    assert_eq!(rt; first, 209);
+    assert!(rt; disk.bytes().split_at(FRONT).1.starts_with(FIRST));
+    let (disk, _) = kept(&rt, disk, &mut register);
+    assert_eq!(rt; disk.bytes().len(), first);
+    deny_bob(&rt, alloc, &mut register)?;
+    let (disk, held) = kept(&rt, disk, &mut register);
+    assert_eq!(rt; disk.bytes().len().saturating_sub(first), 262);
+    made_again(&rt, alloc, disk, &held)
+}
+
+// An entry of `/` by which bob may nothing.
+fn deny_bob(rt: &impl Abort, alloc: Global, register: &mut Register) -> Result<(), Fail> {
+    let op = Op::PutAcl {
+        name: name(alloc, "bob")?,
+        rights: NO_RIGHT,
+    };
+    let asked = request(alloc, "/", op)?;
+    let _text = told(rt, alloc, register, &caller(alloc, "alice")?, &asked)?;
+    Ok(())
+}
+
+// The register that is held is the same in the next run, and the run alone is new of it.
+fn made_again(
+    rt: &(impl Abort + AllocGlobal),
+    alloc: Global,
+    disk: MemDisk,
+    held: &Recovered,
+) -> Result<(), Fail> {
+    let mut register = installed(rt, held);
+    assert_eq!(rt; register.run(), 2);
+    assert_eq!(rt; register.places(), 0);
+    bob_is_denied(rt, alloc, &mut register)?;
+    cuts_its_run(rt, disk, &mut register);
+    Ok(())
+}
+
+// The register that a journal holds.
+fn installed(rt: &(impl Abort + AllocGlobal), held: &Recovered) -> Register {
+    match Register::install(rt.alloc(), 2, held) {
+        Ok(register) => register,
+        Err(_) => panic!(rt; "a register"),
+    }
+}
+
+// The list of `/` has the entry by which bob may nothing.
+fn bob_is_denied(rt: &impl Abort, alloc: Global, register: &mut Register) -> Result<(), Fail> {
+    let asked = request(alloc, "/", Op::GetAcls)?;
+    let text = told(rt, alloc, register, &caller(alloc, "alice")?, &asked)?;
+    assert!(rt;
+        text.as_str().starts_with(r#"{"acls":[{"create":false"#),
+        "{text}"
+    );
+    Ok(())
+}
+
+// The next cut writes the record of the run alone.
+fn cuts_its_run(rt: &(impl Abort + AllocGlobal), disk: MemDisk, register: &mut Register) {
+    let before = disk.bytes().len();
+    let (disk, _) = kept(rt, disk, register);
+    assert_eq!(rt; disk.bytes().len().saturating_sub(before), 22);
+}
+
+#[test]
+fn the_last_run_is_told(rt: HostRuntime) -> Result<(), Fail> {
+    let alloc = rt.alloc();
+    let mut register = opened(alloc)?;
+    let (disk, _) = kept(&rt, empty_disk(&rt), &mut register);
+    for (run, used) in [(b"\0\x3f\xff\xfe", false), (b"\0\x3f\xff\xff", true)] {
+        let held = with_run(&rt, &disk, run);
+        match Register::install(alloc, 2, &held) {
+            Ok(register) => {
+                assert!(rt; !used);
+                assert_eq!(rt; register.run(), 4_194_303);
+            }
+            Err(fault) => assert!(rt; used && matches!(fault, InstallFault::RunsUsed)),
+        }
+    }
+    Ok(())
+}
+
+// What is found on a disk once the record of a run was appended.
+fn with_run(rt: &(impl Abort + AllocGlobal), disk: &MemDisk, run: &[u8; 4]) -> Recovered {
+    let Ok(disk) = disk.crash(0) else {
+        panic!(rt; "a disk");
+    };
+    let Ok((mut journal, _)) = Journal::recover(rt.alloc(), disk) else {
+        panic!(rt; "a journal");
+    };
+    let mut batch = Batch::new(rt.alloc());
+    assert!(rt; batch.push(&[1], run).is_ok());
+    assert!(rt; !journal.pending());
+    assert!(rt; journal.append(batch).is_ok());
+    match Journal::recover(rt.alloc(), journal.into_disk()) {
+        Ok((_, held)) => held,
+        Err(_) => panic!(rt; "what is held"),
+    }
 }

@@ -8,7 +8,7 @@ use Rattle.register.proofs.register.Register.children.Goals as goal
 
 pub returns-in-Err : goal.returns-in-Err
 returns-in-Err c =
-    let d : Door = record { catalogue = c.self.inside.catalogue; run = c.self.inside.run; serial = c.self.inside.serial; places = c.self.inside.places; issued = c.self.inside.issued } in
+    let d : Door = record { catalogue = c.self.inside.catalogue; run = c.self.inside.run; serial = c.self.inside.serial; places = c.self.inside.places; issued = c.self.inside.issued; marks = c.self.inside.marks } in
     let None_at : Door → Type 0 = λ x. children_fault x.catalogue c.args.path.now ≡ None in
     only_memory Value c.args.path.now c.in-Err.fault (children_fault d.catalogue c.args.path.now) (Done 200 (children_body c.args.self.now.catalogue c.args.path.now)) c.refused.result
     (subst None_at (sym c.self.view_is) (folder_has_children c.args.self.now.catalogue c.args.path.now c.requires))

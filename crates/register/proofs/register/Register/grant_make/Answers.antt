@@ -17,17 +17,17 @@ issue-second-requires-clause-room c =
 
 pub invariant_of-self : goal.invariant_of-self
 invariant_of-self c =
-    let d : Door = record { catalogue = c.self.inside.catalogue; run = c.self.inside.run; serial = c.self.inside.serial; places = c.self.inside.places; issued = c.self.inside.issued } in
+    let d : Door = record { catalogue = c.self.inside.catalogue; run = c.self.inside.run; serial = c.self.inside.serial; places = c.self.inside.places; issued = c.self.inside.issued; marks = c.self.inside.marks } in
     serial_taken d c.self.invariant c.if-self-ge-SERIAL_LIMIT.false
 
 pub invariant_of-self-in-None : goal.invariant_of-self-in-None
 invariant_of-self-in-None c =
-    let d : Door = record { catalogue = c.self.inside.catalogue; run = c.self.inside.run; serial = c.self.inside.serial; places = c.self.inside.places; issued = c.self.inside.issued } in
+    let d : Door = record { catalogue = c.self.inside.catalogue; run = c.self.inside.run; serial = c.self.inside.serial; places = c.self.inside.places; issued = c.self.inside.issued; marks = c.self.inside.marks } in
     recounted (record d { serial = d.serial + 1 }) c.issue-turn.new.counts (serial_taken d c.self.invariant c.if-self-ge-SERIAL_LIMIT.false)
     c.issue-turn.ensures.lanes
 
 pub invariant_of-self-in-Some : goal.invariant_of-self-in-Some
 invariant_of-self-in-Some c =
-    let d : Door = record { catalogue = c.self.inside.catalogue; run = c.self.inside.run; serial = c.self.inside.serial; places = c.self.inside.places; issued = c.self.inside.issued } in
+    let d : Door = record { catalogue = c.self.inside.catalogue; run = c.self.inside.run; serial = c.self.inside.serial; places = c.self.inside.places; issued = c.self.inside.issued; marks = c.self.inside.marks } in
     recounted (record d { serial = d.serial + 1 }) c.issue-second.new.counts (serial_taken d c.self.invariant c.if-self-ge-SERIAL_LIMIT.false)
     (c.issue-second.ensures.lanes ∙ c.issue-first.ensures.lanes)

@@ -1,0 +1,91 @@
+-- Parts of a cut in turn.
+use Rattle.std.proofs.Common.{◌≡◌, ◌≢◌, inl, inr, ℕ, List, [], ◌∷◌, ◌++◌, Bool, true, false, Result, Ok, Err, OnOk, OnErr, refl, sym, ap, subst, ◌∙◌, append_assoc, append-nil}
+use Rattle.std.specs.List.{AllByRecursion}
+use Rattle.flush_journal.specs.Records.{Record}
+use Rattle.record_cuts.specs.Cuts.{AddsRecord, AreOnce}
+use Rattle.record_cuts.proofs.CutLemmas.{all_append, all_more}
+use Rattle.register.specs.Cutting.{Adds, AddsOne, IsAmong, OfEither}
+
+pub contrary : (b : Bool) (P : Type 0) → b ≡ true → b ≡ false → P
+contrary b P is_so isnt = absurd (let both : true ≡ false = sym is_so ∙ isnt in cc)
+
+pub by_bool : (b : Bool) (P : Type 0) → (b ≡ true → P) → (b ≡ false → P) → P
+by_bool true P is_so isnt = is_so refl
+by_bool false P is_so isnt = isnt refl
+
+among_front : (key : List ℕ) (xs ys : List Record) → IsAmong key xs → IsAmong key (xs ++ ys)
+among_front key [] ys h = absurd h
+among_front key (x ∷ xs) ys (inl same) = inl same
+among_front key (x ∷ xs) ys (inr later) = inr (among_front key xs ys later)
+
+among_back : (key : List ℕ) (xs ys : List Record) → IsAmong key ys → IsAmong key (xs ++ ys)
+among_back key [] ys h = h
+among_back key (x ∷ xs) ys h = inr (among_back key xs ys h)
+
+module _ (P Q : Record → Type 0) (K L : List ℕ → Type 0) where
+  -- no key is of both
+  abbrev pub AreApart : Type 0
+  AreApart = (r s : Record) → P r → Q s → r.0 ≢ s.0
+
+  once_append : AreApart → (xs ys : List Record) → AllByRecursion P xs → AllByRecursion Q ys → AreOnce xs → AreOnce ys → AreOnce (xs ++ ys)
+  once_append apart [] ys h g x y = y
+  once_append apart (r ∷ rs) ys h g x y = (
+    all_append (λ s. s.0 ≢ r.0) rs ys x.0 (all_more Q (λ s. s.0 ≢ r.0) ys (λ s q same. apart r s h.0 q (sym same)) g),
+    once_append apart rs ys h.1 g x.1 y,
+  )
+
+  pub in_turn : AreApart → (whole : Bool) (old mid new : List Record) → Adds P K true old mid → Adds Q L whole mid new → Adds (OfEither P Q) (OfEither K L) whole old new
+  in_turn apart whole old mid new a b = (
+    a.0 ++ b.0,
+    record {
+      right = all_append (OfEither P Q) a.0 b.0 (all_more P (OfEither P Q) a.0 (λ r h. inl h) a.1.right) (all_more Q (OfEither P Q) b.0 (λ r h. inr h) b.1.right);
+      once = once_append apart a.0 b.0 a.1.right b.1.right a.1.once b.1.once;
+      all = λ w key due. found w key due;
+    },
+    b.2 ∙ ap (λ (rs : List Record). rs ++ b.0) a.2 ∙ append_assoc old a.0 b.0,
+  ) where
+    found : whole ≡ true → (key : List ℕ) → OfEither K L key → IsAmong key (a.0 ++ b.0)
+    found w key (inl due) = among_front key a.0 b.0 (a.1.all refl key due)
+    found w key (inr due) = among_back key a.0 b.0 (b.1.all w key due)
+
+  -- the first part alone, and not all of it
+  pub first_alone : (old new : List Record) → Adds P K false old new → Adds (OfEither P Q) (OfEither K L) false old new
+  first_alone old new a = (
+    a.0,
+    record {
+      right = all_more P (OfEither P Q) a.0 (λ r h. inl h) a.1.right;
+      once = a.1.once;
+      all = λ w key due. contrary false (IsAmong key a.0) w refl;
+    },
+    a.2,
+  )
+
+-- ---- one record
+
+module _ (due : Bool) (key body : List ℕ) (old new : List Record) where
+  pub one_added : due ≡ true → AddsRecord (key, body) old new → AddsOne due key body true old new
+  one_added is h = ((key, body) ∷ [], record { right = ((is, refl), tt); once = (tt, tt); all = λ w k d. inl (sym d.1) }, h)
+
+  pub none_due : due ≡ false → new ≡ old → AddsOne due key body true old new
+  none_due isnt e = ([], record { right = tt; once = tt; all = λ w k d. contrary due (IsAmong k []) d.0 isnt }, e ∙ sym (append-nil old))
+
+  pub none_added : new ≡ old → AddsOne due key body false old new
+  none_added e = ([], record { right = tt; once = tt; all = λ w k d. contrary false (IsAmong k []) w refl }, e ∙ sym (append-nil old))
+
+-- ---- what a call says
+
+pub map_ok : {A E P Q : Type 0} (r : Result A E) → (P → Q) → OnOk r P → OnOk r Q
+map_ok (Ok x) f h = f h
+map_ok (Err e) f h = tt
+
+pub map_err : {A E P Q : Type 0} (r : Result A E) → (P → Q) → OnErr r P → OnErr r Q
+map_err (Ok x) f h = tt
+map_err (Err e) f h = f h
+
+pub on_error : {A E P : Type 0} (r : Result A E) → P → OnErr r P
+on_error (Ok x) h = tt
+on_error (Err e) h = h
+
+pub one_as : {due is : Bool} {key k body b : List ℕ} (whole : Bool) (old new : List Record) → due ≡ is → key ≡ k → body ≡ b → AddsOne due key body whole old new → AddsOne is k b whole old new
+one_as whole old new e f g h =
+    subst (λ (x : Bool × (List ℕ × List ℕ)). AddsOne x.0 x.1.0 x.1.1 whole old new) (λ i. (e i, (f i, g i))) h
