@@ -1,8 +1,7 @@
 -- What is done among objects, from what is done to one of them.
-use Rattle.std.proofs.Common.{◌≡◌, ℕ, Bool, true, false, cond, ◌==◌, IfOk, Option, Some, None, Result, Ok, Err, option_map, sym, ap, subst, refl, ◌∙◌, eqb-true, arith}
+use Rattle.std.proofs.Common.{◌≡◌, ℕ, Bool, true, false, cond, ◌==◌, IfOk, Option, Some, None, is_some, Result, Ok, Err, sym, ap, subst, refl, ◌∙◌, eqb-true, arith}
 use Rattle.std.specs.Ordering.{eq_by_cmp}
 use Rattle.std.specs.FinMap.{get, len, insert, remove, get-insert, get-remove, same_map}
-use Rattle.text_maps.proofs.ValueMaps.{insert-values, remove-values}
 use Rattle.object_ids.specs.IdOrder.{id_order, id_eq, kind_rank}
 use Rattle.object_ids.specs.IdValues.{Id}
 use Rattle.object_ids.specs.declared.ids.Kind.{Kind}
@@ -20,9 +19,10 @@ use Rattle.object_acts.specs.declared.objects.Body.{Body}
 use Rattle.object_acts.specs.declared.objects.Body.TheVariants.{Group, Dataset, Datatype}
 use Rattle.object_acts.specs.Objects.{unmarked, unmarked_body, empty_group}
 use Rattle.object_acts.specs.Trees.{body_tree, object_tree}
-use Rattle.chunk_owner.specs.Lanes.{Objects, shown, set_at, at_id}
+use Rattle.object_slots.specs.Changed.{ChangesAt}
+use Rattle.chunk_owner.specs.Lanes.{Objects, set_at, at_id}
 use Rattle.chunk_owner.specs.Acts.{missing, held, seen, read_by, reading, is_done, left, changed_by, changing, removed, removing}
-use Rattle.chunk_owner.proofs.Eaches.{get-shown, same_id}
+use Rattle.chunk_owner.proofs.Eaches.{same_id}
 
 -- to put in what is there changes nothing
 insert_same : (m : Objects) (k : Id) (v : Object) → get m k ≡ Some v → insert m k v ≡ m
@@ -41,20 +41,6 @@ remove_same m k none = same_map id_order_total id_order_once _ _ (λ q. get-remo
 pub own_set : (m : Objects) (id : Id) (o : Option Object) → get m id ≡ o → set_at m id o ≡ m
 own_set m id None e = remove_same m id e
 own_set m id (Some x) e = insert_same m id x e
-
--- ---- as requests see them
-
-pub shown-there : (m : Objects) (id : Id) (x : Object) → get m id ≡ Some x → get (shown m) id ≡ Some (unmarked x)
-shown-there m id x e = get-shown m id ∙ ap (option_map unmarked) e
-
-pub shown-none : (m : Objects) (id : Id) → get m id ≡ None → get (shown m) id ≡ None
-shown-none m id e = get-shown m id ∙ ap (option_map unmarked) e
-
-pub shown-insert : (m n : Objects) (id : Id) (x : Object) → n ≡ insert m id x → shown n ≡ insert (shown m) id (unmarked x)
-shown-insert m n id x e = ap shown e ∙ insert-values id_order_total id_order_once unmarked m id x
-
-pub shown-remove : (m n : Objects) (id : Id) → n ≡ remove m id → shown n ≡ remove (shown m) id
-shown-remove m n id e = ap shown e ∙ remove-values id_order_total id_order_once unmarked m id
 
 -- ---- a definition at an id, where this stands there
 
@@ -111,13 +97,15 @@ changed_held p x y (Err e) h = ap (λ o. Some o) h
 changing_as : (g : Grant) (id : Id) (f : Object → Reply × Object) (o s : Option Object) → seen g id o ≡ s → changed_by f (missing g id) o s ≡ changing g id f o
 changing_as g id f o s e = ap (changed_by f (missing g id) o) (sym e)
 
-pub changed_there : {E : Type 0} (g : Grant) (id : Id) (f : Object → Reply × Object) (m n : Objects) (x y : Object) (r : Result Reply E)
-    → (id.domain == g.number) ≡ true → get m id ≡ Some x → n ≡ insert m id y → Follows (f (unmarked x)) (unmarked x) r (unmarked y)
-    → Follows (at_id id (changing g id f) (shown m)) (shown m) r (shown n)
-changed_there g id f m n x y r own there put h =
-    follows_here id (changing g id f) (shown m) (shown n) (Some (unmarked x)) (Some (unmarked y)) r (shown-there m id x there) (shown-insert m n id y put)
-    (subst (λ p. Follows p (Some (unmarked x)) r (Some (unmarked y))) (changing_as g id f (Some (unmarked x)) (Some (unmarked x)) (seen_own g id (Some (unmarked x)) own))
-    (changed_held (f (unmarked x)) (unmarked x) (unmarked y) r h))
+pub changes_held : {E : Type 0} (g : Grant) (id : Id) (f : Object → Reply × Object) (m n : Objects) (r : Result Reply E)
+    → (id.domain == g.number) ≡ true → is_some (get m id) ≡ true → ChangesAt id f m r n → Follows (at_id id (changing g id f) m) m r n
+changes_held {E} g id f m n r own held changes = at (get m id) refl held where
+  at : (o : Option Object) → get m id ≡ o → is_some o ≡ true → Follows (at_id id (changing g id f) m) m r n
+  at None is e = absurd (let both : false ≡ true = e in cc)
+  at (Some x) is e =
+      let c = changes x is in
+      follows_here id (changing g id f) m n (Some x) (Some c.0) r is c.1
+      (subst (λ p. Follows p (Some x) r (Some c.0)) (changing_as g id f (Some x) (Some x) (seen_own g id (Some x) own)) (changed_held (f x) x c.0 r c.2))
 
 pub changes_foreign : (g : Grant) (id : Id) (f : Object → Reply × Object) (m : Objects) (r : Refusal)
     → (id.domain == g.number) ≡ false → r ≡ missing g id → (Refused r ≡ (at_id id (changing g id f) m).0) × (m ≡ (at_id id (changing g id f) m).1)
@@ -127,9 +115,9 @@ changes_foreign g id f m r foreign said =
 
 pub changes_absent : (g : Grant) (id : Id) (f : Object → Reply × Object) (m : Objects) (r : Refusal)
     → (id.domain == g.number) ≡ true → id_eq id g.root ≡ false → get m id ≡ None → r ≡ missing g id
-    → (Refused r ≡ (at_id id (changing g id f) (shown m)).0) × (shown m ≡ (at_id id (changing g id f) (shown m)).1)
+    → (Refused r ≡ (at_id id (changing g id f) m).0) × (m ≡ (at_id id (changing g id f) m).1)
 changes_absent g id f m r own other none said =
-    answers_here id (changing g id f) (shown m) None (Refused r) (shown-none m id none)
+    answers_here id (changing g id f) m None (Refused r) none
     (sym (changing_as g id f None None (seen_own g id None own ∙ held_none g id other)) ∙ (λ i. (Refused (sym said i), None)))
 
 left-reply : (reply : Reply) (o : Object) → (left None (reply, o)).0 ≡ reply
@@ -138,24 +126,23 @@ left-reply (Refused r) o = refl
 
 -- a root that wasn't held
 pub changes_root : {E : Type 0} (g : Grant) (id : Id) (f : Object → Reply × Object) (m n : Objects) (y : Object) (reply : Reply) (r : Result Reply E)
-    → (id.domain == g.number) ≡ true → id_eq id g.root ≡ true → get m id ≡ None → reply ≡ (f empty_group).0 → unmarked y ≡ (f empty_group).1
-    → Follows (reply, set_at (shown m) id (left None (reply, unmarked y)).1) (shown m) r (shown n)
-    → Follows (at_id id (changing g id f) (shown m)) (shown m) r (shown n)
+    → (id.domain == g.number) ≡ true → id_eq id g.root ≡ true → get m id ≡ None → reply ≡ (f empty_group).0 → y ≡ (f empty_group).1
+    → Follows (reply, set_at m id (left None (reply, y)).1) m r n → Follows (at_id id (changing g id f) m) m r n
 changes_root g id f m n y reply (Ok said) own root none done left_there h =
-    let e : left None (reply, unmarked y) ≡ changing g id f None =
+    let e : left None (reply, y) ≡ changing g id f None =
     (λ i. left None (done i, left_there i)) ∙ changing_as g id f None (Some empty_group) (seen_own g id None own ∙ held_root g id root) in
-    let here = at_here id (changing g id f) (shown m) None (shown-none m id none) in
-    (h.0 ∙ sym (left-reply reply (unmarked y)) ∙ ap (λ p. p.0) e ∙ here.0, h.1 ∙ ap (λ p. set_at (shown m) id p.1) e ∙ here.1)
+    let here = at_here id (changing g id f) m None none in
+    (h.0 ∙ sym (left-reply reply y) ∙ ap (λ p. p.0) e ∙ here.0, h.1 ∙ ap (λ p. set_at m id p.1) e ∙ here.1)
 changes_root g id f m n y reply (Err e) own root none done left_there h = h
 
 -- ---- an object is put where none was
 
-pub puts_refused : (m : Objects) (id : Id) (o : Object) (reply : Reply) → get m id ≡ None → is_done reply ≡ false → shown m ≡ set_at (shown m) id (left None (reply, o)).1
+pub puts_refused : (m : Objects) (id : Id) (o : Object) (reply : Reply) → get m id ≡ None → is_done reply ≡ false → m ≡ set_at m id (left None (reply, o)).1
 puts_refused m id o (Done status body) none e = absurd (cc)
-puts_refused m id o (Refused r) none e = sym (own_set (shown m) id None (shown-none m id none))
+puts_refused m id o (Refused r) none e = sym (own_set m id None none)
 
-pub puts_done : (m n : Objects) (id : Id) (o : Object) (reply : Reply) → n ≡ insert m id o → is_done reply ≡ true → shown n ≡ set_at (shown m) id (left None (reply, unmarked o)).1
-puts_done m n id o (Done status body) put e = shown-insert m n id o put
+pub puts_done : (m n : Objects) (id : Id) (o : Object) (reply : Reply) → n ≡ insert m id o → is_done reply ≡ true → n ≡ set_at m id (left None (reply, o)).1
+puts_done m n id o (Done status body) put e = put
 puts_done m n id o (Refused r) put e = absurd (cc)
 
 -- an object is written as requests see it
@@ -199,18 +186,20 @@ drops_root g id m own root =
     let o = get m id in
     answers_here id (removing g id) m o (Refused Root) refl (removing-as g id o (held g id o) true root (seen_own g id o own) ∙ removed_root g id o root)
 
-pub drops_there : (g : Grant) (id : Id) (m n : Objects) (x : Object) (r : Reply) → (id.domain == g.number) ≡ true → id_eq id g.root ≡ false
-    → get m id ≡ Some x → n ≡ remove m id → r ≡ Done 200 nothing
-    → (r ≡ (at_id id (removing g id) (shown m)).0) × (shown n ≡ (at_id id (removing g id) (shown m)).1)
-drops_there g id m n x r own other there gone said =
-    let here = at_here id (removing g id) (shown m) (Some (unmarked x)) (shown-there m id x there) in
-    let e = removing-as g id (Some (unmarked x)) (Some (unmarked x)) false other (seen_own g id (Some (unmarked x)) own) in
-    (said ∙ sym (ap (λ p. p.0) e) ∙ here.0, shown-remove m n id gone ∙ sym (ap (λ p. set_at (shown m) id p.1) e) ∙ here.1)
+pub drops_held : (g : Grant) (id : Id) (m n : Objects) (r : Reply) → (id.domain == g.number) ≡ true → id_eq id g.root ≡ false
+    → is_some (get m id) ≡ true → n ≡ remove m id → r ≡ Done 200 nothing
+    → (r ≡ (at_id id (removing g id) m).0) × (n ≡ (at_id id (removing g id) m).1)
+drops_held g id m n r own other held gone said = at (get m id) refl held where
+  at : (o : Option Object) → get m id ≡ o → is_some o ≡ true → (r ≡ (at_id id (removing g id) m).0) × (n ≡ (at_id id (removing g id) m).1)
+  at None is e = absurd (let both : false ≡ true = e in cc)
+  at (Some x) is e =
+      let here = at_here id (removing g id) m (Some x) is in
+      let done = removing-as g id (Some x) (Some x) false other (seen_own g id (Some x) own) in
+      (said ∙ sym (ap (λ p. p.0) done) ∙ here.0, gone ∙ sym (ap (λ p. set_at m id p.1) done) ∙ here.1)
 
-pub drops_absent : (g : Grant) (id : Id) (m n : Objects) (r : Refusal) → (id.domain == g.number) ≡ true → id_eq id g.root ≡ false
-    → get m id ≡ None → n ≡ remove m id → r ≡ missing g id
-    → (Refused r ≡ (at_id id (removing g id) (shown m)).0) × (shown n ≡ (at_id id (removing g id) (shown m)).1)
-drops_absent g id m n r own other none gone said =
-    let here = at_here id (removing g id) (shown m) None (shown-none m id none) in
-    let e = removing-as g id None None false other (seen_own g id None own ∙ held_none g id other) in
-    (ap (λ x. Refused x) said ∙ sym (ap (λ p. p.0) e) ∙ here.0, shown-remove m n id gone ∙ sym (ap (λ p. set_at (shown m) id p.1) e) ∙ here.1)
+pub drops_absent : (g : Grant) (id : Id) (m : Objects) (r : Refusal) → (id.domain == g.number) ≡ true → id_eq id g.root ≡ false
+    → get m id ≡ None → r ≡ missing g id
+    → (Refused r ≡ (at_id id (removing g id) m).0) × (m ≡ (at_id id (removing g id) m).1)
+drops_absent g id m r own other none said =
+    answers_here id (removing g id) m None (Refused r) none
+    (removing-as g id None None false other (seen_own g id None own ∙ held_none g id other) ∙ (λ i. (Refused (sym said i), None)))

@@ -72,7 +72,7 @@ body-unmarked (Datatype type) = refl
 unmarked-unmarked : (o : Object) → unmarked (unmarked o) ≡ unmarked o
 unmarked-unmarked o = ap (λ (b : Body). record o { body = b }) (body-unmarked o.body)
 
-option-unmarked : (w : Option Object) → option_map unmarked (option_map unmarked w) ≡ option_map unmarked w
+pub option-unmarked : (w : Option Object) → option_map unmarked (option_map unmarked w) ≡ option_map unmarked w
 option-unmarked None = refl
 option-unmarked (Some o) = ap (λ (x : Object). Some x) (unmarked-unmarked o)
 

@@ -1,5 +1,5 @@
 -- What a step leaves that is refused, that reads, or that names an object of another domain.
-use Rattle.std.proofs.Common.{◌≡◌, ℕ, Bool, true, false, cond, ◌==◌, List, Option, Some, None, option_map, sym, ap, subst, refl, ◌∙◌, ne_eqb}
+use Rattle.std.proofs.Common.{◌≡◌, ℕ, Bool, true, false, cond, ◌==◌, List, Option, Some, None, Result, option_map, sym, ap, subst, refl, ◌∙◌, ne_eqb}
 use Rattle.std.specs.FinMap.{get}
 use Rattle.object_ids.specs.IdOrder.{id_eq}
 use Rattle.object_ids.specs.IdValues.{Id}
@@ -16,13 +16,14 @@ use Rattle.object_ops.specs.declared.refusals.Refusal.{Refusal}
 use Rattle.object_ops.specs.declared.refusals.Refusal.TheVariants.{NoObject, Root}
 use Rattle.object_ops.specs.declared.replies.Reply.{Reply}
 use Rattle.object_ops.specs.declared.replies.Reply.TheVariants.{Done, Refused}
+use Rattle.object_ops.specs.Answers.{Follows}
 use Rattle.object_ops.specs.Parts.{id_of}
 use Rattle.object_acts.specs.declared.objects.Object.{Object}
 use Rattle.object_acts.specs.Objects.{unmarked}
 use Rattle.object_acts.specs.Acts.{change_of, link_put, on_links, reads_object, reply_of}
 use Rattle.object_acts.proofs.LawLemmas.{Keeps}
 use Rattle.chunk_owner.specs.Lanes.{Objects, shown, at_id}
-use Rattle.chunk_owner.specs.Acts.{act, changed_by, changing, left, link_to, linking, make_act, making, missing, on_touched, reading, removed, removing, seen, touched}
+use Rattle.chunk_owner.specs.Acts.{act, acted, changed_by, changing, left, link_to, linking, make_act, making, missing, on_touched, reading, removed, removing, seen, touched}
 use Rattle.chunk_owner.specs.Laws.{RefusalsLeaveAll, ReadsLeaveAll, OthersAreLeft, OthersAreUnlinked}
 use Rattle.chunk_owner.proofs.AtIds.{answers_here, own_set, removing-foreign}
 use Rattle.chunk_owner.proofs.Eaches.{get-shown}
@@ -149,3 +150,16 @@ others_unlinked g make place fresh objects has other =
     let o = get objects id in
     answered_at id (linking g (Some place) g.fresh) objects (Refused (NoObject id))
     (ap (λ (f : Option Id). linking g (Some place) f o) has ∙ (others_are_hidden g id o (λ x. Refused Root) (link_to place fresh) other).1)
+
+-- ---- what is read of an object that is named
+
+act_reading : (g : Grant) (op : Op) (s : Step) (id : Id) → reads_object op ≡ true → act g op s id ≡ reading g id (reply_of g.root op)
+act_reading g (MakeObject make place) s id e = absurd (cc)
+act_reading g (DropObject at) s id e = absurd (cc)
+act_reading g op s id e = λ i o. cond (e i) (reading g id (reply_of g.root op) o) (changing g id (change_of op) o)
+
+pub acted_reading : {E : Type 0} (g : Grant) (op : Op) (s : Step) (id : Id) (m : Objects) (r : Result Reply E) → reads_object op ≡ true → id_of op ≡ Some id
+    → Follows (at_id id (reading g id (reply_of g.root op)) m) m r m → Follows (acted g op s m) m r m
+acted_reading g op s id m r reads names said =
+    subst (λ (t : Option Id). Follows (on_touched t (act g op s) m) m r m) (sym (touched_named g op s id names))
+    (subst (λ (f : Option Object → Reply × Option Object). Follows (at_id id f m) m r m) (sym (act_reading g op s id reads)) said)

@@ -1,63 +1,132 @@
--- Where the objects of a lane stand, after a step.
-use Rattle.std.proofs.Common.{◌≡◌, ℕ, Option, Some, None, Result, Ok, Err, OnOk, OnErr, sym, subst}
-use Rattle.std.specs.FinMap.{get, insert}
+-- Where the slots of a lane stand, and the objects in them.
+use Rattle.std.proofs.Common.{◌≡◌, ◌≢◌, ◌⊎◌, ⊎_elim, ℕ, ◌<◌, ◌==◌, true, false, cond, Option, Some, None, is_some, OnOk, OnErr, Result, Ok, Err, option_map, refl, sym, ap, subst, ◌∙◌}
+use Rattle.std.specs.FinMap.{empty, get, insert, get-empty, same_map}
+use Rattle.object_ids.specs.IdOrder.{id_order}
 use Rattle.object_ids.specs.IdValues.{Id}
 use Rattle.object_ids.specs.Ids.{lane_of}
-use Rattle.object_ops.specs.Answers.{Follows}
-use Rattle.object_ops.specs.declared.replies.Reply.{Reply}
+use Rattle.object_ids.proofs.IdOrders.{id_order_once, id_order_total}
 use Rattle.object_acts.specs.declared.objects.Object.{Object}
 use Rattle.object_acts.specs.Objects.{unmarked, IsOfKind}
-use Rattle.chunk_owner.specs.Lanes.{Objects, shown, Each, AreOfKind, StandsIn, IsWhole, set_at}
-use Rattle.chunk_owner.specs.Acts.{IsTouchedIn, on_touched}
-use Rattle.chunk_owner.proofs.Eaches.{each_insert, each_put, each_remove, each_same, each_shown, each_marked, unmarked_kind}
+use Rattle.object_slots.specs.declared.slot.Mark.{Mark}
+use Rattle.object_slots.specs.declared.slot.Mark.TheVariants.{Kept, Changed, Dropped}
+use Rattle.object_slots.specs.declared.slot.Slot.{Slot}
+use Rattle.object_slots.specs.Settled.{Settles}
+use Rattle.object_slots.specs.Slots.{HasSameIds, Slots, object_by, object_of, objects_of}
+use Rattle.object_slots.specs.Slots.{AreOfKind as AreSlotsOfKind}
+use Rattle.object_slots.proofs.Placed.{everywhere}
+use Rattle.object_slots.proofs.Standing.{get-objects_of, objects-insert}
+use Rattle.chunk_owner.specs.Lanes.{AreHome, AreOfKind, AreShown, AreSlotsOf, Each, Forgets, IsWhole, Objects, StandsIn, StaysHome, StayHome, seen_lane, shown}
+use Rattle.chunk_owner.specs.Acts.{IsTouchedIn}
+use Rattle.chunk_owner.proofs.Eaches.{get-shown, option-unmarked, unmarked_kind}
 
--- an id of the lane, whatever its object
-abbrev pub InLane : ℕ → ℕ → Id → Object → Type 0
-InLane lane lanes id o = lane_of lanes id ≡ lane
+-- ---- slots stay at home
+
+none_slot : {P : Type 0} (s : Slot) → None ≡ Some s → P
+none_slot s e = absurd (cc)
+
+pub home_same_ids : (m n : Slots) (id : Id) → HasSameIds m n → StaysHome id m n
+home_same_ids m n id same lane lanes is home q s there = at (get m q) refl where
+  at : (o : Option Slot) → get m q ≡ o → lane_of lanes q ≡ lane
+  at None e = none_slot s (sym (same q e) ∙ there)
+  at (Some t) e = home q t e
+
+pub home_others : (m n : Slots) (id : Id) → ((q : Id) → q ≢ id → get n q ≡ get m q) → StaysHome id m n
+home_others m n id others lane lanes is home q =
+    everywhere (λ q o p. ((s : Slot) → o ≡ Some s → lane_of lanes q ≡ lane) → (s : Slot) → p ≡ Some s → lane_of lanes q ≡ lane) m n id others (λ were s e. is) (λ q o were. were) q (home q)
+
+pub home_same : (m n : Slots) (id : Id) → n ≡ m → StaysHome id m n
+home_same m n id same lane lanes is home = subst (λ (w : Slots). AreHome lane lanes w) (sym same) home
+
+pub home_at : (t : Option Id) (id : Id) (m n : Slots) → t ≡ Some id → StaysHome id m n → StayHome t m n
+home_at t id m n same stays = subst (λ (o : Option Id). StayHome o m n) (sym same) stays
+
+-- after a step at an id of the lane
+pub slots_after : (lane lanes : ℕ) (t : Option Id) (m n : Slots) → IsTouchedIn lane lanes t → StayHome t m n → AreSlotsOfKind n → AreSlotsOf lane lanes m → AreSlotsOf lane lanes n
+slots_after lane lanes None m n touched stay kinds were = absurd touched
+slots_after lane lanes (Some id) m n touched stay kinds were = record { below = were.below; home = stay lane lanes touched were.home; kinds = kinds }
+
+-- where no id has a slot that had none
+pub slots_still : (lane lanes : ℕ) (m n : Slots) → HasSameIds m n → AreSlotsOfKind n → AreSlotsOf lane lanes m → AreSlotsOf lane lanes n
+slots_still lane lanes m n same kinds were = record { below = were.below; home = λ q. home_at q; kinds = kinds } where
+  home_at : (q : Id) (s : Slot) → get n q ≡ Some s → lane_of lanes q ≡ lane
+  home_at q s there = at (get m q) refl where
+    at : (o : Option Slot) → get m q ≡ o → lane_of lanes q ≡ lane
+    at None e = none_slot s (sym (same q e) ∙ there)
+    at (Some t) e = were.home q t e
+
+pub slots_put : (lane lanes : ℕ) (m n : Slots) (id : Id) → lane_of lanes id ≡ lane → ((q : Id) → q ≢ id → get n q ≡ get m q) → AreSlotsOfKind n → AreSlotsOf lane lanes m → AreSlotsOf lane lanes n
+slots_put lane lanes m n id is others kinds were = record { below = were.below; home = home_others m n id others lane lanes is were.home; kinds = kinds }
+
+pub slots_empty : (lane lanes : ℕ) (m : Slots) → m ≡ empty → lane < lanes → AreSlotsOf lane lanes m
+slots_empty lane lanes m none small = subst (λ (w : Slots). AreSlotsOf lane lanes w) (sym none) (record {
+  below = small;
+  home = λ q s e. none_slot s (sym (get-empty id_order q) ∙ e);
+  kinds = λ q s e. none_slot s (sym (get-empty id_order q) ∙ e);
+})
+
+-- ---- the objects in them
+
+-- an object that stands is that of a slot
+stands_by : (m : Mark) (x o : Object) → object_by m x ≡ Some o → unmarked x ≡ o
+stands_by Kept x o e = cc
+stands_by Changed x o e = cc
+stands_by Dropped x o e = absurd (let both : None ≡ Some o = e in cc)
+
+module _ (m : Slots) (id : Id) (o : Object) (there : get (objects_of m) id ≡ Some o) where
+  pub slot_of : (s : Slot) × (get m id ≡ Some s) × (unmarked s.object ≡ o)
+  slot_of = at (get m id) refl (sym (get-objects_of m id) ∙ there) where
+    at : (w : Option Slot) → get m id ≡ w → object_of w ≡ Some o → (s : Slot) × (get m id ≡ Some s) × (unmarked s.object ≡ o)
+    at None e is = absurd (let both : None ≡ Some o = is in cc)
+    at (Some s) e is = (s, e, stands_by s.mark s.object o is)
+
+pub stand : (lane lanes : ℕ) (m : Slots) → AreSlotsOf lane lanes m → Each (StandsIn lane lanes) (objects_of m)
+stand lane lanes m were q o e =
+    let s = slot_of m q o e in
+    record { own = were.home q s.0 s.1; kind = subst (λ (x : Object). IsOfKind q.kind x) s.2 (unmarked_kind q.kind s.0.object (were.kinds q s.0 s.1)) }
+
+pub whole_lane : (lane lanes : ℕ) (m : Slots) → AreSlotsOf lane lanes m → IsWhole (seen_lane lane lanes m)
+whole_lane lane lanes m were = record { lane = were.below; own = stand lane lanes m were; seen = refl; slots = were }
 
 pub kinds_of : (lane lanes : ℕ) (m : Objects) → Each (StandsIn lane lanes) m → AreOfKind m
 kinds_of lane lanes m own = λ q o e. (own q o e).kind
 
-lanes_of : (lane lanes : ℕ) (m : Objects) → Each (StandsIn lane lanes) m → Each (InLane lane lanes) m
-lanes_of lane lanes m own = λ q o e. (own q o e).own
+no_object : (w : Option Object) → is_some w ≡ false → w ≡ None
+no_object None e = refl
+no_object (Some o) e = absurd (let both : true ≡ false = e in cc)
 
-both : (lane lanes : ℕ) (m : Objects) → Each (InLane lane lanes) m → AreOfKind m → Each (StandsIn lane lanes) m
-both lane lanes m own kinds = λ q o e. record { own = own q o e; kind = kinds q o e }
+pub not_held : (m : Slots) (id : Id) → is_some (object_of (get m id)) ≡ false → get (objects_of m) id ≡ None
+not_held m id e = get-objects_of m id ∙ no_object (object_of (get m id)) e
 
-set_in : (lane lanes : ℕ) (m : Objects) (id : Id) (o : Option Object) → lane_of lanes id ≡ lane → Each (InLane lane lanes) m → Each (InLane lane lanes) (set_at m id o)
-set_in lane lanes m id None e own = each_remove (InLane lane lanes) m id own
-set_in lane lanes m id (Some o) e own = each_insert (InLane lane lanes) m id o e own
+-- ---- as requests see them
 
-touched_in : (lane lanes : ℕ) (t : Option Id) (f : Id → Option Object → Reply × Option Object) (m : Objects) → IsTouchedIn lane lanes t → Each (InLane lane lanes) m → Each (InLane lane lanes) (on_touched t f m).1
-touched_in lane lanes None f m e own = absurd e
-touched_in lane lanes (Some id) f m e own = set_in lane lanes m id (f id (get m id)).1 e own
+shown_by : (m : Mark) (x : Object) → option_map unmarked (object_by m x) ≡ object_by m x
+shown_by Kept x = option-unmarked (Some x)
+shown_by Changed x = option-unmarked (Some x)
+shown_by Dropped x = refl
 
-left_in : {E : Type 0} (lane lanes : ℕ) (t : Option Id) (f : Id → Option Object → Reply × Option Object) (m n : Objects) (r : Result Reply E)
-    → IsTouchedIn lane lanes t → Each (InLane lane lanes) m → Follows (on_touched t f m) m r n → Each (InLane lane lanes) n
-left_in lane lanes t f m n (Ok reply) e own h = subst (λ (w : Objects). Each (InLane lane lanes) w) (sym h.1) (touched_in lane lanes t f m e own)
-left_in lane lanes t f m n (Err x) e own h = subst (λ (w : Objects). Each (InLane lane lanes) w) (sym h) own
+shown_of : (w : Option Slot) → option_map unmarked (object_of w) ≡ object_of w
+shown_of None = refl
+shown_of (Some s) = shown_by s.mark s.object
 
--- a step on an object of the lane leaves the lane whole
-pub whole_after : {E : Type 0} (lane lanes : ℕ) (t : Option Id) (f : Id → Option Object → Reply × Option Object) (m n : Objects) (r : Result Reply E)
-    → IsWhole (record { lane = lane; lanes = lanes; objects = m }) → IsTouchedIn lane lanes t → Follows (on_touched t f (shown m)) (shown m) r (shown n) → AreOfKind n
-    → IsWhole (record { lane = lane; lanes = lanes; objects = n })
-whole_after lane lanes t f m n r whole e h kinds = record {
-  lane = whole.lane;
-  own = both lane lanes n
-      (each_marked (InLane lane lanes) (InLane lane lanes) (λ q o own. own) n
-      (left_in lane lanes t f (shown m) (shown n) r e (each_shown (InLane lane lanes) (InLane lane lanes) (λ q o own. own) m (lanes_of lane lanes m whole.own)) h))
-      kinds;
-}
+pub slots_shown : (m : Slots) → AreShown (objects_of m)
+slots_shown m = same_map id_order_total id_order_once (shown (objects_of m)) (objects_of m) (λ q.
+    get-shown (objects_of m) q ∙ ap (option_map unmarked) (get-objects_of m q) ∙ shown_of (get m q) ∙ sym (get-objects_of m q))
 
-pub shown_stands : (lane lanes : ℕ) (id : Id) (o : Object) → StandsIn lane lanes id o → StandsIn lane lanes id (unmarked o)
-shown_stands lane lanes id o h = record { own = h.own; kind = unmarked_kind id.kind o h.kind }
+pub forgets_objects : (number : ℕ) (m n : Slots) → ((q : Id) → object_of (get n q) ≡ cond (q.domain == number) None (object_of (get m q))) → Forgets number (objects_of m) (objects_of n)
+forgets_objects number m n rest q = get-objects_of n q ∙ rest q ∙ ap (λ o. cond (q.domain == number) None o) (sym (get-objects_of m q))
 
-pub whole_shown : (lane lanes : ℕ) (m : Objects) → IsWhole (record { lane = lane; lanes = lanes; objects = m }) → IsWhole (record { lane = lane; lanes = lanes; objects = shown m })
-whole_shown lane lanes m whole = record { lane = whole.lane; own = each_shown (StandsIn lane lanes) (StandsIn lane lanes) (shown_stands lane lanes) m whole.own }
+-- ---- an object is put
 
--- an object that was put, or found no memory
-pub whole_put : {A E : Type 0} (r : Result A E) (lane lanes : ℕ) (m n : Objects) (id : Id) (o : Object) → IsWhole (record { lane = lane; lanes = lanes; objects = m })
-    → lane_of lanes id ≡ lane → IsOfKind id.kind o → OnOk r (n ≡ insert m id o) → OnErr r (n ≡ m) → IsWhole (record { lane = lane; lanes = lanes; objects = n })
-whole_put (Ok a) lane lanes m n id o whole e kind ok err =
-    record { lane = whole.lane; own = each_put (StandsIn lane lanes) m n id o ok (record { own = e; kind = kind }) whole.own }
-whole_put (Err x) lane lanes m n id o whole e kind ok err = record { lane = whole.lane; own = each_same (StandsIn lane lanes) m n err whole.own }
+pub objects_put : {A E : Type 0} (r : Result A E) (m n : Slots) (id : Id) (o : Object) → OnOk r (object_of (get n id) ≡ Some (unmarked o)) → ((q : Id) → q ≢ id → get n q ≡ get m q)
+    → OnOk r (objects_of n ≡ insert (objects_of m) id (unmarked o))
+objects_put (Ok a) m n id o there others = objects-insert m n id (unmarked o) there others
+objects_put (Err e) m n id o there others = tt
+
+pub objects_stay : {A E : Type 0} (r : Result A E) (m n : Slots) → OnErr r (n ≡ m) → OnErr r (objects_of n ≡ objects_of m)
+objects_stay (Ok a) m n same = tt
+objects_stay (Err e) m n same = ap objects_of same
+
+-- ---- a cut
+
+pub cut_ids : (m n : Slots) → ((q : Id) → (get n q ≡ get m q) ⊎ Settles (get m q) (get n q)) → HasSameIds m n
+cut_ids m n each q none = ⊎_elim (λ same. same ∙ none) (λ settles. subst (λ (o : Option Slot). Settles o (get n q)) none settles) (each q)

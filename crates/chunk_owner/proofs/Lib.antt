@@ -1,6 +1,8 @@
 pub mod Eaches
 pub mod AtIds
-pub mod ForgetLemmas
 pub mod LaneLemmas
+pub mod InstallLemmas
+pub mod NextLemmas
 pub mod LawLemmas
 pub mod KeptLemmas
+pub mod MarkLemmas

@@ -1,4 +1,4 @@
--- What an owner is: its lane, how many lanes there are, and its objects by their ids.
+-- What an owner is: its lane, how many lanes there are, its objects by their ids, and what the next cut writes of them.
 use Rattle.std.specs.Prelude.{◌≡◌, ℕ, ◌<◌, ◌==◌, Option, Some, None, if◌then◌else◌}
 use Rattle.std.specs.FinMap.{FinMap, get, insert, remove}
 use Rattle.text_maps.specs.Keyed.{with_values}
@@ -7,6 +7,9 @@ use Rattle.object_ids.specs.IdValues.{Id}
 use Rattle.object_ids.specs.Ids.{lane_of}
 use Rattle.object_acts.specs.declared.objects.Object.{Object}
 use Rattle.object_acts.specs.Objects.{unmarked, IsOfKind}
+use Rattle.object_slots.specs.declared.slot.Slot.{Slot}
+use Rattle.object_slots.specs.Slots.{Slots, objects_of}
+use Rattle.object_slots.specs.Slots.{AreOfKind as AreSlotsOfKind}
 
 abbrev pub Objects : Type 0
 Objects = FinMap id_order Object
@@ -19,10 +22,12 @@ shown = with_values unmarked
 abbrev pub AreShown : Objects → Type 0
 AreShown m = shown m ≡ m
 
+-- the objects as requests see them, and beside them what the next cut writes
 pub record Lane : Type 0 where
   pub lane : ℕ
   pub lanes : ℕ
   pub objects : Objects
+  pub slots : Slots
 
 -- each object stands so at its id
 abbrev pub Each : (Id → Object → Type 0) → Objects → Type 0
@@ -37,10 +42,35 @@ pub record StandsIn (lane lanes : ℕ) (id : Id) (o : Object) : Type 0 where
   pub own : lane_of lanes id ≡ lane
   pub kind : IsOfKind id.kind o
 
--- the lane is one of the lanes, and each object stands in it
+-- each slot is at an id of the lane
+abbrev pub AreHome : ℕ → ℕ → Slots → Type 0
+AreHome lane lanes slots = (id : Id) (s : Slot) → get slots id ≡ Some s → lane_of lanes id ≡ lane
+
+-- the lane is one of the lanes, and each slot stands in it
+pub record AreSlotsOf (lane lanes : ℕ) (slots : Slots) : Type 0 where
+  pub below : lane < lanes
+  pub home : AreHome lane lanes slots
+  pub kinds : AreSlotsOfKind slots
+
+-- the lane of these slots
+abbrev pub seen_lane : ℕ → ℕ → Slots → Lane
+seen_lane lane lanes slots = record { lane = lane; lanes = lanes; objects = objects_of slots; slots = slots }
+
+-- the lane is one of the lanes, each object stands in it, and the objects are those of the slots that weren't removed
 pub record IsWhole (l : Lane) : Type 0 where
   pub lane : l.lane < l.lanes
   pub own : Each (StandsIn l.lane l.lanes) l.objects
+  pub seen : l.objects ≡ objects_of l.slots
+  pub slots : AreSlotsOf l.lane l.lanes l.slots
+
+-- a step at an id leaves each slot at an id of the lane
+abbrev pub StaysHome : Id → Slots → Slots → Type 0
+StaysHome id old new = (lane lanes : ℕ) → lane_of lanes id ≡ lane → AreHome lane lanes old → AreHome lane lanes new
+
+-- so does one at the id that it touches, where it touches one
+abbrev pub StayHome : Option Id → Slots → Slots → Type 0
+StayHome None old new = new ≡ old
+StayHome (Some id) old new = StaysHome id old new
 
 -- it is the same lane of as many
 pub record IsSameLane (old new : Lane) : Type 0 where

@@ -1,5 +1,5 @@
 pub mod Lanes
 pub mod Acts
-pub mod Forgotten
+pub mod Marks
 pub mod Laws
 pub use Rattle.object_ids.specs.IdOrder

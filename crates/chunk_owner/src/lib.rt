@@ -1,10 +1,10 @@
-//! The owner of a lane's objects: what one step of a request does to the object that it touches.
+//! The owner of a lane's objects: what one step of a request does to the object that it touches, what a cut adds to a
+//! batch, and a lane made from records.
 #![tactic(auto)]
 
 mod absent;
 #[cfg(test)]
 mod dataset_tests;
-mod forgetting;
 mod laws;
 mod owner;
 mod placing;

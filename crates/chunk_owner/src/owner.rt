@@ -1,32 +1,46 @@
 //! The owner of a lane's objects.
 
-ghost use Rattle.std.specs.Prelude.{◌≡◌, ◌<◌, Some, None, IfSome, OnOk, OnErr, option_map};
-ghost use Rattle.std.specs.FinMap.{empty, get, insert, len};
+ghost use Rattle.std.specs.Prelude.{◌≡◌, ◌<◌, ◌≤◌, ℕ, List, [], Some, None, IfOk, IfErr, IfSome, OnOk, OnErr, option_map};
+ghost use Rattle.std.specs.FinMap.{empty, get, insert};
 ghost use Rattle.std.specs.Option.{option_copied};
 ghost use Rattle.text_maps.specs.Nexts.{IsNext, IsKeyStep};
-ghost use Rattle.object_ids.specs.Ids.{lane_of};
+ghost use Rattle.object_ids.specs.IdValues.{Id};
+ghost use Rattle.object_ids.specs.Ids.{InRange, lane_of};
 ghost use Rattle.object_ids.specs.declared.ids.Kind.TheVariants.{Group};
 ghost use Rattle.object_ops.specs.Answers.{Follows};
 ghost use Rattle.object_ops.specs.Conditions.{IsSoundOp};
-ghost use Rattle.object_acts.specs.Objects.{unmarked, IsOfKind};
+ghost use Rattle.array_acts.specs.Marked.{IsDone};
+ghost use Rattle.object_acts.specs.Objects.{unmarked, IsOfKind, IsTrackedBody};
+ghost use Rattle.object_acts.specs.declared.objects.Object.{Object};
+ghost use Rattle.flush_journal.specs.Batches.{records};
+ghost use Rattle.flush_journal.specs.Records.{Held};
+ghost use Rattle.record_cuts.specs.Cuts.{IsCut};
+ghost use Rattle.object_slots.specs.Marking.{AddsMarks, IsToForget};
+ghost use Rattle.object_slots.specs.Slots.{AreStill, Describes, IsMarked, IsMarkedIn, Says, StillSays};
+ghost use Rattle.object_slots.specs.declared.slot.Mark.TheVariants.{Changed};
+ghost use Rattle.lane_installs.specs.Records.{AreSound, IsFault, IsLeast, MatchFault};
 ghost use Rattle.chunk_owner.specs.Lanes.{AreShown, IsWhole, IsSameLane, Forgets};
 ghost use Rattle.chunk_owner.specs.Acts.{acted, touched, HasFresh, IsStepOf, IsTouchedIn};
+ghost use Rattle.chunk_owner.specs.Marks.{IsStepMark};
 
-use crate::forgetting::forget_in;
 use crate::steps::act_in;
+use flush_journal::{Batch, Recovered};
+use lane_installs::{InstallFault, install};
 use object_acts::Object;
 use object_ids::{IdMap, ObjectId};
 use object_ops::{Grant, Op, Reply, Step};
+use object_slots::{Slot, are_described, cut, forget, next_id, object, put};
 use std::alloc::{AllocError, Global};
 use std::marker::Model;
 
-/// The objects of one lane: those whose ids are of the lane, of so many lanes.
+/// The objects of one lane: those whose ids are of the lane, of so many lanes. Beside them stands what changed since the
+/// last cut.
 #[derive(Drop)]
 pub struct Owner {
     alloc: Global,
     lane: u32,
     lanes: u32,
-    objects: IdMap<Object>,
+    slots: IdMap<Slot>,
 }
 
 impl Model for Owner {
@@ -37,31 +51,73 @@ impl Model for Owner {
     ghost use Rattle.object_ids.specs.contracts.ids.ObjectId as id;
     ghost use Rattle.object_acts.specs.contracts.objects.Object as object;
     ghost use Rattle.object_acts.specs.declared.objects.Object.{Object};
-    ghost use Rattle.chunk_owner.specs.Lanes.{Lane, IsWhole, shown};
+    ghost use Rattle.object_slots.specs.contracts.slot.Slot as slot;
+    ghost use Rattle.object_slots.specs.declared.slot.Slot.{Slot};
+    ghost use Rattle.chunk_owner.specs.Lanes.{AreSlotsOf, Lane, seen_lane};
 
     ghost Value = { Lane };
 
-    ghost coded = { code_by (ℕ × (ℕ × map.FinMap id_order Object))
-        (coded× coded_ℕ (coded× coded_ℕ (map.code id.the_row.coded object.the_row.coded)))
-        (λ l. (l.lane, (l.lanes, l.objects))) (λ p. record { lane = p.0; lanes = p.1.0; objects = p.1.1 }) (λ _. refl) };
+    ghost coded = { code_by (ℕ × (ℕ × (map.FinMap id_order Object × map.FinMap id_order Slot)))
+        (coded× coded_ℕ (coded× coded_ℕ (coded× (map.code id.the_row.coded object.the_row.coded) (map.code id.the_row.coded slot.the_row.coded))))
+        (λ l. (l.lane, (l.lanes, (l.objects, l.slots))))
+        (λ p. record { lane = p.0; lanes = p.1.0; objects = p.1.1.0; slots = p.1.1.1 }) (λ _. refl) };
 
-    ghost view = { λ a. record { lane = a.lane; lanes = a.lanes; objects = shown a.objects } };
+    ghost view = { λ a. seen_lane a.lane a.lanes a.slots };
 
-    ghost invariant = { λ a. IsWhole (record { lane = a.lane; lanes = a.lanes; objects = a.objects }) };
+    ghost invariant = { λ a. AreSlotsOf a.lane a.lanes a.slots };
 }
 
 impl Owner {
     /// A lane without objects. It takes no memory.
     pub fn new(alloc: Global, lane: u32, lanes: u32) -> Owner
         requires { lane < lanes }
-        ensures { result ≡ record { lane = lane; lanes = lanes; objects = empty } }
+        ensures { result ≡ record { lane = lane; lanes = lanes; objects = empty; slots = empty } }
     {
         Owner {
             alloc,
             lane,
             lanes,
-            objects: IdMap::new(alloc),
+            slots: IdMap::new(alloc),
         }
+    }
+
+    /// The objects of a lane of so many, as records describe them beside the kept run and the number that the next domain
+    /// takes. Nothing has changed since they were written.
+    ///
+    /// # Errors
+    ///
+    /// `BadRecord` with the least key of the lane whose record can't stand; or `NoMemory`.
+    pub fn install(
+        alloc: Global,
+        lane: u32,
+        lanes: u32,
+        run: u32,
+        next: u64,
+        kept: &Recovered,
+    ) -> Result<Owner, InstallFault>
+        requires lane { lane < lanes }
+        ensures lane { IfOk result (λ owner. owner.lane ≡ lane) }
+        ensures lanes { IfOk result (λ owner. owner.lanes ≡ lanes) }
+        ensures described { IfOk result (λ owner. (id : Id) → InRange id
+            → lane_of lanes id ≡ lane → Describes kept.now id (get owner.objects id)) }
+        ensures says { IfOk result (λ owner. (id : Id) → InRange id
+            → lane_of lanes id ≡ lane → Says (get owner.slots id) id kept.now) }
+        ensures still { IfOk result (λ owner. AreStill owner.slots) }
+        ensures given { IfOk result (λ owner. (id : Id) (o : Object)
+            → get owner.objects id ≡ Some o → InRange id × (id.run ≤ run) × (id.domain < next)) }
+        ensures rules { IfOk result (λ _. AreSound lanes lane run next kept.now) }
+        ensures faultless { IfOk result (λ _. (key : List ℕ)
+            → IsFault lanes lane run next kept.now key → ⊥) }
+        ensures fault { IfErr result (λ e.
+            MatchFault e (IsLeast (IsFault lanes lane run next kept.now))) }
+    {
+        let slots = install(alloc, lane, lanes, run, next, kept)?;
+        Ok(Owner {
+            alloc,
+            lane,
+            lanes,
+            slots,
+        })
     }
 
     /// That each object is of the lane and of its id's kind, and is seen without marks.
@@ -72,11 +128,12 @@ impl Owner {
         let _lane = self.lane;
     }
 
-    /// How many objects there are.
-    pub fn len(&self) -> usize
-        ensures { result ≡ len self.now.objects }
+    /// That what is held describes the objects, where nothing changed since the last cut.
+    pub fn is_described(&self)
+        ensures { AreStill self.now.slots → (id : Id) (held : Held)
+            → Says (get self.now.slots id) id held → Describes held id (get self.now.objects id) }
     {
-        self.objects.len()
+        are_described(&self.slots);
     }
 
     /// The object of an id.
@@ -84,7 +141,7 @@ impl Owner {
         ensures value { option_map unmarked (option_copied result) ≡ get self.now.objects id.now }
         ensures kind { IfSome (option_copied result) (IsOfKind id.now.kind) }
     {
-        self.objects.get(id)
+        object(&self.slots, id)
     }
 
     /// The least id behind another, or the least of all.
@@ -92,7 +149,7 @@ impl Owner {
         ensures least { IsNext self.now.objects (option_copied after.entry) result }
         ensures step { IsKeyStep self.now.objects (option_copied after.entry) result }
     {
-        self.objects.next_id(after)
+        next_id(&self.slots, after)
     }
 
     /// What one step of a request answers, and what it leaves of the object that it touches. All other objects stay, and
@@ -109,12 +166,15 @@ impl Owner {
         requires root { grant.now.root.kind ≡ Group }
         ensures acts { Follows (acted grant.now op.now step self.old.objects) self.old.objects
             result self.new.objects }
+        ensures says { StillSays self.old.slots self.new.slots }
+        ensures alone { AddsMarks (λ key. IsDone result
+            × IsStepMark grant.now op.now step self.old.slots key) self.old.slots self.new.slots }
         ensures same { IsSameLane self.old self.new }
     {
-        act_in(self.alloc, &mut self.objects, op, step, grant)
+        act_in(self.alloc, &mut self.slots, op, step, grant)
     }
 
-    /// Puts an object at a new id of the lane.
+    /// Puts an object, of whose chunks none was cut, at a new id of the lane.
     ///
     /// # Errors
     ///
@@ -123,18 +183,45 @@ impl Owner {
         requires lane { lane_of self.old.lanes id ≡ self.old.lane }
         requires new { get self.old.objects id ≡ None }
         requires kind { IsOfKind id.kind object }
+        requires fresh { IsTrackedBody (λ _. []) object.body }
         ensures ok { OnOk result (self.new.objects ≡ insert self.old.objects id (unmarked object)) }
         ensures err { OnErr result (self.new.objects ≡ self.old.objects) }
+        ensures says { StillSays self.old.slots self.new.slots }
+        ensures alone { AddsMarks (IsMarkedIn id Changed object.body)
+            self.old.slots self.new.slots }
         ensures same { IsSameLane self.old self.new }
     {
-        self.objects.put(id, object)
+        put(&mut self.slots, id, object)
     }
 
     /// Removes the objects of the domain of a number. It takes no memory.
     pub fn forget(&mut self, number: u64)
         ensures rest { Forgets number self.old.objects self.new.objects }
+        ensures says { StillSays self.old.slots self.new.slots }
+        ensures alone { AddsMarks (IsToForget number (get self.old.slots))
+            self.old.slots self.new.slots }
         ensures same { IsSameLane self.old self.new }
     {
-        forget_in(&mut self.objects, number);
+        forget(&mut self.slots, number);
+    }
+
+    /// Appends the records of what changed since the last cut, and takes it as kept: what is held then says of each id
+    /// what stands there. All objects stay.
+    ///
+    /// # Errors
+    ///
+    /// Only where memory runs out. Then the objects of some first ids are cut, and the records of the next one perhaps in
+    /// part; what was appended stays in the batch, and the marks of what is not cut stay.
+    pub fn cut(&mut self, into: &mut Batch) -> Result<(), AllocError>
+        ensures cut { (base : Held) → IsCut (IsMarked self.old.slots) base
+            (records into.old) (records into.new)
+            (λ held. (id : Id) → InRange id → Says (get self.old.slots id) id base
+            → Says (get self.new.slots id) id held) }
+        ensures still { OnOk result (AreStill self.new.slots) }
+        ensures marks { (key : List ℕ) → IsMarked self.new.slots key → IsMarked self.old.slots key }
+        ensures objects { self.new.objects ≡ self.old.objects }
+        ensures same { IsSameLane self.old self.new }
+    {
+        cut(self.alloc, &mut self.slots, into)
     }
 }

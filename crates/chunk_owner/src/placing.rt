@@ -1,17 +1,23 @@
 //! Objects that are put among others.
 
-ghost use Rattle.std.specs.Prelude.{◌≡◌, ◌↔◌, None, IsTrue};
+ghost use Rattle.std.specs.Prelude.{◌≡◌, [], None};
 ghost use Rattle.std.specs.FinMap.{get};
 ghost use Rattle.object_ops.specs.Answers.{Follows};
 ghost use Rattle.object_ops.specs.Conditions.{IsSoundMake};
-ghost use Rattle.object_acts.specs.Objects.{made, unmarked, IsOfKind};
+ghost use Rattle.array_acts.specs.Marked.{IsDone};
+ghost use Rattle.object_acts.specs.Objects.{made, unmarked, IsOfKind, IsTrackedBody};
 ghost use Rattle.object_ops.specs.Parts.{kind_made};
-ghost use Rattle.chunk_owner.specs.Lanes.{shown, at_id, set_at, AreOfKind};
+ghost use Rattle.record_keys.specs.Keys.{object_key};
+ghost use Rattle.object_slots.specs.Marking.{AddsMarks};
+ghost use Rattle.object_slots.specs.Slots.{AreOfKind, IsMarkedIn, StillSays, objects_of};
+ghost use Rattle.object_slots.specs.declared.slot.Mark.TheVariants.{Changed};
+ghost use Rattle.chunk_owner.specs.Lanes.{at_id, set_at, StaysHome};
 ghost use Rattle.chunk_owner.specs.Acts.{is_done, left, placing};
 
 use object_acts::{Object, object_json};
 use object_ids::{IdMap, ObjectId};
 use object_ops::{Make, Reply};
+use object_slots::{Slot, put};
 use std::alloc::{AllocError, Global};
 
 fn is_done(reply: &Reply) -> bool
@@ -25,43 +31,54 @@ fn is_done(reply: &Reply) -> bool
 
 /// Puts an object at an id that has none, where the answer is that it was done.
 pub(crate) fn put_done(
-    objects: &mut IdMap<Object>,
+    slots: &mut IdMap<Slot>,
     id: ObjectId,
     object: Object,
     reply: Reply,
 ) -> Result<Reply, AllocError>
-    requires absent { get objects.old id ≡ None }
+    requires absent { get (objects_of slots.old) id ≡ None }
     requires kind { IsOfKind id.kind object }
-    requires kinds { AreOfKind objects.old }
+    requires fresh { IsTrackedBody (λ _. []) object.body }
+    requires kinds { AreOfKind slots.old }
     ensures acts { Follows
-        (reply, set_at (shown objects.old) id (left None (reply, unmarked object)).1)
-        (shown objects.old) result (shown objects.new) }
-    ensures kinds { AreOfKind objects.new }
+        (reply, set_at (objects_of slots.old) id (left None (reply, unmarked object)).1)
+        (objects_of slots.old) result (objects_of slots.new) }
+    ensures kinds { AreOfKind slots.new }
+    ensures home { StaysHome id slots.old slots.new }
+    ensures says { StillSays slots.old slots.new }
+    ensures alone { AddsMarks (λ key. IsDone result × IsMarkedIn id Changed object.body key)
+        slots.old slots.new }
 {
     if !is_done(&reply) {
         return Ok(reply);
     }
-    objects.put(id, object)?;
+    put(slots, id, object)?;
     Ok(reply)
 }
 
 /// Makes an object at an id.
 pub(crate) fn make_in(
     alloc: Global,
-    objects: &mut IdMap<Object>,
+    slots: &mut IdMap<Slot>,
     make: &Make,
     id: ObjectId,
     root: &ObjectId,
 ) -> Result<Reply, AllocError>
     requires make { IsSoundMake make.now }
     requires kind { id.kind ≡ kind_made make.now }
-    requires kinds { AreOfKind objects.old }
-    ensures acts { Follows (at_id id (placing id root.now (made make.now)) (shown objects.old))
-        (shown objects.old) result (shown objects.new) }
-    ensures kinds { AreOfKind objects.new }
+    requires new { get (objects_of slots.old) id ≡ None }
+    requires kinds { AreOfKind slots.old }
+    ensures acts { Follows
+        (at_id id (placing id root.now (made make.now)) (objects_of slots.old))
+        (objects_of slots.old) result (objects_of slots.new) }
+    ensures kinds { AreOfKind slots.new }
+    ensures home { StaysHome id slots.old slots.new }
+    ensures says { StillSays slots.old slots.new }
+    ensures alone { AddsMarks (λ key. IsDone result × (key ≡ object_key id))
+        slots.old slots.new }
 {
     let object = Object::new(alloc, make)?;
     let tree = object_json(alloc, &id, root, &object)?;
-    objects.put(id, object)?;
+    put(slots, id, object)?;
     Ok(Reply::with(201, tree))
 }

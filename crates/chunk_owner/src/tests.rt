@@ -197,6 +197,18 @@ fn asked(
     }
 }
 
+/// How many objects there are, up to eight.
+fn held(owner: &Owner) -> usize {
+    let mut last = None;
+    for ids in 0..8 {
+        let Some(id) = owner.next_id(last.as_ref()) else {
+            return ids;
+        };
+        last = Some(id);
+    }
+    8
+}
+
 /// Puts an empty group.
 fn put(
     rt: &(impl Abort + AllocGlobal),
@@ -287,7 +299,7 @@ fn objects_are_made_and_removed(rt: HostRuntime) -> Result<(), AllocError> {
         let got = asked(&rt, &mut owner, ask, next)?;
         assert!(rt; got.as_str() == want, "{got}");
     }
-    assert_eq!(rt; owner.len(), 3);
+    assert_eq!(rt; held(&owner), 3);
     Ok(())
 }
 
@@ -448,7 +460,7 @@ fn links_of_a_root_that_is_not_held(rt: HostRuntime) -> Result<(), AllocError> {
     ] {
         let got = asked_of_links(&rt, &mut owner, ask, serial)?;
         assert!(rt; got.as_str() == want, "{got}");
-        assert_eq!(rt; owner.len(), count);
+        assert_eq!(rt; held(&owner), count);
     }
     Ok(())
 }
@@ -499,7 +511,7 @@ fn attributes_of_a_root_that_is_not_held(rt: HostRuntime) -> Result<(), AllocErr
     ] {
         let got = asked_of_attributes(&rt, &mut owner, ask, serial)?;
         assert!(rt; got.as_str() == want, "{got}");
-        assert_eq!(rt; owner.len(), count);
+        assert_eq!(rt; held(&owner), count);
     }
     Ok(())
 }
@@ -565,7 +577,7 @@ fn ids_come_in_order_and_a_domain_is_forgotten(rt: HostRuntime) -> Result<(), Al
     assert!(rt; owner.next_id(last.as_ref()).is_none());
     for (number, count) in [(4u64, 5usize), (1, 2), (1, 2), (3, 1), (2, 0)] {
         owner.forget(number);
-        assert_eq!(rt; owner.len(), count);
+        assert_eq!(rt; held(&owner), count);
     }
     Ok(())
 }

@@ -4,11 +4,12 @@ use Rattle.std.specs.Cmp.{Equal-is}
 use Rattle.std.specs.Cmp.Lexicographic.{nat_list_cmp_total}
 use Rattle.std.specs.FinMap.{entries, entries_sorted, find, get, get-entries, get-from_entries, is_sorted, same_map}
 use Rattle.std.specs.FinMap.Entries.{below_all, find-append}
-use Rattle.std.specs.Ordering.{eq_by_cmp, is_lt, ordering_reverse}
+use Rattle.std.specs.Ordering.{eq_by_cmp, is_lt}
 use Rattle.std.proofs.lemmas.Cmp.{tied_itself}
 use Rattle.text_maps.specs.Keyed.{text_order}
 use Rattle.text_maps.proofs.KeyedMaps.{exact_texts}
 use Rattle.flush_journal.specs.Records.{Held, Record}
+use Rattle.object_records.proofs.ListLemmas.{greater}
 use Rattle.object_slots.proofs.Passing.{by_bool, contrary}
 use Rattle.lane_installs.specs.Walks.{held_by}
 
@@ -50,9 +51,6 @@ less Greater p = absurd p
 pub below_part : (q : List ℕ) (xs : List Record) (e : Record) (ys : List Record) → T (below_all text_order q (xs ++ e ∷ ys)) → text_order q e.0 ≡ Less
 below_part q [] e ys h = less _ (first _ _ h)
 below_part q (x ∷ xs) e ys h = below_part q xs e ys (second (is_lt (text_order q x.0)) _ h)
-
-greater : (x y : List ℕ) → text_order x y ≡ Less → eq_by_cmp text_order y x ≡ false
-greater x y e = ap is_eq (nat_list_cmp_total.antisymm y x ∙ ap ordering_reverse e)
 
 -- no record in front has the key of a later one
 fresh : (front : List Record) (e : Record) (rest : List Record) → T (is_sorted text_order (front ++ e ∷ rest)) → find text_order e.0 front ≡ None

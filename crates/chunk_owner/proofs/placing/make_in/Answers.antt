@@ -1,23 +1,40 @@
-use Rattle.std.proofs.Common.{sym, ap, subst, ◌∙◌}
+use Rattle.std.proofs.Common.{◌≡◌, true, sym, ap, subst, ◌∙◌}
 use Rattle.std.specs.FinMap.{insert}
 use Rattle.object_ids.specs.declared.ids.Kind.{Kind}
 use Rattle.object_ops.specs.declared.replies.Reply.TheVariants.{Done}
-use Rattle.object_acts.specs.Objects.{made, IsOfKind}
-use Rattle.chunk_owner.specs.Lanes.{shown}
-use Rattle.chunk_owner.proofs.AtIds.{object_tree-unmarked, shown-insert}
-use Rattle.chunk_owner.proofs.Eaches.{KindAt, each_put, each_same}
+use Rattle.array_acts.specs.Marked.{was_done}
+use Rattle.object_acts.specs.Objects.{made, unmarked, IsOfKind}
+use Rattle.record_keys.specs.Keys.{object_key}
+use Rattle.object_slots.specs.declared.slot.Mark.TheVariants.{Changed}
+use Rattle.object_slots.specs.Slots.{IsMarkedIn, objects_of}
+use Rattle.object_slots.proofs.Marks.{adds_more}
+use Rattle.object_slots.proofs.Standing.{get-objects_of, objects-insert}
+use Rattle.chunk_owner.proofs.AtIds.{object_tree-unmarked}
+use Rattle.chunk_owner.proofs.LaneLemmas.{home_others}
+use Rattle.chunk_owner.proofs.MarkLemmas.{new_mark}
 use Rattle.chunk_owner.proofs.placing.make_in.Goals as goal
 
-pub returns-in_err-put-clause-kinds : goal.returns-in_err-put-clause-kinds
-returns-in_err-put-clause-kinds c = each_same KindAt c.args.objects.now c.put.new.self c.in_err-put.ensures.err c.requires.kinds
+pub put-requires-clause-new : goal.put-requires-clause-new
+put-requires-clause-new c = sym (get-objects_of c.args.slots.now c.args.id) ∙ c.requires.new
+
+pub put-requires-clause-kind : goal.put-requires-clause-kind
+put-requires-clause-kind c = subst (λ (k : Kind). IsOfKind k c.in_ok-object.object) (sym c.requires.kind) c.in_ok-object.ensures.kind
+
+pub returns-in_err-put-clause-home : goal.returns-in_err-put-clause-home
+returns-in_err-put-clause-home c = home_others c.args.slots.now c.put.new.slots c.args.id c.in_err-put.ensures.others
 
 pub returns-clause-acts : goal.returns-clause-acts
 returns-clause-acts c = (
   c.with.ensures ∙ ap (Done 201) (c.in_ok-tree.ensures ∙ object_tree-unmarked c.args.id c.args.root.now c.in_ok-object.object (made c.args.make.now) c.in_ok-object.ensures.made),
-  shown-insert c.args.objects.now c.put.new.self c.args.id c.in_ok-object.object c.in_ok-put.ensures.ok ∙ ap (insert (shown c.args.objects.now) c.args.id) c.in_ok-object.ensures.made,
+  objects-insert c.args.slots.now c.put.new.slots c.args.id (unmarked c.in_ok-object.object) c.in_ok-put.ensures.there c.in_ok-put.ensures.others
+      ∙ ap (insert (objects_of c.args.slots.now) c.args.id) c.in_ok-object.ensures.made,
 )
 
-pub returns-clause-kinds : goal.returns-clause-kinds
-returns-clause-kinds c =
-    each_put KindAt c.args.objects.now c.put.new.self c.args.id c.in_ok-object.object c.in_ok-put.ensures.ok
-    (subst (λ (k : Kind). IsOfKind k c.in_ok-object.object) (sym c.requires.kind) c.in_ok-object.ensures.kind) c.requires.kinds
+pub returns-clause-home : goal.returns-clause-home
+returns-clause-home c = home_others c.args.slots.now c.put.new.slots c.args.id c.in_ok-put.ensures.others
+
+pub returns-clause-alone : goal.returns-clause-alone
+returns-clause-alone c =
+    let new = c.in_ok-object.object in
+    adds_more (IsMarkedIn c.args.id Changed new.body) c.args.slots.now c.put.new.slots (λ key. (was_done c.with.result ≡ true) × (key ≡ object_key c.args.id))
+    (λ key marked. (ap was_done c.with.ensures, new_mark c.args.id new.body key c.in_ok-object.ensures.still marked)) c.in_ok-put.ensures.alone

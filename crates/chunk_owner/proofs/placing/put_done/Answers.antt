@@ -1,23 +1,29 @@
 use Rattle.std.proofs.Common.{refl, sym, ◌∙◌}
 use Rattle.object_acts.specs.Objects.{unmarked}
+use Rattle.object_slots.specs.Slots.{objects_of}
+use Rattle.object_slots.proofs.Standing.{get-objects_of, objects-insert}
 use Rattle.chunk_owner.proofs.AtIds.{puts_done, puts_refused}
-use Rattle.chunk_owner.proofs.Eaches.{KindAt, each_put, each_same}
+use Rattle.chunk_owner.proofs.LaneLemmas.{home_others}
 use Rattle.chunk_owner.proofs.placing.put_done.Goals as goal
 
 pub returns-then-not-is_done-clause-acts : goal.returns-then-not-is_done-clause-acts
 returns-then-not-is_done-clause-acts c = (
   refl,
-  puts_refused c.args.objects.now c.args.id (unmarked c.args.object) c.args.reply c.requires.absent (sym c.is_done.ensures ∙ c.if-not-is_done.true),
+  puts_refused (objects_of c.args.slots.now) c.args.id (unmarked c.args.object) c.args.reply c.requires.absent (sym c.is_done.ensures ∙ c.if-not-is_done.true),
 )
 
-pub returns-in_err-put-clause-kinds : goal.returns-in_err-put-clause-kinds
-returns-in_err-put-clause-kinds c = each_same KindAt c.args.objects.now c.put.new.self c.in_err-put.ensures.err c.requires.kinds
+pub put-requires-clause-new : goal.put-requires-clause-new
+put-requires-clause-new c = sym (get-objects_of c.args.slots.now c.args.id) ∙ c.requires.absent
+
+pub returns-in_err-put-clause-home : goal.returns-in_err-put-clause-home
+returns-in_err-put-clause-home c = home_others c.args.slots.now c.put.new.slots c.args.id c.in_err-put.ensures.others
 
 pub returns-clause-acts : goal.returns-clause-acts
 returns-clause-acts c = (
   refl,
-  puts_done c.args.objects.now c.put.new.self c.args.id c.args.object c.args.reply c.in_ok-put.ensures.ok (sym c.is_done.ensures ∙ c.if-not-is_done.false),
+  puts_done (objects_of c.args.slots.now) (objects_of c.put.new.slots) c.args.id (unmarked c.args.object) c.args.reply
+      (objects-insert c.args.slots.now c.put.new.slots c.args.id (unmarked c.args.object) c.in_ok-put.ensures.there c.in_ok-put.ensures.others) (sym c.is_done.ensures ∙ c.if-not-is_done.false),
 )
 
-pub returns-clause-kinds : goal.returns-clause-kinds
-returns-clause-kinds c = each_put KindAt c.args.objects.now c.put.new.self c.args.id c.args.object c.in_ok-put.ensures.ok c.requires.kind c.requires.kinds
+pub returns-clause-home : goal.returns-clause-home
+returns-clause-home c = home_others c.args.slots.now c.put.new.slots c.args.id c.in_ok-put.ensures.others

@@ -1,20 +1,25 @@
-use Rattle.std.proofs.Common.{refl, sym, ◌∙◌}
+use Rattle.std.proofs.Common.{is_some, sym, ap, ◌∙◌}
 use Rattle.object_acts.specs.Acts.{change_of}
-use Rattle.chunk_owner.specs.Lanes.{shown}
-use Rattle.chunk_owner.proofs.AtIds.{changed_there, changes_foreign}
-use Rattle.chunk_owner.proofs.Eaches.{KindAt, each_insert}
+use Rattle.object_slots.specs.Slots.{objects_of}
+use Rattle.object_slots.proofs.Standing.{get-objects_of}
+use Rattle.chunk_owner.proofs.AtIds.{changes_held, changes_foreign}
+use Rattle.chunk_owner.proofs.LaneLemmas.{home_same_ids, not_held}
 use Rattle.chunk_owner.proofs.touching.change_in.Goals as goal
 
 pub returns-then-not-is_own-clause-acts : goal.returns-then-not-is_own-clause-acts
 returns-then-not-is_own-clause-acts c =
-    changes_foreign c.args.grant.now c.args.id.now (change_of c.args.op.now) (shown c.args.objects.now) _ (sym c.is_own.ensures ∙ c.if-not-is_own.true) c.missing.ensures
+    changes_foreign c.args.grant.now c.args.id.now (change_of c.args.op.now) (objects_of c.args.slots.now) _ (sym c.is_own.ensures ∙ c.if-not-is_own.true) c.missing.ensures
 
-pub returns-in-Some-clause-acts : goal.returns-in-Some-clause-acts
-returns-in-Some-clause-acts c =
-    changed_there c.args.grant.now c.args.id.now (change_of c.args.op.now) c.args.objects.now _ c.in-Some.object.now c.change.new.object c.change.result
-    (sym c.is_own.ensures ∙ c.if-not-is_own.false) (sym c.in-Some.ensures.value) refl c.change.ensures.acts
+pub change_absent-requires-clause-absent : goal.change_absent-requires-clause-absent
+change_absent-requires-clause-absent c = not_held c.args.slots.now c.args.id.now (sym c.is_held.ensures ∙ c.if-not-is_held.true)
 
-pub returns-in-Some-clause-kinds : goal.returns-in-Some-clause-kinds
-returns-in-Some-clause-kinds c =
-    each_insert KindAt c.args.objects.now c.args.id.now c.change.new.object
-    (c.change.ensures.kind c.args.id.now.kind (c.requires.kinds c.args.id.now c.in-Some.object.now (sym c.in-Some.ensures.value))) c.requires.kinds
+pub change_at-requires-clause-held : goal.change_at-requires-clause-held
+change_at-requires-clause-held c = sym c.is_held.ensures ∙ c.if-not-is_held.false
+
+pub returns-clause-acts : goal.returns-clause-acts
+returns-clause-acts c =
+    changes_held c.args.grant.now c.args.id.now (change_of c.args.op.now) (objects_of c.args.slots.now) (objects_of c.change_at.new.slots) c.change_at.result
+    (sym c.is_own.ensures ∙ c.if-not-is_own.false) (ap is_some (get-objects_of c.args.slots.now c.args.id.now) ∙ sym c.is_held.ensures ∙ c.if-not-is_held.false) c.change_at.ensures.acts
+
+pub returns-clause-home : goal.returns-clause-home
+returns-clause-home c = home_same_ids c.args.slots.now c.change_at.new.slots c.args.id.now c.change_at.ensures.same_ids

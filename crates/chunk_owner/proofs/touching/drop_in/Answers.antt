@@ -1,47 +1,47 @@
-use Rattle.std.proofs.Common.{sym, ◌∙◌}
-use Rattle.chunk_owner.specs.Lanes.{shown}
-use Rattle.chunk_owner.proofs.AtIds.{drops_absent, drops_foreign, drops_root, drops_there}
-use Rattle.chunk_owner.proofs.Eaches.{KindAt, each_gone}
+use Rattle.std.proofs.Common.{is_some, sym, ap, ◌∙◌}
+use Rattle.object_slots.specs.Slots.{objects_of}
+use Rattle.object_slots.proofs.Standing.{get-objects_of, objects-remove}
+use Rattle.chunk_owner.proofs.AtIds.{drops_absent, drops_foreign, drops_held, drops_root}
+use Rattle.chunk_owner.proofs.LaneLemmas.{home_same_ids, not_held}
 use Rattle.chunk_owner.proofs.touching.drop_in.Goals as goal
 
 pub returns-then-not-is_own-clause-reply : goal.returns-then-not-is_own-clause-reply
 returns-then-not-is_own-clause-reply c =
-    (drops_foreign c.args.grant.now c.args.id.now (shown c.args.objects.now) _ (sym c.is_own.ensures ∙ c.if-not-is_own.true) c.missing.ensures).0
+    (drops_foreign c.args.grant.now c.args.id.now (objects_of c.args.slots.now) _ (sym c.is_own.ensures ∙ c.if-not-is_own.true) c.missing.ensures).0
 
 pub returns-then-not-is_own-clause-rest : goal.returns-then-not-is_own-clause-rest
 returns-then-not-is_own-clause-rest c =
-    (drops_foreign c.args.grant.now c.args.id.now (shown c.args.objects.now) _ (sym c.is_own.ensures ∙ c.if-not-is_own.true) c.missing.ensures).1
+    (drops_foreign c.args.grant.now c.args.id.now (objects_of c.args.slots.now) _ (sym c.is_own.ensures ∙ c.if-not-is_own.true) c.missing.ensures).1
 
 pub returns-then-is_root-clause-reply : goal.returns-then-is_root-clause-reply
 returns-then-is_root-clause-reply c =
-    (drops_root c.args.grant.now c.args.id.now (shown c.args.objects.now) (sym c.is_own.ensures ∙ c.if-not-is_own.false) (sym c.is_root.ensures ∙ c.if-is_root.true)).0
+    (drops_root c.args.grant.now c.args.id.now (objects_of c.args.slots.now) (sym c.is_own.ensures ∙ c.if-not-is_own.false) (sym c.is_root.ensures ∙ c.if-is_root.true)).0
 
 pub returns-then-is_root-clause-rest : goal.returns-then-is_root-clause-rest
 returns-then-is_root-clause-rest c =
-    (drops_root c.args.grant.now c.args.id.now (shown c.args.objects.now) (sym c.is_own.ensures ∙ c.if-not-is_own.false) (sym c.is_root.ensures ∙ c.if-is_root.true)).1
+    (drops_root c.args.grant.now c.args.id.now (objects_of c.args.slots.now) (sym c.is_own.ensures ∙ c.if-not-is_own.false) (sym c.is_root.ensures ∙ c.if-is_root.true)).1
 
-pub returns-in_default-clause-reply : goal.returns-in_default-clause-reply
-returns-in_default-clause-reply c =
-    (drops_absent c.args.grant.now c.args.id.now c.args.objects.now c.remove.new.self _ (sym c.is_own.ensures ∙ c.if-not-is_own.false) (sym c.is_root.ensures ∙ c.if-is_root.false)
-    (sym c.in_default.ensures.value) c.remove.ensures.rest c.missing-in_default.ensures).0
+pub returns-then-not-is_held-clause-reply : goal.returns-then-not-is_held-clause-reply
+returns-then-not-is_held-clause-reply c =
+    (drops_absent c.args.grant.now c.args.id.now (objects_of c.args.slots.now) _ (sym c.is_own.ensures ∙ c.if-not-is_own.false) (sym c.is_root.ensures ∙ c.if-is_root.false)
+    (not_held c.args.slots.now c.args.id.now (sym c.is_held.ensures ∙ c.if-not-is_held.true)) c.missing-then-not-is_held.ensures).0
 
-pub returns-in_default-clause-rest : goal.returns-in_default-clause-rest
-returns-in_default-clause-rest c =
-    (drops_absent c.args.grant.now c.args.id.now c.args.objects.now c.remove.new.self _ (sym c.is_own.ensures ∙ c.if-not-is_own.false) (sym c.is_root.ensures ∙ c.if-is_root.false)
-    (sym c.in_default.ensures.value) c.remove.ensures.rest c.missing-in_default.ensures).1
-
-pub returns-in_default-clause-kinds : goal.returns-in_default-clause-kinds
-returns-in_default-clause-kinds c = each_gone KindAt c.args.objects.now c.remove.new.self c.args.id.now c.remove.ensures.rest c.requires
+pub returns-then-not-is_held-clause-rest : goal.returns-then-not-is_held-clause-rest
+returns-then-not-is_held-clause-rest c =
+    (drops_absent c.args.grant.now c.args.id.now (objects_of c.args.slots.now) _ (sym c.is_own.ensures ∙ c.if-not-is_own.false) (sym c.is_root.ensures ∙ c.if-is_root.false)
+    (not_held c.args.slots.now c.args.id.now (sym c.is_held.ensures ∙ c.if-not-is_held.true)) c.missing-then-not-is_held.ensures).1
 
 pub returns-clause-reply : goal.returns-clause-reply
 returns-clause-reply c =
-    (drops_there c.args.grant.now c.args.id.now c.args.objects.now c.remove.new.self c.in-Some.field-0 _ (sym c.is_own.ensures ∙ c.if-not-is_own.false) (sym c.is_root.ensures ∙ c.if-is_root.false)
-    (sym c.in-Some.ensures.value) c.remove.ensures.rest c.done.ensures).0
+    (drops_held c.args.grant.now c.args.id.now (objects_of c.args.slots.now) (objects_of c.remove.new.slots) _ (sym c.is_own.ensures ∙ c.if-not-is_own.false) (sym c.is_root.ensures ∙ c.if-is_root.false)
+    (ap is_some (get-objects_of c.args.slots.now c.args.id.now) ∙ sym c.is_held.ensures ∙ c.if-not-is_held.false)
+    (objects-remove c.args.slots.now c.remove.new.slots c.args.id.now c.remove.ensures.gone c.remove.ensures.others) c.done.ensures).0
 
 pub returns-clause-rest : goal.returns-clause-rest
 returns-clause-rest c =
-    (drops_there c.args.grant.now c.args.id.now c.args.objects.now c.remove.new.self c.in-Some.field-0 c.done.result (sym c.is_own.ensures ∙ c.if-not-is_own.false) (sym c.is_root.ensures ∙ c.if-is_root.false)
-    (sym c.in-Some.ensures.value) c.remove.ensures.rest c.done.ensures).1
+    (drops_held c.args.grant.now c.args.id.now (objects_of c.args.slots.now) (objects_of c.remove.new.slots) c.done.result (sym c.is_own.ensures ∙ c.if-not-is_own.false) (sym c.is_root.ensures ∙ c.if-is_root.false)
+    (ap is_some (get-objects_of c.args.slots.now c.args.id.now) ∙ sym c.is_held.ensures ∙ c.if-not-is_held.false)
+    (objects-remove c.args.slots.now c.remove.new.slots c.args.id.now c.remove.ensures.gone c.remove.ensures.others) c.done.ensures).1
 
-pub returns-clause-kinds : goal.returns-clause-kinds
-returns-clause-kinds c = each_gone KindAt c.args.objects.now c.remove.new.self c.args.id.now c.remove.ensures.rest c.requires
+pub returns-clause-home : goal.returns-clause-home
+returns-clause-home c = home_same_ids c.args.slots.now c.remove.new.slots c.args.id.now c.remove.ensures.same_ids

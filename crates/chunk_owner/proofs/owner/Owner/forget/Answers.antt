@@ -1,14 +1,20 @@
 use Rattle.std.proofs.Common.{subst}
-use Rattle.chunk_owner.specs.Lanes.{Forgets, Lane, StandsIn, shown}
-use Rattle.chunk_owner.proofs.ForgetLemmas.{each_forgotten, forgets_shown}
+use Rattle.object_slots.specs.Slots.{StillSays, objects_of}
+use Rattle.chunk_owner.specs.Lanes.{Forgets, Lane}
+use Rattle.chunk_owner.proofs.LaneLemmas.{forgets_objects, slots_still}
 use Rattle.chunk_owner.proofs.owner.Owner.forget.Goals as goal
 
+pub forget-requires : goal.forget-requires
+forget-requires c = c.self.invariant.kinds
+
 pub invariant_of-self : goal.invariant_of-self
-invariant_of-self c = record {
-  lane = c.self.invariant.lane;
-  own = each_forgotten (StandsIn c.self.inside.lane c.self.inside.lanes) c.args.number c.self.inside.objects c.forget_in.new.objects c.forget_in.ensures c.self.invariant.own;
-}
+invariant_of-self c =
+    slots_still c.self.inside.lane c.self.inside.lanes c.self.inside.slots c.forget.new.slots c.forget.ensures.same_ids c.forget.ensures.kinds c.self.invariant
 
 pub returns-clause-rest : goal.returns-clause-rest
 returns-clause-rest c =
-    subst (λ (l : Lane). Forgets c.args.number l.objects (shown c.forget_in.new.objects)) c.self.view_is (forgets_shown c.args.number c.self.inside.objects c.forget_in.new.objects c.forget_in.ensures)
+    subst (λ (l : Lane). Forgets c.args.number l.objects (objects_of c.forget.new.slots)) c.self.view_is
+    (forgets_objects c.args.number c.self.inside.slots c.forget.new.slots c.forget.ensures.rest)
+
+pub returns-clause-says : goal.returns-clause-says
+returns-clause-says c = subst (λ (l : Lane). StillSays l.slots c.forget.new.slots) c.self.view_is c.forget.ensures.says

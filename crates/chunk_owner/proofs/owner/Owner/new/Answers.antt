@@ -1,19 +1,14 @@
-use Rattle.std.proofs.Common.{◌≡◌, sym, ap, subst, ◌∙◌}
+use Rattle.std.proofs.Common.{◌≡◌, ap, ◌∙◌}
 use Rattle.std.specs.FinMap.{empty}
-use Rattle.text_maps.proofs.ValueMaps.{empty-values}
-use Rattle.object_ids.proofs.IdOrders.{id_order_once, id_order_total}
-use Rattle.object_acts.specs.Objects.{unmarked}
-use Rattle.chunk_owner.specs.Lanes.{Objects, Each, StandsIn, shown}
-use Rattle.chunk_owner.proofs.Eaches.{each_empty}
+use Rattle.object_slots.specs.Slots.{objects_of}
+use Rattle.object_slots.proofs.Standing.{objects-empty}
+use Rattle.chunk_owner.proofs.LaneLemmas.{slots_empty}
 use Rattle.chunk_owner.proofs.owner.Owner.new.Goals as goal
 
 pub invariant_of-result : goal.invariant_of-result
-invariant_of-result c = record {
-  lane = c.requires;
-  own = subst (λ (m : Objects). Each (StandsIn c.args.lane c.args.lanes) m) (sym c.new.ensures) (each_empty (StandsIn c.args.lane c.args.lanes));
-}
+invariant_of-result c = slots_empty c.args.lane c.args.lanes c.new.result c.new.ensures c.requires
 
 pub returns : goal.returns
 returns c =
-    let no_object : shown c.new.result ≡ empty = ap shown c.new.ensures ∙ empty-values id_order_total id_order_once unmarked in
-    λ i. record { lane = c.args.lane; lanes = c.args.lanes; objects = no_object i }
+    let none : objects_of c.new.result ≡ empty = ap objects_of c.new.ensures ∙ objects-empty in
+    λ i. record { lane = c.args.lane; lanes = c.args.lanes; objects = none i; slots = c.new.ensures i }

@@ -1,0 +1,28 @@
+use Rattle.std.proofs.Common.{◌≡◌, subst}
+use Rattle.std.specs.FinMap.{get}
+use Rattle.object_ids.specs.IdValues.{Id}
+use Rattle.object_ids.specs.Ids.{InRange}
+use Rattle.flush_journal.specs.Batches.{records}
+use Rattle.flush_journal.specs.Records.{Held}
+use Rattle.record_cuts.specs.Cuts.{IsCut}
+use Rattle.object_slots.specs.Slots.{IsMarked, Says, objects_of}
+use Rattle.chunk_owner.specs.Lanes.{Lane}
+use Rattle.object_slots.proofs.Standing.{objects-same}
+use Rattle.chunk_owner.proofs.LaneLemmas.{cut_ids, slots_still}
+use Rattle.chunk_owner.proofs.owner.Owner.cut.Goals as goal
+
+pub cut-requires : goal.cut-requires
+cut-requires c = c.self.invariant.kinds
+
+pub invariant_of-self : goal.invariant_of-self
+invariant_of-self c =
+    slots_still c.self.inside.lane c.self.inside.lanes c.self.inside.slots c.cut.new.slots (cut_ids c.self.inside.slots c.cut.new.slots c.cut.ensures.each) c.cut.ensures.kinds c.self.invariant
+
+pub returns-clause-cut : goal.returns-clause-cut
+returns-clause-cut c =
+    subst (λ (l : Lane). (base : Held) → IsCut (IsMarked l.slots) base (records c.args.into.now) (records c.cut.new.into)
+    (λ held. (id : Id) → InRange id → Says (get l.slots id) id base → Says (get c.cut.new.slots id) id held)) c.self.view_is c.cut.ensures.cut
+
+pub returns-clause-objects : goal.returns-clause-objects
+returns-clause-objects c =
+    subst (λ (l : Lane). objects_of c.cut.new.slots ≡ l.objects) c.self.view_is (objects-same c.self.inside.slots c.cut.new.slots c.cut.ensures.same)
