@@ -1,14 +1,13 @@
 -- Places and tickets that were given don't matter to what is answered.
 use Rattle.std.proofs.Common.{◌≡◌, ℕ, ◌+◌, nat_lt, Bool, true, false, cond, List, [], ◌∷◌, map, Option, Some, None, refl, ap, sym, subst, ◌∙◌}
 use Rattle.std.specs.FinMap.{get}
-use Rattle.serde_json.specs.Data.{Data}
 use Rattle.object_ids.specs.IdValues.{Id}
 use Rattle.object_ids.specs.declared.limits.LimitKind.TheVariants as limit
 use Rattle.access_lists.specs.declared.people.Caller.{Caller}
 use Rattle.access_lists.specs.declared.rights.Rights.{Rights}
 use Rattle.access_lists.specs.InForce.{has}
 use Rattle.domains.specs.Changes.{domain_fault, entry_fault, make_fault, new_domain, remove_fault, without_node}
-use Rattle.domains.specs.Contents.{Contents, with_node}
+use Rattle.domains.specs.Contents.{Contents}
 use Rattle.domains.specs.NodeTrees.{node_tree}
 use Rattle.domains.specs.declared.classes.Node.{Node}
 use Rattle.domains.specs.declared.classes.NodeClass.{NodeClass}
@@ -19,24 +18,22 @@ use Rattle.object_ops.specs.Needs.{decided_at, right_for}
 use Rattle.object_ops.specs.Parts.{id_of, kind_made}
 use Rattle.object_ops.specs.declared.grants.Grant.{Grant}
 use Rattle.object_ops.specs.declared.ops.LinkPlace.{LinkPlace}
-use Rattle.object_ops.specs.declared.ops.Make.{Make}
 use Rattle.object_ops.specs.declared.ops.Op.{Op}
 use Rattle.object_ops.specs.declared.ops.Op.TheVariants.{GetNode, PutNode, Flush, DropNode, ListNodes, GetAcls, GetAcl, PutAcl, MakeObject}
 use Rattle.object_ops.specs.declared.ops.Request.{Request}
-use Rattle.object_ops.specs.declared.refusals.Refusal.{Refusal}
 use Rattle.object_ops.specs.declared.refusals.Refusal.TheVariants.{Limit, NoDomain}
 use Rattle.object_ops.specs.declared.replies.Reply.{Reply}
 use Rattle.object_ops.specs.declared.replies.Reply.TheVariants.{Done}
 use Rattle.chunk_owner.specs.Lanes.{Objects}
-use Rattle.register.specs.Decided.{Door, at_maybe, decided, domain_made, entry_put, entry_read, fits, folder_made, foreign_in, forgotten, granted, in_domain, make_steps, most_of, node_made, node_removed, object_granted, one_step, owner_of, passed, refused, serial_limit}
+use Rattle.register.specs.Decided.{Door, at_maybe, changed_at, decided, domain_added, domain_made, entry_put, entry_read, fits, folder_made, foreign_in, forgotten, granted, in_domain, make_steps, most_of, node_made, node_removed, object_granted, one_step, owner_of, passed, refused, serial_limit}
 use Rattle.register.specs.Tickets.{Issue}
-use Rattle.register.specs.declared.tickets.Turn.{Turn}
 use Rattle.register.specs.declared.verdicts.Verdict.{Verdict}
 use Rattle.register.specs.declared.verdicts.Verdict.TheVariants as verdict
 use Rattle.service_core.specs.declared.answers.What.{What}
 use Rattle.service_core.specs.declared.answers.What.TheVariants.{Replied}
 use Rattle.service_core.specs.Laws.{AreAlike, ReplaysAlike, StepsAlike}
-use Rattle.service_core.specs.Steps.{World, by_verdict, replay, served, started, step, without_domain}
+use Rattle.service_core.specs.Steps.{World, by_verdict, served, started, step, without_domain}
+use Rattle.register.specs.Marks.{Marked}
 use Rattle.service_core.proofs.TurnLemmas.{run_by_steps, run_steps}
 
 -- what is granted is served by its grant and its steps alone
@@ -52,10 +49,10 @@ record IsAlike (op : Op) (a b : Verdict × Door) : Type 0 where
   pub run : b.1.run ≡ a.1.run
   pub serial : b.1.serial ≡ a.1.serial
 
--- a register with other places and tickets
-module _ (d : Door) (places : ℕ) (issued : List ℕ) where
+-- a register with other places, tickets and marks
+module _ (d : Door) (places : ℕ) (issued : List ℕ) (marks : Marked) where
   abbrev e : Door
-  e = record d { places = places; issued = issued }
+  e = record d { places = places; issued = issued; marks = marks }
 
   -- the same verdict
   same : (op : Op) (v : Verdict) (x y : Door) → y.catalogue ≡ x.catalogue → y.run ≡ x.run → y.serial ≡ x.serial → IsAlike op (v, x) (v, y)
@@ -83,8 +80,8 @@ module _ (d : Door) (places : ℕ) (issued : List ℕ) where
   new_domain_alike : (op : Op) (path owner : List ℕ) (few : Bool) → let node = new_domain d.catalogue.next d.run d.serial owner in
       let full : Verdict = verdict.Refused (Limit (most_of limit.Serial) limit.Serial) in
       IsAlike op
-      (cond few (verdict.Answered (Done 201 (node_tree node)), record (passed d) { catalogue = with_node d.catalogue path node; serial = d.serial + 1 }) (full, passed d))
-      (cond few (verdict.Answered (Done 201 (node_tree node)), record (passed e) { catalogue = with_node d.catalogue path node; serial = d.serial + 1 }) (full, passed e))
+      (cond few (verdict.Answered (Done 201 (node_tree node)), passed (domain_added d path owner)) (full, passed d))
+      (cond few (verdict.Answered (Done 201 (node_tree node)), passed (domain_added e path owner)) (full, passed e))
   new_domain_alike op path owner true = same op _ _ _ refl refl refl
   new_domain_alike op path owner false = same_here op _
 
@@ -96,12 +93,12 @@ module _ (d : Door) (places : ℕ) (issued : List ℕ) where
   node_alike op caller path true = folder_alike op path (owner_of caller) (make_fault d.catalogue path)
   node_alike op caller path false = domain_alike op path (owner_of caller) (domain_fault d.catalogue path)
 
-  drop_alike : (c : Contents) (class : NodeClass) → IsAlike DropNode (forgotten (record d { catalogue = c }) class) (forgotten (record e { catalogue = c }) class)
-  drop_alike c Folder = same DropNode _ _ _ refl refl refl
-  drop_alike c (Domain number root) = record { obeyed = λ m. refl; catalogue = refl; run = refl; serial = refl }
+  drop_alike : (path : List ℕ) (c : Contents) (class : NodeClass) → IsAlike DropNode (forgotten (changed_at d path c) class) (forgotten (changed_at e path c) class)
+  drop_alike path c Folder = same DropNode _ _ _ refl refl refl
+  drop_alike path c (Domain number root) = record { obeyed = λ m. refl; catalogue = refl; run = refl; serial = refl }
 
   removed_alike : (path : List ℕ) (class : NodeClass) (fault : Option CatFault) → IsAlike DropNode (node_removed d path class fault) (node_removed e path class fault)
-  removed_alike path class None = drop_alike (without_node d.catalogue path) class
+  removed_alike path class None = drop_alike path (without_node d.catalogue path) class
   removed_alike path class (Some fault) = same_here DropNode _
 
   read_alike : (op : Op) (name : List ℕ) (rights : Option Rights) → IsAlike op (entry_read d name rights) (entry_read e name rights)
@@ -171,12 +168,12 @@ module _ (d : Door) (places : ℕ) (issued : List ℕ) where
 
 pub steps_alike : StepsAlike
 steps_alike w v caller request alike =
-    let other : World = record { door = record w.door { places = v.door.places; issued = v.door.issued }; objects = w.objects } in
+    let other : World = record { door = record w.door { places = v.door.places; issued = v.door.issued; marks = v.door.marks }; objects = w.objects } in
     let is : v ≡ other = λ k. record {
-      door = record { catalogue = alike.catalogue k; run = alike.run k; serial = alike.serial k; places = v.door.places; issued = v.door.issued };
+      door = record { catalogue = alike.catalogue k; run = alike.run k; serial = alike.serial k; places = v.door.places; issued = v.door.issued; marks = v.door.marks };
       objects = alike.objects k;
     } in
-    let a = decided_alike w.door v.door.places v.door.issued caller request in
+    let a = decided_alike w.door v.door.places v.door.issued v.door.marks caller request in
     let Alike : World → Type 0 = λ x. ((step x caller request).0 ≡ (step w caller request).0) × AreAlike (step w caller request).1 (step x caller request).1 in
     subst Alike (sym is) (
       ap (λ (q : What × Objects). q.0) (a.obeyed w.objects),

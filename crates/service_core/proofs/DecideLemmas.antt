@@ -1,5 +1,5 @@
 -- What a decision leaves of a register, and that the turns which it grants can be taken.
-use Rattle.std.proofs.Common.{◌≡◌, ℕ, suc, ◌+◌, ◌<◌, ◌≤◌, ◌==◌, nat_lt, option_map, Bool, true, false, cond, List, [], ◌∷◌, length, Option, Some, None, refl, sym, ap, subst, ◌∙◌, arith}
+use Rattle.std.proofs.Common.{◌≡◌, ℕ, ◌+◌, ◌<◌, ◌≤◌, ◌==◌, nat_lt, option_map, Bool, true, false, cond, List, [], ◌∷◌, length, Option, Some, None, refl, sym, ap, subst, ◌∙◌, arith}
 use Rattle.std.proofs.Math.Nat.{le-max_left}
 use Rattle.std.specs.Ordering.{eq_by_cmp}
 use Rattle.std.specs.FinMap.{get}
@@ -11,7 +11,7 @@ use Rattle.object_ids.specs.declared.ids.Kind.TheVariants.{Group}
 use Rattle.access_lists.specs.declared.people.Caller.{Caller}
 use Rattle.access_lists.specs.declared.rights.Rights.{Rights}
 use Rattle.access_lists.specs.InForce.{has}
-use Rattle.domains.specs.Contents.{Contents, IsCatalogue, IsDomainAt, with_node}
+use Rattle.domains.specs.Contents.{Contents, IsCatalogue, IsDomainAt}
 use Rattle.domains.specs.NodeTrees.{node_tree}
 use Rattle.domains.specs.Changes.{domain_fault, entry_fault, make_fault, new_domain, remove_fault, without_node}
 use Rattle.domains.specs.declared.classes.Node.{Node}
@@ -41,15 +41,16 @@ use Rattle.chunk_owner.proofs.Eaches.{same_id}
 use Rattle.chunk_owner.proofs.KeptLemmas.{touched_named}
 use Rattle.register.proofs.Counting.{length-counted}
 use Rattle.register.proofs.GrantLemmas.{each_from}
-use Rattle.register.specs.Decided.{Decides, Door, IsDoor, acl_body, acls_body, answered, at_maybe, cat_refusal, children_body, decided, domain_made, entry_put, entry_read, fits, folder_made, foreign_in, forgotten, grant_of, granted, in_domain, make_granted, make_steps, most_of, node_made, node_removed, object_granted, one_step, owner_of, passed, refused, serial_limit}
-use Rattle.register.specs.Tickets.{AreEach, Issue, all_counted, counted, turns_from}
+use Rattle.register.specs.Marks.{Marked, with_path}
+use Rattle.register.specs.Decided.{Decides, Door, IsDoor, acl_body, acls_body, answered, at_maybe, cat_refusal, children_body, decided, domain_added, domain_made, entry_put, entry_read, fits, folder_made, foreign_in, forgotten, grant_of, granted, in_domain, make_granted, make_steps, most_of, node_made, node_removed, object_granted, one_step, owner_of, passed, refused, serial_limit}
+use Rattle.register.specs.Tickets.{Issue, all_counted, counted}
 use Rattle.register.specs.declared.tickets.Turn.{Turn}
 use Rattle.register.specs.declared.verdicts.Verdict.{Verdict}
 use Rattle.register.specs.declared.verdicts.Verdict.TheVariants as verdict
 use Rattle.service_core.specs.Steps.{AreGiven, IsGiven}
 use Rattle.service_core.specs.Turns.{AreReady, AreServable, IsServable}
 use Rattle.service_core.proofs.GivenLemmas.{HasGiven, MayGrant, given_same}
-use Rattle.service_core.proofs.WholeLemmas.{get-set_at}
+use Rattle.lane_owners.proofs.WholeLemmas.{get-set_at}
 
 -- what was given stays given, of as many lanes, and one place more is
 pub record Grows (old new : Door) : Type 0 where
@@ -100,8 +101,8 @@ some_id x y e = cc
 module _ (d : Door) (m : Objects) (door : IsDoor d) (all : AreGiven d m) where
   -- ---- the register
 
-  grows_with : (c : Contents) → d.catalogue.next ≤ c.next → Grows d (record (passed d) { catalogue = c })
-  grows_with c h = record { run = refl; serial = omega arith; next = h; lanes = refl; places = refl }
+  grows_with : (c : Contents) (marks : Marked) → d.catalogue.next ≤ c.next → Grows d (record (passed d) { catalogue = c; marks = marks })
+  grows_with c marks h = record { run = refl; serial = omega arith; next = h; lanes = refl; places = refl }
 
   pub grows_place : Grows d (passed d)
   grows_place = record { run = refl; serial = omega arith; next = omega arith; lanes = refl; places = refl }
@@ -119,12 +120,12 @@ module _ (d : Door) (m : Objects) (door : IsDoor d) (all : AreGiven d m) where
   -- ---- folders and domains
 
   folder_is : (op : Op) (path owner : List ℕ) (fault : Option CatFault) → IsDecided d op m (folder_made d path owner fault)
-  folder_is op path owner None = record { grows = grows_with _ (omega arith); given = tt; servable = tt }
+  folder_is op path owner None = record { grows = grows_with _ _ (omega arith); given = tt; servable = tt }
   folder_is op path owner (Some fault) = refused_is op (cat_refusal path fault)
 
   new_domain_is : (op : Op) (path owner : List ℕ) (few : Bool)
       → IsDecided d op m (let node = new_domain d.catalogue.next d.run d.serial owner in
-      cond few (verdict.Answered (Done 201 (node_tree node)), record (passed d) { catalogue = with_node d.catalogue path node; serial = d.serial + 1 }) (refused (Limit (most_of limit.Serial) limit.Serial) d))
+      cond few (verdict.Answered (Done 201 (node_tree node)), passed (domain_added d path owner)) (refused (Limit (most_of limit.Serial) limit.Serial) d))
   new_domain_is op path owner true = record {
     grows = record { run = refl; serial = omega arith; next = le-max_left d.catalogue.next (d.catalogue.next + 1); lanes = refl; places = refl };
     given = tt;
@@ -145,16 +146,16 @@ module _ (d : Door) (m : Objects) (door : IsDoor d) (all : AreGiven d m) where
   entry_is op name (Some rights) = answered_is op 200 (acl_body name rights)
 
   put_is : (op : Op) (path name : List ℕ) (rights : Rights) (fault : Option CatFault) → IsDecided d op m (entry_put d path name rights fault)
-  put_is op path name rights None = record { grows = grows_with _ (omega arith); given = tt; servable = tt }
+  put_is op path name rights None = record { grows = grows_with _ _ (omega arith); given = tt; servable = tt }
   put_is op path name rights (Some fault) = refused_is op (cat_refusal path fault)
 
   -- ---- domains
 
   module _ (number : ℕ) (root : Id) (group : root.kind ≡ Group) (given : IsGiven d root) (below : number < d.catalogue.next) where
     -- the objects of a removed domain are dropped
-    dropped_is : (c : Contents) → d.catalogue.next ≤ c.next → IsDecided d DropNode m (forgotten (record d { catalogue = c }) (Domain number root))
-    dropped_is c h =
-        let grows : Grows d (record (passed (record d { catalogue = c })) { issued = all_counted d.issued }) = record { run = refl; serial = omega arith; next = h; lanes = length-all d.issued; places = refl } in
+    dropped_is : (c : Contents) (marks : Marked) → d.catalogue.next ≤ c.next → IsDecided d DropNode m (forgotten (record d { catalogue = c; marks = marks }) (Domain number root))
+    dropped_is c marks h =
+        let grows : Grows d (record (passed (record d { catalogue = c; marks = marks })) { issued = all_counted d.issued }) = record { run = refl; serial = omega arith; next = h; lanes = length-all d.issued; places = refl } in
         record {
           grows = grows;
           given = record { root = given_later d _ grows root given; fresh = λ id e. absurd (no_id id e) };
@@ -296,12 +297,12 @@ module _ (d : Door) (m : Objects) (door : IsDoor d) (all : AreGiven d m) where
       out = door.roots path number root (stands number root e);
     }
 
-    drop_at : (class : NodeClass) → node.class ≡ class → (c : Contents) → d.catalogue.next ≤ c.next → IsDecided d DropNode m (forgotten (record d { catalogue = c }) class)
-    drop_at Folder e c h = record { grows = grows_with c h; given = tt; servable = tt }
-    drop_at (Domain number root) e c h = dropped_is number root (root_group number root e) (root_given number root e) (root_below number root e) c h
+    drop_at : (class : NodeClass) → node.class ≡ class → (c : Contents) (marks : Marked) → d.catalogue.next ≤ c.next → IsDecided d DropNode m (forgotten (record d { catalogue = c; marks = marks }) class)
+    drop_at Folder e c marks h = record { grows = grows_with c marks h; given = tt; servable = tt }
+    drop_at (Domain number root) e c marks h = dropped_is number root (root_group number root e) (root_given number root e) (root_below number root e) c marks h
 
     removed_is : (own : List ℕ) (fault : Option CatFault) → IsDecided d DropNode m (node_removed d own node.class fault)
-    removed_is own None = drop_at node.class refl (without_node d.catalogue own) (omega arith)
+    removed_is own None = drop_at node.class refl (without_node d.catalogue own) (with_path d.marks own) (omega arith)
     removed_is own (Some fault) = refused_is DropNode (cat_refusal own fault)
 
     make_at : (make : Make) (place : Option LinkPlace) (class : NodeClass) → node.class ≡ class → IsDecided d (MakeObject make place) m (in_domain d (MakeObject make place) class)

@@ -10,7 +10,6 @@ use Rattle.access_lists.specs.InForce.{has}
 use Rattle.domains.specs.Contents.{Contents}
 use Rattle.domains.specs.NodeTrees.{node_tree}
 use Rattle.domains.specs.Changes.{domain_fault, entry_fault, make_fault, new_domain, remove_fault, without_node}
-use Rattle.domains.specs.Contents.{with_node}
 use Rattle.domains.specs.declared.classes.Node.{Node}
 use Rattle.domains.specs.declared.classes.NodeClass.{NodeClass}
 use Rattle.domains.specs.declared.classes.NodeClass.TheVariants.{Folder, Domain}
@@ -32,7 +31,7 @@ use Rattle.object_ops.specs.declared.refusals.Refusal.TheVariants.{Limit, NoDoma
 use Rattle.chunk_owner.specs.Acts.{acted, is_done}
 use Rattle.chunk_owner.specs.Lanes.{AreShown, Objects}
 use Rattle.chunk_owner.specs.Laws.{RefusalsLeaveAll}
-use Rattle.register.specs.Decided.{Door, at_maybe, decided, domain_made, entry_put, entry_read, fits, folder_made, foreign_in, forgotten, grant_of, granted, in_domain, make_steps, most_of, node_made, node_removed, object_granted, one_step, owner_of, passed, refused, serial_limit}
+use Rattle.register.specs.Decided.{Door, at_maybe, changed_at, decided, domain_added, domain_made, entry_put, entry_read, fits, folder_made, foreign_in, forgotten, grant_of, granted, in_domain, make_steps, most_of, node_made, node_removed, object_granted, one_step, owner_of, passed, refused, serial_limit}
 use Rattle.register.specs.Tickets.{Issue}
 use Rattle.register.specs.declared.tickets.Turn.{Turn}
 use Rattle.register.specs.declared.verdicts.Verdict.{Verdict}
@@ -97,7 +96,7 @@ module _ (d : Door) where
   folder_left op path owner (Some fault) = refl
 
   new_domain_left : (op : Op) (path owner : List ℕ) (few : Bool) → Leaving d op (let node = new_domain d.catalogue.next d.run d.serial owner in
-      cond few (verdict.Answered (Done 201 (node_tree node)), record (passed d) { catalogue = with_node d.catalogue path node; serial = d.serial + 1 }) (refused (Limit (most_of limit.Serial) limit.Serial) d))
+      cond few (verdict.Answered (Done 201 (node_tree node)), passed (domain_added d path owner)) (refused (Limit (most_of limit.Serial) limit.Serial) d))
   new_domain_left op path owner true = refl
   new_domain_left op path owner false = refl
 
@@ -109,12 +108,12 @@ module _ (d : Door) where
   node_left op caller path true = folder_left op path (owner_of caller) (make_fault d.catalogue path)
   node_left op caller path false = domain_left op path (owner_of caller) (domain_fault d.catalogue path)
 
-  drop_left : (c : Contents) (class : NodeClass) → Leaving d DropNode (forgotten (record d { catalogue = c }) class)
-  drop_left c Folder = refl
-  drop_left c (Domain number root) = tt
+  drop_left : (path : List ℕ) (c : Contents) (class : NodeClass) → Leaving d DropNode (forgotten (changed_at d path c) class)
+  drop_left path c Folder = refl
+  drop_left path c (Domain number root) = tt
 
   removed_left : (path : List ℕ) (class : NodeClass) (fault : Option CatFault) → Leaving d DropNode (node_removed d path class fault)
-  removed_left path class None = drop_left (without_node d.catalogue path) class
+  removed_left path class None = drop_left path (without_node d.catalogue path) class
   removed_left path class (Some fault) = refl
 
   read_left : (op : Op) (name : List ℕ) (rights : Option Rights) → Leaving d op (entry_read d name rights)

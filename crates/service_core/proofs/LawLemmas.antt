@@ -1,5 +1,5 @@
 -- What granted requests do, and which places calls have.
-use Rattle.std.proofs.Common.{◌≡◌, ⊎_elim, ℕ, ◌+◌, ◌<◌, Bool, true, false, cond, List, [], ◌∷◌, ◌++◌, map, length, Option, Some, None, option_map, is_eq, refl, ap, sym, subst, ◌∙◌, arith}
+use Rattle.std.proofs.Common.{◌≡◌, ⊎_elim, ℕ, ◌+◌, Bool, true, false, cond, List, [], ◌∷◌, map, length, Option, Some, None, option_map, is_eq, refl, ap, sym, subst, ◌∙◌, arith}
 use Rattle.std.specs.FinMap.{get}
 use Rattle.std.specs.Ordering.{eq_by_cmp}
 use Rattle.std.proofs.lemmas.Cmp.{tied_itself}
@@ -12,12 +12,11 @@ use Rattle.domains.specs.Changes.{remove_fault, without_node}
 use Rattle.domains.specs.Contents.{Contents}
 use Rattle.domains.specs.declared.classes.Node.{Node}
 use Rattle.domains.specs.declared.classes.NodeClass.{NodeClass}
-use Rattle.domains.specs.declared.classes.NodeClass.TheVariants.{Folder, Domain}
+use Rattle.domains.specs.declared.classes.NodeClass.TheVariants.{Domain}
 use Rattle.domains.specs.declared.faults.CatFault.{CatFault}
 use Rattle.object_ops.specs.Answers.{nothing}
 use Rattle.object_ops.specs.Needs.{right_for}
 use Rattle.object_ops.specs.Parts.{id_of}
-use Rattle.object_ops.specs.declared.grants.Grant.{Grant}
 use Rattle.object_ops.specs.declared.grants.Step.{Step}
 use Rattle.object_ops.specs.declared.grants.Step.TheVariants.{Only, Link, Make as Making}
 use Rattle.object_ops.specs.declared.ops.LinkPlace.{LinkPlace}
@@ -26,28 +25,26 @@ use Rattle.object_ops.specs.declared.ops.Op.{Op}
 use Rattle.object_ops.specs.declared.ops.Op.TheVariants.{DropNode, MakeObject}
 use Rattle.object_ops.specs.declared.ops.Request.{Request}
 use Rattle.object_ops.specs.declared.replies.Reply.{Reply}
-use Rattle.object_ops.specs.declared.replies.Reply.TheVariants.{Done, Refused}
+use Rattle.object_ops.specs.declared.replies.Reply.TheVariants.{Done}
 use Rattle.object_acts.specs.declared.objects.Object.{Object}
 use Rattle.chunk_owner.specs.Acts.{act, acted, on_touched}
-use Rattle.chunk_owner.specs.Lanes.{Forgets, Objects, at_id}
+use Rattle.chunk_owner.specs.Lanes.{Objects, at_id}
 use Rattle.chunk_owner.proofs.Eaches.{same_id}
 use Rattle.chunk_owner.proofs.KeptLemmas.{touched_named}
-use Rattle.register.specs.Decided.{Door, at_maybe, decided, forgotten, node_removed, passed}
+use Rattle.register.specs.Decided.{Door, at_maybe, changed_at, decided, forgotten, node_removed, passed}
 use Rattle.register.specs.Grants.{HasSteps, IfGranted, IsIssueOf}
 use Rattle.register.specs.Laws.{GrantsAreIssues, TakesPlace}
 use Rattle.register.specs.Tickets.{Issue}
 use Rattle.register.specs.declared.tickets.Turn.{Turn}
 use Rattle.register.specs.declared.verdicts.Verdict.{Verdict}
 use Rattle.register.specs.declared.verdicts.Verdict.TheVariants as verdict
-use Rattle.service_core.specs.declared.answers.Answer.{Answer}
 use Rattle.service_core.specs.declared.answers.What.{What}
 use Rattle.service_core.specs.declared.answers.What.TheVariants.{Replied, Denied, NoMemory}
 use Rattle.service_core.specs.Laws.{DomainsAreForgotten, Gives, IsDoneAt, IsGranted, LinkedThenMade, MadeAlone, OneObject, PlacesInOrder}
-use Rattle.service_core.specs.Replays.{AreSteps, Call}
-use Rattle.service_core.specs.Steps.{IsAnswered, Steps, World, by_verdict, run_on, served, started, step, without_domain}
+use Rattle.service_core.specs.Steps.{IsAnswered, World, by_verdict, run_on, served, started, step, without_domain}
 use Rattle.service_core.proofs.ForgetLemmas.{get-without}
 use Rattle.service_core.proofs.TurnLemmas.{run_by_steps, run_steps}
-use Rattle.service_core.proofs.WholeLemmas.{get-set_at}
+use Rattle.lane_owners.proofs.WholeLemmas.{get-set_at}
 
 -- ---- places
 
@@ -155,8 +152,8 @@ module _ (d : Door) (path : List ℕ) (number : ℕ) (root : Id) (m : Objects) w
   abbrev Drops : Verdict × Door → Type 0
   Drops p = (by_verdict DropNode p.0 m).0 ≡ Replied (Done 200 nothing) → (by_verdict DropNode p.0 m).1 ≡ without_domain number m
 
-  forgotten_drops : (c : Contents) (class : NodeClass) → class ≡ Domain number root → Drops (forgotten (record d { catalogue = c }) class)
-  forgotten_drops c class e = subst (λ (k : NodeClass). Drops (forgotten (record d { catalogue = c }) k)) (sym e) (λ done. refl)
+  forgotten_drops : (c : Contents) (class : NodeClass) → class ≡ Domain number root → Drops (forgotten (changed_at d path c) class)
+  forgotten_drops c class e = subst (λ (k : NodeClass). Drops (forgotten (changed_at d path c) k)) (sym e) (λ done. refl)
 
   removed_drops : (class : NodeClass) (fault : Option CatFault) → class ≡ Domain number root → Drops (node_removed d path class fault)
   removed_drops class None e = forgotten_drops (without_node d.catalogue path) class e

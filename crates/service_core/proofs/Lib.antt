@@ -1,4 +1,3 @@
-pub mod WholeLemmas
 pub mod ForgetLemmas
 pub mod TurnLemmas
 pub mod GivenLemmas
@@ -9,3 +8,6 @@ pub mod NextLemmas
 pub mod KeepLemmas
 pub mod AlikeLemmas
 pub mod LawLemmas
+pub mod RecordLemmas
+pub mod InstallLemmas
+pub mod LaterLemmas

@@ -25,13 +25,13 @@ use Rattle.service_core.specs.declared.answers.What.TheVariants.{Replied}
 use Rattle.service_core.specs.Replays.{AreSteps, Call}
 use Rattle.service_core.specs.Steps.{World, replay, step}
 
--- ---- places and tickets
+-- ---- places, tickets and marks
 
 -- the n-th answer, counted from 0, has the n-th place behind the first
 abbrev pub PlacesInOrder : Type 0
 PlacesInOrder = (w last : World) (before after : List Call) (c : Call) → AreSteps w (before ++ c ∷ after) last → c.answer.place ≡ w.door.places + length before
 
--- the same but for the places and the tickets that were given, over whatever lanes
+-- the same but for the places and the tickets that were given and for what is to be written, over whatever lanes
 pub record AreAlike (w v : World) : Type 0 where
   pub catalogue : v.door.catalogue ≡ w.door.catalogue
   pub run : v.door.run ≡ w.door.run

@@ -1,5 +1,5 @@
 -- What a world is, and what one request answers and leaves of it.
-use Rattle.std.specs.Prelude.{◌≡◌, ℕ, ◌⊎◌, ◌==◌, ◌<◌, List, [], ◌∷◌, ◌++◌, Bool, true, false, not, Option, Some, None, IsSome, Result, Ok, Err, if◌then◌else◌}
+use Rattle.std.specs.Prelude.{◌≡◌, ℕ, ◌⊎◌, ◌==◌, ◌<◌, List, [], ◌∷◌, ◌++◌, true, not, Option, Some, None, IsSome, Result, Ok, Err, if◌then◌else◌}
 use Rattle.std.specs.FinMap.{entries, from_entries}
 use Rattle.std.specs.List.{filter}
 use Rattle.object_ids.specs.IdValues.{Id}

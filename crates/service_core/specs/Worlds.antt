@@ -8,8 +8,18 @@ use Rattle.object_ids.specs.declared.ids.Kind.{Kind}
 use Rattle.object_acts.specs.declared.objects.Object.{Object}
 use Rattle.chunk_owner.specs.Lanes.{Lane}
 use Rattle.register.specs.Decided.{Door}
-use Rattle.service_core.specs.Joined.{AreLanes, whole}
+use Rattle.lane_owners.specs.Joined.{AreLanes, whole}
+use Rattle.lane_owners.specs.Records.{LanesSay}
 use Rattle.service_core.specs.Steps.{AreGiven, IsGiven, World}
+
+-- the register, and the owners of all lanes with what the next cut writes of their objects
+pub record State : Type 0 where
+  pub door : Door
+  pub lanes : List Lane
+
+-- the world as requests see it
+abbrev pub seen : State → World
+seen s = record { door = s.door; objects = whole s.lanes }
 
 -- one owner for each lane, in order, and all that they hold was given
 pub record IsBuilt (door : Door) (owners : List Lane) : Type 0 where
@@ -17,10 +27,11 @@ pub record IsBuilt (door : Door) (owners : List Lane) : Type 0 where
   pub lanes : AreLanes (length owners) 0 owners
   pub given : AreGiven door (whole owners)
 
--- an owner for each of so many lanes, without objects
+-- an owner for each of so many lanes, without objects, of which nothing is held
 pub record IsNew (many : ℕ) (owners : List Lane) : Type 0 where
   pub count : length owners ≡ many
   pub lanes : AreLanes many 0 owners
+  pub says : LanesSay owners empty
   pub empty : whole owners ≡ empty
 
 -- an id of a kind, of the domain of a number, that was given and has no object
@@ -31,8 +42,8 @@ pub record IsFreshId (k : Kind) (number : ℕ) (w : World) (id : Id) : Type 0 wh
   pub free : get w.objects id ≡ None
 
 -- a world with another register
-abbrev pub with_door : World → Door → World
-with_door w door = record w { door = door }
+abbrev pub with_door : State → Door → State
+with_door s door = record s { door = door }
 
 -- a world with an object at an id
 abbrev pub with_object : World → Id → Object → World

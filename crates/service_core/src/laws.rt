@@ -30,8 +30,8 @@ pub fn places_in_order()
     decisions_keep();
 }
 
-/// The places and tickets that were given, and how many lanes there are, don't matter: worlds that are alike but for these
-/// answer each request alike, and so any requests one after another.
+/// The places and tickets that were given, how many lanes there are, and what a journal holds already don't matter: worlds
+/// that are alike but for these answer each request alike, and so any requests one after another.
 pub fn places_and_tickets_tell_nothing()
     ensures step { StepsAlike }
     ensures replay { ReplaysAlike }

@@ -1,8 +1,13 @@
-//! The world: its catalogue and its objects, and what each request answers and changes of it.
+//! The world: its catalogue and its objects, what each request answers and changes of it, and what a journal keeps of it.
 #![tactic(auto)]
 
 mod answers;
+mod faults;
+#[cfg(test)]
+mod kept_world_tests;
 mod laws;
+#[cfg(test)]
+mod record_tests;
 #[cfg(test)]
 mod tests;
 mod turns;

@@ -81,17 +81,17 @@ fn id(kind: Kind, domain: u8, serial: u8) -> ObjectId
     }
 }
 
-fn tree(rt: &(impl Abort + AllocGlobal), text: &str) -> Value {
+pub(crate) fn tree(rt: &(impl Abort + AllocGlobal), text: &str) -> Value {
     Value::from_str(rt.alloc(), text).expect(rt, "JSON")
 }
 
-fn name(rt: &(impl Abort + AllocGlobal), text: &str) -> Name
+pub(crate) fn name(rt: &(impl Abort + AllocGlobal), text: &str) -> Name
     ensures { length result ≤ 255 }
 {
     Name::read(rt.alloc(), text, 255).expect(rt, "a name")
 }
 
-fn title(rt: &(impl Abort + AllocGlobal), text: &str) -> Name
+pub(crate) fn title(rt: &(impl Abort + AllocGlobal), text: &str) -> Name
     ensures { IsGoodTitle result }
 {
     let title = Name::read(rt.alloc(), text, 255).expect(rt, "a name");
@@ -100,7 +100,7 @@ fn title(rt: &(impl Abort + AllocGlobal), text: &str) -> Name
 }
 
 /// A user of the group `lab`, or nobody; bob is also of `ops`.
-fn caller(alloc: Global, user: &str) -> Result<Caller, Fail> {
+pub(crate) fn caller(alloc: Global, user: &str) -> Result<Caller, Fail> {
     if user.is_empty() {
         return Ok(Caller::anonymous(alloc));
     }
@@ -116,7 +116,7 @@ fn caller(alloc: Global, user: &str) -> Result<Caller, Fail> {
 }
 
 /// A world of two lanes in run 1 over the folder `/`, where everybody has all rights.
-fn opened(alloc: Global) -> Result<World, Fail> {
+pub(crate) fn opened(alloc: Global) -> Result<World, Fail> {
     let mut catalogue = Catalogue::new(alloc, Name::read(alloc, "default", 255)?)?;
     let root = read_path(alloc, "/")?;
     let everybody = Name::read(alloc, "default", 255)?;

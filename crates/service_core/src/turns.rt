@@ -6,7 +6,8 @@ ghost use Rattle.object_ops.specs.Answers.{Follows};
 ghost use Rattle.object_ops.specs.Conditions.{IsSoundOp};
 ghost use Rattle.chunk_owner.specs.Acts.{acted, is_done};
 ghost use Rattle.register.specs.Tickets.{AreEach};
-ghost use Rattle.service_core.specs.Joined.{AreLanes, whole};
+ghost use Rattle.lane_owners.specs.Joined.{AreLanes, whole};
+ghost use Rattle.lane_owners.specs.Records.{LanesStillSay};
 ghost use Rattle.service_core.specs.Steps.{Runs, Serves, Takes, without_domain};
 ghost use Rattle.service_core.specs.Turns.{AreReady, AreServable, IsReadyAt};
 
@@ -40,6 +41,7 @@ fn act_in(
     ensures acts { Follows (acted grant.now op.now step (whole owners.old)) (whole owners.old)
         result (whole owners.new) }
     ensures lanes { AreLanes (length owners.old) 0 owners.new }
+    ensures says { LanesStillSay owners.old owners.new }
 {
     let owner = &mut owners[lane as usize];
     owner.act(op, step, grant)
@@ -61,6 +63,7 @@ fn take_turn(
     requires root { grant.now.root.kind ≡ Group }
     ensures acts { Takes grant.now op.now turn.now.step (whole owners.old) result (whole owners.new) }
     ensures lanes { AreLanes (length owners.old) 0 owners.new }
+    ensures says { LanesStillSay owners.old owners.new }
 {
     match turn.step {
         Some(step) => act_in(owners, turn.lane, step, op, grant),
@@ -83,6 +86,7 @@ fn run_turns(
     ensures runs { Runs tickets.old.grant op.now tickets.old.left (whole owners.old) result
         (whole owners.new) }
     ensures lanes { AreLanes (length owners.old) 0 owners.new }
+    ensures says { LanesStillSay owners.old owners.new }
 {
     let grant = tickets.grant();
     let mut reply = Reply::done(alloc, 200);
@@ -101,6 +105,7 @@ fn forget_turns(owners: &mut [Owner], tickets: &mut Tickets, number: u64)
     requires each { AreEach (length owners.old) 0 tickets.old.left }
     ensures rest { whole owners.new ≡ without_domain number (whole owners.old) }
     ensures lanes { AreLanes (length owners.old) 0 owners.new }
+    ensures says { LanesStillSay owners.old owners.new }
 {
     'lanes: while let Some(turn) = tickets.next() {
         let owner = &mut owners[turn.lane as usize];
@@ -127,6 +132,7 @@ fn take_turns(
     requires ready { AreServable (length owners.old) op.now tickets.old (whole owners.old) }
     ensures serves { Serves op.now tickets.old (whole owners.old) result (whole owners.new) }
     ensures lanes { AreLanes (length owners.old) 0 owners.new }
+    ensures says { LanesStillSay owners.old owners.new }
 {
     match op {
         Op::DropNode => {
@@ -150,6 +156,7 @@ pub(crate) fn serve(
     requires ready { AreServable (length owners.old) op.now tickets (whole owners.old) }
     ensures serves { Serves op.now tickets (whole owners.old) result (whole owners.new) }
     ensures lanes { AreLanes (length owners.old) 0 owners.new }
+    ensures says { LanesStillSay owners.old owners.new }
 {
     let done = take_turns(alloc, owners, &mut tickets, op);
     drain(&mut tickets);

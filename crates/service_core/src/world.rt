@@ -1,33 +1,50 @@
 //! The world.
 
-ghost use Rattle.std.specs.Prelude.{◌≡◌, ◌↔◌, IsTrue, ◌+◌, ◌<◌, length, None, IfOk, IfSome, OnErr, OnOk, option_map};
+ghost use Rattle.std.specs.Prelude.{◌≡◌, ◌↔◌, IsTrue, ◌+◌, ◌<◌, ◌≤◌, [], ◌∷◌, length, None, IfErr, IfOk, IfSome, OnErr, OnOk, option_map};
 ghost use Rattle.std.specs.FinMap.{empty, get, insert};
 ghost use Rattle.std.specs.Option.{option_copied};
 ghost use Rattle.object_ids.specs.Ids.{lane_of};
-ghost use Rattle.object_acts.specs.Objects.{IsOfKind, unmarked};
+ghost use Rattle.object_acts.specs.Objects.{IsOfKind, IsTrackedBody, unmarked};
 ghost use Rattle.chunk_owner.specs.Lanes.{AreOfKind, AreShown};
 ghost use Rattle.domains.specs.Changes.{Blames, domain_fault, root_of};
+ghost use Rattle.flush_journal.specs.Batches.{records};
+ghost use Rattle.flush_journal.specs.Files.{Content};
+ghost use Rattle.flush_journal.specs.Records.{Held, put_record};
+ghost use Rattle.flush_journal.specs.Standing.{IsSettled, disk_of, pending_of};
+ghost use Rattle.flush_journal.specs.Tries.{Tries, Writes};
+ghost use Rattle.flush_journal.specs.Unchanged.{SameDisk};
+ghost use Rattle.record_cuts.specs.Cuts.{IsCut};
 ghost use Rattle.text_maps.specs.Nexts.{IsKeyStep, IsNext};
 ghost use Rattle.domains.specs.Contents.{IsCatalogue};
 ghost use Rattle.object_ops.specs.Conditions.{IsSoundOp};
+ghost use Rattle.register.specs.Kept.{IsUsedUp, MatchFault, MatchUsed, RegisterSays, TellsUsed, run_kept};
 ghost use Rattle.register.specs.Decided.{HasRoom, IsDoor, domain_added, domain_refused, fresh_given, serial_limit};
-ghost use Rattle.service_core.specs.Joined.{AreLanes, whole};
+ghost use Rattle.lane_owners.specs.Joined.{AreLanes, whole};
+ghost use Rattle.lane_owners.specs.Records.{AreStillIn, LanesStillSay};
+ghost use Rattle.service_core.specs.Records.{DescribesWorld, IsKept, IsSameWorld, IsWorldFault, IsWorldMarked};
+ghost use Rattle.service_core.specs.Records.{IsWorldOf, OrNoMemory, WorldSays, WorldStillSays, run_record};
 ghost use Rattle.service_core.specs.Steps.{IsGiven, IsWorld, Obeys, Steps};
 ghost use Rattle.service_core.specs.Turns.{IsServable};
-ghost use Rattle.service_core.specs.Worlds.{IsFreshId, IsNew, lesser, with_door, with_object};
+ghost use Rattle.service_core.specs.Worlds.{IsFreshId, IsNew, lesser, seen, with_door, with_object};
 
 use crate::answers::{Answer, What};
+use crate::faults::bad_record;
 use crate::turns::serve;
 use access_lists::Caller;
 use chunk_owner::Owner;
 use domains::{CatFault, Catalogue, Node};
+use edge_traits::Disk;
+use flush_journal::{Batch, Journal, Recovered, Why};
+use lane_owners::{are_described, are_whole as lanes_are_whole, cut_lanes, install_lanes};
 use object_acts::Object;
 use object_ids::{DomainPath, Kind, Name, ObjectId, lane};
 use object_ops::{Op, Reply, Request};
-use register::{Register, Verdict};
+use record_keys::{run_body, run_key};
+use register::{InstallFault, Register, Verdict};
 use std::alloc::{AllocError, Global};
 use std::cmp::Ordering;
 use std::marker::Model;
+use stray_records::first_stray;
 
 /// The catalogue with what was given out, and the objects of all lanes.
 #[derive(Drop)]
@@ -38,26 +55,21 @@ pub struct World {
 }
 
 impl Model for World {
-    ghost use Rattle.std.specs.Prelude.{refl};
-    ghost use Rattle.std.specs.FinMap as map;
-    ghost use Rattle.std.specs.Coded.{code_by, coded×};
-    ghost use Rattle.object_ids.specs.IdOrder.{id_order};
-    ghost use Rattle.object_ids.specs.contracts.ids.ObjectId as id;
-    ghost use Rattle.object_acts.specs.contracts.objects.Object as object;
-    ghost use Rattle.object_acts.specs.declared.objects.Object.{Object};
+    ghost use Rattle.std.specs.Prelude.{refl, List};
+    ghost use Rattle.std.specs.Coded.{code_by, coded×, coded_list};
+    ghost use Rattle.chunk_owner.specs.Lanes.{Lane};
+    ghost use Rattle.chunk_owner.specs.contracts.owner.Owner as owner_row;
     ghost use Rattle.register.specs.Decided.{Door};
     ghost use Rattle.register.specs.contracts.register.Register as register_row;
-    ghost use Rattle.service_core.specs.Joined.{whole};
-    ghost use Rattle.service_core.specs.Steps.{World};
-    ghost use Rattle.service_core.specs.Worlds.{IsBuilt};
+    ghost use Rattle.service_core.specs.Worlds.{IsBuilt, State};
 
-    ghost Value = { World };
+    ghost Value = { State };
 
-    ghost coded = { code_by (Door × map.FinMap id_order Object)
-        (coded× register_row.the_row.coded (map.code id.the_row.coded object.the_row.coded))
-        (λ w. (w.door, w.objects)) (λ p. record { door = p.0; objects = p.1 }) (λ _. refl) };
+    ghost coded = { code_by (Door × List Lane)
+        (coded× register_row.the_row.coded (coded_list owner_row.the_row.coded))
+        (λ s. (s.door, s.lanes)) (λ p. record { door = p.0; lanes = p.1 }) (λ _. refl) };
 
-    ghost view = { λ a. record { door = a.register; objects = whole a.owners.items } };
+    ghost view = { λ a. record { door = a.register; lanes = a.owners.items } };
 
     ghost invariant = { λ a. IsBuilt a.register a.owners.items };
 }
@@ -69,7 +81,10 @@ impl World {
     ///
     /// Only where memory runs out.
     pub fn new(alloc: Global, register: Register) -> Result<World, AllocError>
-        ensures { IfOk result (λ world. world ≡ record { door = register; objects = empty }) }
+        ensures world { IfOk result (λ world. seen world ≡ record { door = register; objects = empty }) }
+
+        // Where nothing is held, that tells the world if it tells the register.
+        ensures says { IfOk result (λ world. RegisterSays register empty → WorldSays world empty) }
     {
         let owners = new_owners(alloc, register.lanes())?;
         Ok(World {
@@ -79,10 +94,40 @@ impl World {
         })
     }
 
+    /// The world that a journal's records describe, at the begin of the run after the kept one. Nothing but the run has
+    /// changed since they were written.
+    ///
+    /// # Errors
+    ///
+    /// `BadRecord` with the least key at fault of the register, else of the first lane that has one, else of no part;
+    /// `RunsUsed` exactly where no record of the register is at fault and the kept run is the last; or `NoMemory`.
+    pub fn install(alloc: Global, lanes: u32, kept: Recovered) -> Result<World, InstallFault>
+        requires some_lane { 1 ≤ lanes }
+        requires few_lanes { lanes ≤ 16 }
+        ensures described { IfOk result (λ world. IsWorldOf kept lanes world) }
+        ensures says { IfOk result (λ world. WorldSays world kept) }
+        ensures still { IfOk result (λ world. AreStillIn world.lanes) }
+        ensures fault { IfErr result (λ e. MatchFault e (IsWorldFault lanes kept)) }
+        ensures used { IfErr result (λ e. MatchUsed e (IsUsedUp kept)) }
+        ensures told { IsUsedUp kept → TellsUsed result }
+    {
+        let register = Register::install(alloc, lanes, &kept)?;
+        let next = register.catalogue().next_number();
+        let owners = install_lanes(alloc, lanes, register.run() - 1, next, &kept)?;
+        match first_stray(&kept) {
+            Some(key) => Err(bad_record(alloc, key)),
+            None => Ok(World {
+                alloc,
+                register,
+                owners,
+            }),
+        }
+    }
+
     /// That the id of each object, and the root of each domain, was given, and that each object is of its id's kind and seen
     /// without marks.
     pub fn is_whole(&self)
-        ensures objects { IsWorld self.now }
+        ensures objects { IsWorld (seen self.now) }
         ensures roots { IsDoor self.now.door }
         ensures catalogue { IsCatalogue self.now.door.catalogue }
     {
@@ -135,7 +180,7 @@ impl World {
 
     /// The object of an id.
     pub fn object(&self, id: &ObjectId) -> Option<&Object>
-        ensures value { option_map unmarked (option_copied result) ≡ get self.now.objects id.now }
+        ensures value { option_map unmarked (option_copied result) ≡ get (seen self.now).objects id.now }
         ensures kind { IfSome (option_copied result) (IsOfKind id.now.kind) }
     {
         let lane = lane(id, self.register.lanes());
@@ -144,8 +189,8 @@ impl World {
 
     /// The least id behind another that an object has, or the least of all.
     pub fn next_id(&self, after: Option<&ObjectId>) -> Option<ObjectId>
-        ensures least { IsNext self.now.objects (option_copied after.entry) result }
-        ensures step { IsKeyStep self.now.objects (option_copied after.entry) result }
+        ensures least { IsNext (seen self.now).objects (option_copied after.entry) result }
+        ensures step { IsKeyStep (seen self.now).objects (option_copied after.entry) result }
     {
         next_in(self.owners.as_slice(), after)
     }
@@ -160,6 +205,7 @@ impl World {
         ensures root { IfOk result (λ root. root ≡ root_of self.old.door.catalogue.next self.old.door.run self.old.door.serial) }
         ensures err { OnErr result (self.new ≡ self.old) }
         ensures why { Blames result (domain_refused self.old.door (domain_fault self.old.door.catalogue path.now)) }
+        ensures says { WorldStillSays self.old self.new }
     {
         self.register.make_domain(path, owner)
     }
@@ -170,25 +216,84 @@ impl World {
         requires number { number < self.old.door.catalogue.next }
         ensures id { result ≡ (fresh_given self.old.door kind number).0 }
         ensures world { self.new ≡ with_door self.old (fresh_given self.old.door kind number).1 }
-        ensures fresh { IfSome result (IsFreshId kind number self.new) }
+        ensures fresh { IfSome result (IsFreshId kind number (seen self.new)) }
+        ensures says { WorldStillSays self.old self.new }
     {
         self.register.fresh(kind, number)
     }
 
-    /// Puts an object at an id that was given and has none.
+    /// Puts an object, of whose chunks none was cut, at an id that was given and has none.
     ///
     /// # Errors
     ///
     /// Only where memory runs out; all objects stay.
     pub fn put_object(&mut self, id: ObjectId, object: Object) -> Result<(), AllocError>
         requires given { IsGiven self.old.door id }
-        requires new { get self.old.objects id ≡ None }
+        requires new { get (seen self.old).objects id ≡ None }
         requires kind { IsOfKind id.kind object }
-        ensures ok { OnOk result (self.new ≡ with_object self.old id (unmarked object)) }
-        ensures err { OnErr result (self.new ≡ self.old) }
+        requires fresh { IsTrackedBody (λ _. []) object.body }
+        ensures ok { OnOk result (seen self.new ≡ with_object (seen self.old) id (unmarked object)) }
+        ensures err { OnErr result (seen self.new ≡ seen self.old) }
+        ensures says { WorldStillSays self.old self.new }
     {
         let lane = lane(&id, self.register.lanes());
         put_in(self.owners.as_mut_slice(), lane, id, object)
+    }
+
+    /// Appends the records of what changed since the last cut, and takes it as kept: what is held then tells the whole world.
+    /// Those of the register come first, then those of each lane.
+    ///
+    /// # Errors
+    ///
+    /// Only where memory runs out. The cuts that were done stand; what was appended stays in the batch, and the marks of what
+    /// is not cut stay.
+    pub fn cut(&mut self, into: &mut Batch) -> Result<(), AllocError>
+        ensures cut { (base : Held) → IsCut (IsWorldMarked self.old) base
+            (records into.old) (records into.new)
+            (λ held. WorldSays self.old base → WorldSays self.new held) }
+        ensures kept { OnOk result (IsKept self.new) }
+        ensures same { IsSameWorld self.old self.new }
+    {
+        lanes_are_whole(self.owners.as_slice());
+        self.register.cut(into)?;
+        cut_lanes(self.owners.as_mut_slice(), into)
+    }
+
+    /// Once all is kept, what is held describes the world: each of its records keeps to the rules, no other is there, and an
+    /// install finds the same folders, domains and objects. Takes no memory.
+    pub fn is_described(&self)
+        ensures { IsKept self.now → (held : Held) → WorldSays self.now held
+            → DescribesWorld held self.now.door.run (seen self.now) }
+    {
+        is_sound(&self.register);
+        self.register.is_described();
+        are_described(self.owners.as_slice());
+    }
+
+    /// Writes the record of the run to a journal, before the first id of the run is given.
+    ///
+    /// # Errors
+    ///
+    /// Those of [`Journal::append`], and `NoMemory`, for which the journal is as it was.
+    pub fn begin_run<D: Disk>(&mut self, journal: &mut Journal<D>) -> Result<(), Why>
+        requires idle { pending_of journal.old ≡ None }
+        ensures writes { D.honest → (c : Content) → IsSettled journal.old c
+            → OrNoMemory result (journal.new ≡ journal.old)
+            (Writes journal.old journal.new c (run_record self.old.door ∷ []) result) }
+        ensures tries { OrNoMemory result (journal.new ≡ journal.old)
+            (Tries journal.old journal.new (run_record self.old.door ∷ []) result) }
+        ensures same { SameDisk D.Disk (disk_of journal.old) (disk_of journal.new) }
+        ensures ok { OnOk result (self.new ≡ with_door self.old (run_kept self.old.door)) }
+        ensures err { OnErr result (self.new ≡ self.old) }
+        ensures says { OnOk result ((held : Held) → WorldSays self.old held
+            → WorldSays self.new (put_record (run_record self.old.door) held)) }
+    {
+        lanes_are_whole(self.owners.as_slice());
+        let mut batch = Batch::new(self.alloc);
+        batch.push(&run_key(), &run_body(self.register.run()))?;
+        journal.append(batch)?;
+        self.register.run_is_kept();
+        Ok(())
     }
 
     /// Answers one request, at the next place.
@@ -198,7 +303,8 @@ impl World {
     pub fn step(&mut self, caller: &Caller, request: &Request) -> Answer
         requires room { HasRoom self.old.door }
         requires op { IsSoundOp request.now.op }
-        ensures { Steps self.old caller.now request.now result self.new }
+        ensures steps { Steps (seen self.old) caller.now request.now result (seen self.new) }
+        ensures says { WorldStillSays self.old self.new }
     {
         is_sound(&self.register);
         let place = self.register.places();
@@ -253,9 +359,11 @@ fn put_in(owners: &mut [Owner], lane: u32, id: ObjectId, object: Object) -> Resu
     requires home { lane_of (length owners.old) id ≡ lane }
     requires new { get (whole owners.old) id ≡ None }
     requires kind { IsOfKind id.kind object }
+    requires fresh { IsTrackedBody (λ _. []) object.body }
     ensures ok { OnOk result (whole owners.new ≡ insert (whole owners.old) id (unmarked object)) }
     ensures err { OnErr result (whole owners.new ≡ whole owners.old) }
     ensures lanes { AreLanes (length owners.old) 0 owners.new }
+    ensures says { LanesStillSay owners.old owners.new }
 {
     let owner = &mut owners[lane as usize];
     owner.put_object(id, object)
@@ -277,6 +385,7 @@ fn obey(alloc: Global, owners: &mut [Owner], op: &Op, verdict: Verdict) -> What
     requires ready { IsServable (length owners.old) op.now verdict (whole owners.old) }
     ensures obeys { Obeys op.now verdict (whole owners.old) result (whole owners.new) }
     ensures lanes { AreLanes (length owners.old) 0 owners.new }
+    ensures says { LanesStillSay owners.old owners.new }
 {
     match verdict {
         Verdict::Granted(tickets) => match serve(alloc, owners, tickets, op) {

@@ -1,6 +1,7 @@
 use Rattle.std.proofs.Common.{get_or, sym, ap}
 use Rattle.chunk_owner.specs.Acts.{act, touched}
-use Rattle.service_core.proofs.WholeLemmas.{follows_whole, fresh_here, lane_after, touched_own}
+use Rattle.lane_owners.proofs.WholeLemmas.{follows_whole, fresh_here, lane_after, touched_own}
+use Rattle.lane_owners.proofs.SaidLemmas.{said_set}
 use Rattle.service_core.proofs.turns.act_in.Goals as goal
 
 pub act-requires-clause-touched : goal.act-requires-clause-touched
@@ -28,3 +29,9 @@ returns-clause-lanes c =
     let l = get_or ls c.args.lane c.index-owners-lane.result in
     lane_after _ c.args.lane ls l c.act.new.self c.requires.lanes c.requires.lane (sym (ap (get_or ls c.args.lane) c.index-owners-lane.is))
     (touched c.args.grant.now c.args.op.now c.args.step) (act c.args.grant.now c.args.op.now c.args.step) c.act.result c.requires.ready.touches c.act.ensures.same c.act.ensures.acts
+
+pub returns-clause-says : goal.returns-clause-says
+returns-clause-says c =
+    let ls = c.args.owners.now in
+    let l = get_or ls c.args.lane c.index-owners-lane.result in
+    said_set l c.act.new.self c.act.ensures.same c.act.ensures.says c.args.lane ls (sym (ap (get_or ls c.args.lane) c.index-owners-lane.is))

@@ -1,9 +1,10 @@
 use Rattle.std.proofs.Common.{ℕ, Ok, sym, subst, ◌∙◌}
 use Rattle.std.specs.declared.alloc.AllocError.{AllocError}
 use Rattle.object_ops.specs.declared.grants.Grant.{Grant}
-use Rattle.service_core.specs.Joined.{AreLanes, whole}
+use Rattle.lane_owners.specs.Joined.{AreLanes, whole}
 use Rattle.service_core.specs.Steps.{Takes}
 use Rattle.service_core.proofs.TurnLemmas.{ended, more, ready_next, stopped}
+use Rattle.lane_owners.proofs.SaidLemmas.{said_on}
 use Rattle.service_core.proofs.turns.run_turns.Goals as goal
 
 pub turns-preserved : goal.turns-preserved
@@ -19,9 +20,13 @@ turns-preserved c =
           c.in-Some.ensures.turn (i.4 is_done) did,
       more c.args.tickets.now.grant c.args.op.now c.args.tickets.now.left (whole c.args.owners.now) AllocError c.turns.reply c.in_ok-reply.reply (whole c.turns.owners) (whole c.take_turn.new.owners)
           c.turns.tickets.left c.next.new.self.left c.in-Some.turn c.in-Some.ensures.turn is_done did i.5,
+      said_on c.args.owners.now c.turns.owners c.take_turn.new.owners i.6 c.in_ok-reply.ensures.says,
     )
 
 pub returns-clause-runs : goal.returns-clause-runs
 returns-clause-runs c =
     ended c.args.tickets.now.grant c.args.op.now c.args.tickets.now.left (whole c.args.owners.now) c.turns.reply (whole c.turns.owners) c.turns.tickets.left
     (stopped c.args.tickets.now.grant c.args.op.now (c.turns.reply, whole c.turns.owners) c.turns.tickets.left (sym c.is_done.ensures ∙ c.turns-test.false)) c.turns.invariant.5
+
+pub returns-in_err-reply-clause-says : goal.returns-in_err-reply-clause-says
+returns-in_err-reply-clause-says c = said_on c.args.owners.now c.turns.owners c.take_turn.new.owners c.turns.invariant.6 c.in_err-reply.ensures.says

@@ -1,5 +1,6 @@
 use Rattle.std.proofs.Common.{◌≡◌, true, length}
-use Rattle.service_core.specs.Joined.{AreLanes, whole}
+use Rattle.lane_owners.specs.Joined.{AreLanes, whole}
+use Rattle.lane_owners.specs.Records.{LanesStillSay}
 use Rattle.chunk_owner.specs.Acts.{is_done}
 use Rattle.service_core.specs.Turns.{AreReady}
 use Rattle.service_core.proofs.TurnLemmas.{SoFar}
@@ -10,6 +11,7 @@ invariant-turns l =
     (l.tickets.grant ≡ l.fn.tickets.grant) × (l.grant ≡ l.fn.tickets.grant) × (length l.owners ≡ length l.fn.owners) × AreLanes (length l.fn.owners) 0 l.owners
     × (is_done l.reply ≡ true → AreReady (length l.fn.owners) l.fn.tickets.grant l.op (whole l.owners) l.tickets.left)
     × SoFar l.fn.tickets.grant l.op l.fn.tickets.left (whole l.fn.owners) l.reply (whole l.owners) l.tickets.left
+    × LanesStillSay l.fn.owners l.owners
 
 abbrev pub decreases-turns : goal.decreases-turns
 decreases-turns l = length l.tickets.left

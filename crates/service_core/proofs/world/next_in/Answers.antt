@@ -4,9 +4,10 @@ use Rattle.std.specs.Option.{option_copied}
 use Rattle.text_maps.specs.Nexts.{IsNext}
 use Rattle.object_ids.specs.IdValues.{Id}
 use Rattle.chunk_owner.specs.Lanes.{Lane}
-use Rattle.service_core.specs.Joined.{whole}
+use Rattle.lane_owners.specs.Joined.{whole}
 use Rattle.service_core.specs.Worlds.{lesser}
-use Rattle.service_core.proofs.NextLemmas.{next_none, next_push, next_step}
+use Rattle.chunk_owner.proofs.NextLemmas.{next_step}
+use Rattle.service_core.proofs.NextLemmas.{next_none, next_push}
 use Rattle.service_core.proofs.world.next_in.Goals as goal
 
 pub loop-owner-init : goal.loop-owner-init

@@ -1,6 +1,7 @@
 use Rattle.std.proofs.Common.{get_or, sym, ap}
 use Rattle.object_acts.specs.Objects.{unmarked}
-use Rattle.service_core.proofs.WholeLemmas.{home_by_lane, kept_whole, lane_put, none_here, put_whole}
+use Rattle.lane_owners.proofs.WholeLemmas.{home_by_lane, kept_whole, lane_put, none_here, put_whole}
+use Rattle.lane_owners.proofs.SaidLemmas.{said_set}
 use Rattle.service_core.proofs.world.put_in.Goals as goal
 
 pub put_object-requires-clause-lane : goal.put_object-requires-clause-lane
@@ -35,3 +36,9 @@ returns-clause-lanes c =
     let l = get_or ls c.args.lane c.index-owners-lane.result in
     lane_put _ c.args.lane ls l c.put_object.new.self c.requires.lanes c.requires.lane (sym (ap (get_or ls c.args.lane) c.index-owners-lane.is)) c.args.id (unmarked c.args.object) c.requires.home
     c.put_object.result c.put_object.ensures.same c.put_object.ensures.ok c.put_object.ensures.err
+
+pub returns-clause-says : goal.returns-clause-says
+returns-clause-says c =
+    let ls = c.args.owners.now in
+    let l = get_or ls c.args.lane c.index-owners-lane.result in
+    said_set l c.put_object.new.self c.put_object.ensures.same c.put_object.ensures.says c.args.lane ls (sym (ap (get_or ls c.args.lane) c.index-owners-lane.is))

@@ -2,9 +2,12 @@ use Rattle.std.proofs.Common.{List, length, sym, subst, ap, ◌∙◌, OnOk, OnE
 use Rattle.std.specs.FinMap.{insert}
 use Rattle.object_acts.specs.Objects.{unmarked}
 use Rattle.chunk_owner.specs.Lanes.{Lane}
-use Rattle.service_core.specs.Joined.{AreLanes, whole}
-use Rattle.service_core.specs.Steps.{IsGiven, World}
-use Rattle.service_core.specs.Worlds.{IsBuilt}
+use Rattle.lane_owners.specs.Joined.{AreLanes, whole}
+use Rattle.lane_owners.specs.Records.{LanesStillSay}
+use Rattle.service_core.specs.Records.{WorldStillSays}
+use Rattle.service_core.specs.Steps.{IsGiven}
+use Rattle.service_core.specs.Worlds.{IsBuilt, State}
+use Rattle.service_core.proofs.RecordLemmas.{both_still}
 use Rattle.service_core.proofs.WorldLemmas.{built_put, written}
 use Rattle.service_core.proofs.world.World.put_object.Goals as goal
 
@@ -16,6 +19,14 @@ invariant_of-self c =
     let lanes = subst (λ (ls : List Lane). AreLanes (length ls) 0 left) value c.put_in.ensures.lanes in
     let ok = subst (λ (ls : List Lane). OnOk c.put_in.result (whole left ≡ insert (whole ls) c.args.id (unmarked c.args.object))) value c.put_in.ensures.ok in
     let err = subst (λ (ls : List Lane). OnErr c.put_in.result (whole left ≡ whole ls)) value c.put_in.ensures.err in
-    let given = subst (λ (w : World). IsGiven w.door c.args.id) (sym c.self.view_is) c.requires.given in
+    let given = subst (λ (s : State). IsGiven s.door c.args.id) (sym c.self.view_is) c.requires.given in
     subst (IsBuilt c.self.inside.register) (sym (written _ left _ (c.put_in.auto.owners ∙ c.as_mut_slice.ensures.len)))
     (built_put c.self.inside.register items left c.args.id (unmarked c.args.object) c.put_in.result c.self.invariant given (c.put_in.auto.owners ∙ ap length value) lanes ok err)
+
+pub returns-clause-says : goal.returns-clause-says
+returns-clause-says c =
+    let left = c.put_in.new.owners in
+    let door = c.self.inside.register in
+    let lanes = subst (λ (ls : List Lane). LanesStillSay ls left) c.as_mut_slice.ensures.value c.put_in.ensures.says in
+    subst (λ (ls : List Lane). WorldStillSays c.args.self.now (record { door = door; lanes = ls })) (sym (written _ left _ (c.put_in.auto.owners ∙ c.as_mut_slice.ensures.len)))
+    (subst (λ (s : State). WorldStillSays s (record { door = door; lanes = left })) c.self.view_is (both_still door door c.self.inside.owners.items left (λ held said. said) lanes))

@@ -1,9 +1,12 @@
 use Rattle.std.proofs.Common.{List, length, sym, subst, ap, ◌∙◌}
 use Rattle.chunk_owner.specs.Lanes.{Lane}
-use Rattle.service_core.specs.Joined.{AreLanes, whole}
+use Rattle.lane_owners.specs.Joined.{AreLanes, whole}
+use Rattle.lane_owners.specs.Records.{LanesStillSay}
+use Rattle.service_core.specs.Records.{WorldStillSays}
 use Rattle.service_core.specs.Steps.{Obeys}
 use Rattle.service_core.specs.Turns.{IsServable}
-use Rattle.service_core.specs.Worlds.{IsBuilt}
+use Rattle.service_core.specs.Worlds.{IsBuilt, State, seen}
+use Rattle.service_core.proofs.RecordLemmas.{both_still}
 use Rattle.service_core.proofs.WorldLemmas.{built_after, servable_now, steps_said, written}
 use Rattle.service_core.proofs.world.World.step.Goals as goal
 
@@ -24,11 +27,19 @@ invariant_of-self c =
     (built_after c.self.inside.register items c.args.caller.now c.args.request.now c.is_sound.ensures.door c.is_sound.ensures.catalogue c.self.invariant
     c.decide-verdict.result c.obey-what.result c.decide-verdict.new.self left c.decide-verdict.ensures.decides obeys (c.obey-what.auto.owners ∙ ap length value) lanes)
 
-pub returns : goal.returns
-returns c =
+pub returns-clause-steps : goal.returns-clause-steps
+returns-clause-steps c =
     let left = c.obey-what.new.owners in
     let value = c.as_mut_slice.ensures.value in
     let obeys = subst (λ (ls : List Lane). Obeys c.args.request.now.op c.decide-verdict.result (whole ls) c.obey-what.result (whole left)) value c.obey-what.ensures.obeys in
-    steps_said c.self.inside.register c.decide-verdict.new.self c.self.inside.owners.items left _ c.args.self.now c.args.caller.now c.args.request.now c.decide-verdict.result
-    (record { place = c.places-place.result; what = c.obey-what.result }) c.self.view_is (written _ left _ (c.obey-what.auto.owners ∙ c.as_mut_slice.ensures.len))
+    steps_said c.self.inside.register c.decide-verdict.new.self c.self.inside.owners.items left _ (seen c.args.self.now) c.args.caller.now c.args.request.now c.decide-verdict.result
+    (record { place = c.places-place.result; what = c.obey-what.result }) (ap seen c.self.view_is) (written _ left _ (c.obey-what.auto.owners ∙ c.as_mut_slice.ensures.len))
     c.places-place.ensures c.decide-verdict.ensures.decides obeys
+
+pub returns-clause-says : goal.returns-clause-says
+returns-clause-says c =
+    let left = c.obey-what.new.owners in
+    let lanes = subst (λ (ls : List Lane). LanesStillSay ls left) c.as_mut_slice.ensures.value c.obey-what.ensures.says in
+    subst (λ (ls : List Lane). WorldStillSays c.args.self.now (record { door = c.decide-verdict.new.self; lanes = ls })) (sym (written _ left _ (c.obey-what.auto.owners ∙ c.as_mut_slice.ensures.len)))
+    (subst (λ (s : State). WorldStillSays s (record { door = c.decide-verdict.new.self; lanes = left })) c.self.view_is
+    (both_still c.self.inside.register c.decide-verdict.new.self c.self.inside.owners.items left c.decide-verdict.ensures.says lanes))

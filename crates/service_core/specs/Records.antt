@@ -1,0 +1,86 @@
+-- What a journal holds of a world, and the world that it holds.
+--     WorldSays s held      what is held tells the world, but for what is to be written
+--     WorldStillSays old new      so it does after a change, where it did before
+--     IsWorldMarked s key      the next cut writes the record of a key
+--     IsKept s      nothing is to be written
+--     DescribesWorld held run w      what is held describes the world, in this run
+--     IsWorldOf held lanes s      the world that is described, at the begin of the next run
+--     IsWorldFault lanes held key      the key that is named where none is described
+use Rattle.std.specs.Prelude.{◌≡◌, ℕ, ◌⊎◌, List, Result, Err}
+use Rattle.flush_journal.specs.Records.{Held, Record}
+use Rattle.flush_journal.specs.declared.why.Why.{Why}
+use Rattle.flush_journal.specs.declared.why.Why.TheVariants as why
+use Rattle.record_keys.specs.Keys.{run_key}
+use Rattle.record_keys.specs.Numbers.{run_bytes}
+use Rattle.lane_installs.specs.Records.{IsLeast}
+use Rattle.lane_owners.specs.Records.{AreFaultless, AreGivenUpTo, AreStillIn, DescribesObjects, IsFirstFault, IsMarkedIn, LanesSay}
+use Rattle.register_installs.specs.Registers.{DescribesRegister, IsNextNumber, IsRegisterFault, IsRun}
+use Rattle.register.specs.Decided.{Door}
+use Rattle.register.specs.declared.installs.InstallFault.{InstallFault}
+use Rattle.register.specs.declared.installs.InstallFault.TheVariants.{BadRecord, RunsUsed, NoMemory}
+use Rattle.register.specs.Kept.{IsInstalled, IsRegisterMarked, RegisterSays, all_kept}
+use Rattle.stray_records.specs.Strays.{HasNoStrays, IsStray}
+use Rattle.service_core.specs.Steps.{World}
+use Rattle.service_core.specs.Worlds.{State, seen}
+
+-- ---- what is held
+
+-- of each record but those that are to be written; and nothing is held besides
+pub record WorldSays (s : State) (held : Held) : Type 0 where
+  pub register : RegisterSays s.door held
+  pub lanes : LanesSay s.lanes held
+  pub strays : HasNoStrays held
+
+-- what is held tells the world where it told what was before
+abbrev pub WorldStillSays : State → State → Type 0
+WorldStillSays old new = (held : Held) → WorldSays old held → WorldSays new held
+
+abbrev pub IsWorldMarked : State → List ℕ → Type 0
+IsWorldMarked s key = IsRegisterMarked s.door key ⊎ IsMarkedIn s.lanes key
+
+pub record IsKept (s : State) : Type 0 where
+  pub register : s.door ≡ all_kept s.door
+  pub lanes : AreStillIn s.lanes
+
+-- the same world, whatever of it is to be written
+pub record IsSameWorld (old new : State) : Type 0 where
+  pub door : all_kept new.door ≡ all_kept old.door
+  pub objects : (seen new).objects ≡ (seen old).objects
+
+-- ---- the world that is described
+
+-- by the records of the run and of the next domain's number, of each folder and domain, and of each object and its chunks; there is no other
+pub record DescribesWorld (held : Held) (run : ℕ) (w : World) : Type 0 where
+  pub register : DescribesRegister held run w.door.catalogue
+  pub objects : DescribesObjects held w.objects
+  pub given : AreGivenUpTo run w.door.catalogue.next w.objects
+  pub strays : HasNoStrays held
+
+-- no place and no ticket was given, and no serial
+pub record IsWorldOf (held : Held) (lanes : ℕ) (s : State) : Type 0 where
+  pub register : IsInstalled held lanes s.door
+  pub describes : DescribesWorld held register.kept (seen s)
+
+-- ---- a key at fault
+
+-- the least of the register's; else, where the run and the next number are known, the least of the first lane that has one; else the least of no part
+pub data IsWorldFault (lanes : ℕ) (held : Held) (key : List ℕ) : Type 0 where
+  of_register : IsLeast (IsRegisterFault held) key → IsWorldFault lanes held key
+  of_lane : (run next : ℕ) → IsRun held run → IsNextNumber held next → ((q : List ℕ) → IsRegisterFault held q → ⊥) → IsFirstFault lanes run next held key → IsWorldFault lanes held key
+  of_none : (run next : ℕ) → IsRun held run → IsNextNumber held next → ((q : List ℕ) → IsRegisterFault held q → ⊥) → AreFaultless lanes run next held → IsLeast (IsStray held) key
+      → IsWorldFault lanes held key
+
+-- the fault of a record is named by the record's key
+abbrev pub Names : List ℕ → InstallFault → Type 0
+Names key (BadRecord k) = k.items ≡ key
+Names key RunsUsed = ⊥
+Names key NoMemory = Unit {0}
+
+-- ---- the begin of a run
+
+abbrev pub run_record : Door → Record
+run_record d = (run_key, run_bytes d.run)
+
+-- memory ran out and the one holds, or the other does
+abbrev pub OrNoMemory : Result (Unit {0}) Why → Type 0 → Type 0 → Type 0
+OrNoMemory result nothing done = ((result ≡ Err why.NoMemory) × nothing) ⊎ done
