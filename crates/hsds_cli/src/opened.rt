@@ -35,12 +35,10 @@ impl<R: Read> Source for Opened<R> {
             self.count.rise();
             return Err(Failed);
         };
-        match reader.read(buf) {
-            Ok(count) => Ok(count),
-            Err(_) => {
-                self.count.rise();
-                Err(Failed)
-            }
-        }
+        let Ok(count) = reader.read(buf) else {
+            self.count.rise();
+            return Err(Failed);
+        };
+        Ok(count)
     }
 }

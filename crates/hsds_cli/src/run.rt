@@ -1,4 +1,4 @@
-ghost use Rattle.std.specs.Prelude.{◌≡◌, ◌⊎◌, ◌<◌, ◌≤◌, ℕ, List, Some, IsSome, map, length};
+ghost use Rattle.std.specs.Prelude.{◌≡◌, ◌⊎◌, ◌<◌, ◌≤◌, ℕ, List, Some, None, IsSome, map, length};
 ghost use Rattle.std.specs.Prelude.{string_bytes, vec_len, IfOk, IfErr};
 ghost use Rattle.edge_traits.specs.Causes.{Rose};
 ghost use Rattle.configuration.specs.declared.config.Config.{Config};
@@ -10,6 +10,7 @@ ghost use Rattle.link_service.specs.Links.{AllSpelled, HasCauses, spellings};
 ghost use Rattle.hsds_cli.specs.declared.run.TheConstants.{MAX_DOORS};
 ghost use Rattle.hsds_cli.specs.declared.status.Status.{Status};
 ghost use Rattle.hsds_cli.specs.Openings.{opening};
+ghost use Rattle.service_core.specs.Worlds.{seen};
 ghost use Rattle.hsds_cli.specs.Status.{number_of};
 ghost use Rattle.hsds_cli.specs.Runs.{IsRun, IsRefusal, IsSession, Spells, configured, status_of};
 
@@ -79,6 +80,9 @@ pub fn run<C: Source, S: Source, K: Sink, D: Disk, F: Door>(
     ensures input_later { S.faults input.old ≤ S.faults input.new }
     ensures out_later { K.faults out.old ≤ K.faults out.new }
 
+    // Where the words are no command, the configuration isn't read.
+    ensures unread { command_of (map string_bytes words.now) ≡ None → config.new ≡ config.old }
+
     ensures disk { result.disk ≡ Some disk }
     ensures doors { result.doors ≡ doors }
 
@@ -125,6 +129,7 @@ fn serve<C: Source, S: Source, K: Sink>(
     ensures config_later { C.faults config.old ≤ C.faults config.new }
     ensures input_later { S.faults input.old ≤ S.faults input.new }
     ensures out_later { K.faults out.old ≤ K.faults out.new }
+    ensures unread { command_of (map string_bytes words.now) ≡ None → config.new ≡ config.old }
 {
     match wanted(alloc, words) {
         Ok(_command) => {}
@@ -176,7 +181,7 @@ fn serve_over<L: Link>(alloc: Global, config: Config, link: &mut L) -> LinkEnd
 /// The world at the start of a session.
 fn opening(alloc: Global, catalogue: Catalogue) -> Result<World, AllocError>
     requires { HasFirstRoots catalogue }
-    ensures { IfOk result (λ world. world ≡ opening catalogue) }
+    ensures { IfOk result (λ world. seen world ≡ opening catalogue) }
 {
     World::new(alloc, Register::new(alloc, catalogue, LANES, RUN))
 }

@@ -5,6 +5,7 @@ ghost use Rattle.std.specs.Io.KnownBytes.{Consumes, Appends};
 ghost use Rattle.link_service.specs.Links.{HasCauses, IsTranscript};
 ghost use Rattle.link_service.specs.declared.end.LinkEnd.TheVariants.{NoMemory};
 ghost use Rattle.rest_session.specs.Sessions.{IsServed};
+ghost use Rattle.service_core.specs.Worlds.{seen};
 
 use crate::world_session::WorldSession;
 use edge_traits::Link;
@@ -23,9 +24,9 @@ pub fn serve_world<L: Link>(
     ensures transcript { (taken : List ℕ) × (sent : List ℕ)
         × Consumes (L.left link.old) (L.left link.new) taken
         × Appends (L.held link.old) (L.held link.new) sent
-        × IsTranscript IsServed (record { tokens = tokens.now; world = world.old })
+        × IsTranscript IsServed (record { tokens = tokens.now; world = seen world.old })
         taken sent (L.left link.new)
-        (record { tokens = tokens.now; world = world.new }) result }
+        (record { tokens = tokens.now; world = seen world.new }) result }
     ensures names { L.Source.names link.new ≡ L.Source.names link.old }
     ensures causes { HasCauses (L.Source.faults link.old) (L.Source.faults link.new)
         (L.Sink.faults link.old) (L.Sink.faults link.new) result }

@@ -9,6 +9,7 @@ ghost use Rattle.object_ops.specs.Conditions.{IsSoundOp};
 ghost use Rattle.object_ops.specs.Needs.{decided_at};
 ghost use Rattle.rest_requests.specs.Requests.{said};
 ghost use Rattle.service_core.specs.Steps.{Steps};
+ghost use Rattle.service_core.specs.Worlds.{seen};
 ghost use Rattle.service_core.specs.declared.answers.Answer as answer;
 ghost use Rattle.rest_session.specs.Responses.{IsResponse, refused};
 ghost use Rattle.rest_session.specs.Sessions.{IsServed, Served, said_by};
@@ -35,10 +36,11 @@ pub struct WorldSession<'a> {
 impl<'a> Service for WorldSession<'a> {
     ghost use base.Fml.{GName};
     ghost use Rattle.bearer_tokens.specs.Bearer.{TokenTable};
+    ghost use Rattle.service_core.specs.Worlds.{seen};
 
     ghost World = { Served };
 
-    ghost world = { λ s. record { tokens = s.tokens.now; world = s.world.now } };
+    ghost world = { λ s. record { tokens = s.tokens.now; world = seen s.world.now } };
 
     ghost step = { IsServed };
 
@@ -84,9 +86,9 @@ fn refuse(alloc: Global, refusal: &Refusal, allow: Methods) -> Reply
 fn step(alloc: Global, world: &mut World, caller: &Caller, request: &Request) -> Reply
     requires { IsSoundOp request.now.op }
     ensures { (close : Bool) → ((answer : answer.Answer)
-        × Steps world.old caller.now request.now answer world.new
+        × Steps (seen world.old) caller.now request.now answer (seen world.new)
         × IsResponse (decided_at request.now) answer.what close (reply_bytes result close))
-        ⊎ ((reply_bytes result close ≡ no_memory_reply close) × (world.new ≡ world.old)) }
+        ⊎ ((reply_bytes result close ≡ no_memory_reply close) × (seen world.new ≡ seen world.old)) }
 {
     if !world.has_room() {
         return no_memory();
