@@ -116,10 +116,10 @@ const PLACES: [&str; 8] = [
     "/home/lab",
     "/home/old",
     "/home/lab/a",
-    "/work",
-    "/work/a",
-    "/work/b",
-    "/work/b/c",
+    "/site",
+    "/site/a",
+    "/site/b",
+    "/site/b/c",
 ];
 
 const NAMES: [&str; 4] = ["unit", "a", "b", "g:lab"];
