@@ -1,5 +1,5 @@
 -- A walk over records that installs the objects of a lane.
-use Rattle.std.proofs.Common.{◌≡◌, ◌≢◌, inl, inr, ℕ, Bool, true, false, cond, List, [], ◌∷◌, ◌++◌, Option, Some, None, option_and_then, Result, Ok, Err, OnOk, IfErr, refl, sym, ap, subst, ◌∙◌, arith}
+use Rattle.std.proofs.Common.{◌≡◌, ◌≢◌, inl, inr, ℕ, Bool, true, false, cond, List, [], ◌∷◌, ◌++◌, Option, Some, None, option_and_then, Result, Ok, Err, IfErr, refl, sym, ap, subst, ◌∙◌, arith}
 use Rattle.std.specs.FinMap.{empty, entries, get, get-empty, insert}
 use Rattle.std.specs.Option.{option_map_or}
 use Rattle.std.specs.Ordering.{eq_by_cmp}
@@ -37,10 +37,6 @@ use Rattle.lane_installs.proofs.LaneKeys.{by_id, chunk_more, chunk_of_other, chu
 use Rattle.lane_installs.proofs.Taking.{chunk_told, chunk_untold, chunks_said, grid_told, installed_taken, record_taken}
 
 -- ---- outcomes
-
-pub ok_map : {A E P Q : Type 0} (r : Result A E) → (P → Q) → OnOk r P → OnOk r Q
-ok_map (Ok x) f h = f h
-ok_map (Err e) f h = tt
 
 pub err_map : {A E : Type 0} (r : Result A E) (P Q : E → Type 0) → ((x : E) → P x → Q x) → IfErr r P → IfErr r Q
 err_map (Ok x) P Q f h = tt

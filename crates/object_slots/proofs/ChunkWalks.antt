@@ -1,5 +1,5 @@
 -- The walk over the chunks whose records are to be written.
-use Rattle.std.proofs.Common.{◌≡◌, ◌≢◌, ℕ, ◌<◌, ◌≤◌, ◌||◌, Bool, true, false, cond, length, IsSome, is_some, bytes_eq, List, [], ◌∷◌, ◌++◌, Option, Some, None, Ordering, Less, Equal, Greater, nat_cmp, is_eq, refl, sym, ap, subst, ◌∙◌, ◌⊎◌, inl, inr, arith}
+use Rattle.std.proofs.Common.{◌≡◌, ◌≢◌, ℕ, ◌<◌, Bool, true, false, length, IsSome, bytes_eq, List, [], ◌∷◌, ◌++◌, Option, Some, None, Ordering, Less, Equal, Greater, nat_cmp, is_eq, refl, sym, ap, subst, ◌∙◌, ◌⊎◌, inl, inr}
 use Rattle.std.specs.List.{filter}
 use Rattle.std.specs.Map.{lookup}
 use Rattle.std.specs.Ordering.{is_lt}
@@ -9,7 +9,7 @@ use Rattle.std.proofs.lemmas.Map.Text.{is_eq-slice_cmp}
 use Rattle.std.proofs.lemmas.Slice.Eq.{bytes_eq-Decides}
 use Rattle.chunk_store.specs.Marks.{ComesAfter, IsNext, is_after}
 use Rattle.object_slots.specs.Cutting.{AreDistinct, is_among}
-use Rattle.object_slots.proofs.Passing.{by_bool, contrary, or_more, or_first, or_later, or_either, or_neither, neither_or, fewer_there, found_lookup}
+use Rattle.object_slots.proofs.Passing.{by_bool, contrary, lt_less, or_more, or_first, or_later, or_either, or_neither, neither_or, fewer_there, found_lookup}
 
 -- ---- chunks among others
 
@@ -101,11 +101,6 @@ module _ (is_meant : List ℕ → Bool) (done : List (List ℕ)) (after : Option
   ]
 
 -- ---- fewer chunks come after a later one
-
-lt_less : (o : Ordering) → is_lt o ≡ true → o ≡ Less
-lt_less Less e = refl
-lt_less Equal e = contrary false (Equal ≡ Less) e refl
-lt_less Greater e = contrary false (Greater ≡ Less) e refl
 
 is_after_true : (after : Option (List ℕ)) (i : List ℕ) → ComesAfter after i → is_after after i ≡ true
 is_after_true None i h = refl

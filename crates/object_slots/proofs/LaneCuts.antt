@@ -1,7 +1,7 @@
 -- Cuts of slots in turn.
-use Rattle.std.proofs.Common.{◌≡◌, ◌≢◌, ℕ, ◌<◌, ◌⊎◌, inl, inr, Bool, true, false, cond, List, [], ◌∷◌, ◌++◌, length, Option, Some, None, is_some, IsSome, Ordering, Less, Equal, Greater, is_eq, refl, sym, ap, subst, ◌∙◌, append-nil}
-use Rattle.std.specs.FinMap.{empty, get, entries, find, get-empty, get-entries}
-use Rattle.std.specs.List.{AllByRecursion, list_any}
+use Rattle.std.proofs.Common.{◌≡◌, ◌≢◌, ℕ, ◌<◌, ◌⊎◌, inl, inr, Bool, true, false, cond, List, [], length, Option, Some, None, is_some, IsSome, Ordering, Less, Equal, Greater, is_eq, refl, sym, ap, subst, ◌∙◌, append-nil}
+use Rattle.std.specs.FinMap.{empty, get, entries, get-empty, get-entries}
+use Rattle.std.specs.List.{AllByRecursion}
 use Rattle.std.specs.Option.{option_map_or}
 use Rattle.std.specs.Ordering.{eq_by_cmp, is_lt, ordering_reverse}
 use Rattle.std.specs.Cmp.{Equal-is}
@@ -14,23 +14,23 @@ use Rattle.object_ids.specs.declared.ids.Kind.{Kind}
 use Rattle.object_ids.specs.declared.ids.Kind.TheVariants as kinds
 use Rattle.object_ids.proofs.IdOrders.{id_order_once, id_order_total}
 use Rattle.chunk_store.specs.Grids.{Grid}
-use Rattle.chunk_store.specs.Marks.{Stored, cleared, flagged, in_grid, is_dirty, state}
+use Rattle.chunk_store.specs.Marks.{cleared, flagged, in_grid, state}
 use Rattle.object_acts.specs.declared.objects.Object.{Object}
 use Rattle.object_acts.specs.declared.objects.Body.{Body}
 use Rattle.object_acts.specs.declared.objects.Body.TheVariants as body
 use Rattle.object_acts.specs.Objects.{IsOfKind, IsSoundBody, bare, kind_of_body, unmarked, unmarked_body}
 use Rattle.flush_journal.specs.Records.{Record, Held, put_all}
 use Rattle.flush_journal.proofs.PutLemmas.{put_others}
-use Rattle.record_cuts.specs.Cuts.{AreApart, IsCut, IsEither, IsWithout}
+use Rattle.record_cuts.specs.Cuts.{AreApart, IsCut, IsEither}
 use Rattle.record_cuts.proofs.CutLemmas.{all_more, in_turn}
 use Rattle.record_keys.specs.Keys.{chunk_key, object_key}
 use Rattle.object_slots.specs.declared.slot.Mark.{Mark}
 use Rattle.object_slots.specs.declared.slot.Mark.TheVariants.{Kept, Changed, Dropped}
 use Rattle.object_slots.specs.declared.slot.Slot.{Slot}
-use Rattle.object_slots.specs.Slots.{AreChunksIn, AreOfKind, AreStill, HasNoChunks, HasRecord, IsMarked, IsMarkedIn, IsRecordOf, IsStill, IsStillBody, Says, Slots, chunks_at, is_index, object_by, object_of}
+use Rattle.object_slots.specs.Slots.{AreChunksIn, AreOfKind, AreStill, HasRecord, IsMarked, IsMarkedIn, IsStill, IsStillBody, Says, Slots, chunks_at, is_index, object_by, object_of}
 use Rattle.object_slots.specs.Cutting.{AddsAt, AddsFrontAt}
-use Rattle.object_slots.specs.Settled.{ArraySettles, BodySettles, Settles, SettlesBy, SlotSettles}
-use Rattle.object_slots.proofs.Passing.{by_bool, contrary, fewer_there, found_find}
+use Rattle.object_slots.specs.Settled.{BodySettles, Settles, SettlesBy, SlotSettles}
+use Rattle.object_slots.proofs.Passing.{by_bool, contrary, lt_less, fewer_there, found_find}
 use Rattle.object_slots.proofs.KeyFacts.{chunk_id_once, object_no_chunk, object_once}
 use Rattle.object_slots.proofs.SlotCuts.{front_cut, slot_cut}
 
@@ -147,10 +147,8 @@ none_of_kind id s e = none_is s (sym (get-empty id_order id) ∙ e)
 
 -- ---- the walk
 
-lt_less : (o : Ordering) → is_lt o ≡ true → o ≡ Less
-lt_less Less e = refl
-lt_less Equal e = contrary false (Equal ≡ Less) e refl
-lt_less Greater e = contrary false (Greater ≡ Less) e refl
+other_id : (id q : Id) → is_eq (id_order q id) ≡ false → q ≢ id
+other_id id q n same = contrary (is_eq (id_order q id)) ⊥ (ap (λ (x : Id). is_eq (id_order x id)) same ∙ ap is_eq (tied_itself id_order_total id)) n
 
 pub weaker_behind : (last : Option Id) (id q : Id) → is_behind id_order last id ≡ true → is_behind id_order (Some id) q ≡ true → is_behind id_order last q ≡ true
 weaker_behind None id q h e = refl
@@ -247,14 +245,11 @@ module _ (old cur : Slots) (first mid new : List Record) (last : Option Id) (far
           said_later held added marked stands q mine was = by_bool (eq_id q) (Says (get after q) q (put_all added held))
               (λ y. let same = id_order_once q id ((Equal-is (id_order q id)).0 y) in
               subst (λ (x : Id). Says (get after x) x (put_all added held)) (sym same) (stands (subst (λ (o : Option Slot). Says o id held) here (subst (λ (x : Id). Says (get cur x) x held) same was))))
-              (λ n. let other = not_equal q n in
+              (λ n. let other = other_id id q n in
               subst (λ (o : Option Slot). Says o q (put_all added held)) (sym (others q other))
               (others_said id q range mine other s.mark s.object.body added marked held (get cur q) (λ t e. far.kinds q t e) was)) where
                 eq_id : Id → Bool
                 eq_id q = is_eq (id_order q id)
-
-                not_equal : (q : Id) → is_eq (id_order q id) ≡ false → q ≢ id
-                not_equal q n same = contrary (is_eq (id_order q id)) ⊥ (ap (λ (x : Id). is_eq (id_order x id)) same ∙ ap is_eq (tied_itself id_order_total id)) n
 
   -- the next object was cut
   pub far_more : (after : Slots) → ((q : Id) → q ≢ id → get after q ≡ get cur q) → AddsAt id (get cur id) mid new → Settles (get cur id) (get after id) → IsFar old after first new (Some id)
@@ -264,27 +259,24 @@ module _ (old cur : Slots) (first mid new : List Record) (last : Option Id) (far
     same = λ q. by_bool (is_eq (id_order q id)) (object_of (get after q) ≡ object_of (get old q))
         (λ y. let same = id_order_once q id ((Equal-is (id_order q id)).0 y) in
         subst (λ (x : Id). object_of (get after x) ≡ object_of (get old x)) (sym same) (settled_object (get cur id) (get after id) settles ∙ far.same id))
-        (λ n. ap object_of (others q (other_id q n)) ∙ far.same q);
+        (λ n. ap object_of (others q (other_id id q n)) ∙ far.same q);
     each = λ q. by_bool (is_eq (id_order q id)) ((get after q ≡ get old q) ⊎ Settles (get old q) (get after q))
         (λ y. let same = id_order_once q id ((Equal-is (id_order q id)).0 y) in
         subst (λ (x : Id). (get after x ≡ get old x) ⊎ Settles (get old x) (get after x)) (sym same) (inr (subst (λ (o : Option Slot). Settles o (get after id)) (far.ahead id next.0) settles)))
-        (λ n. subst (λ (o : Option Slot). (o ≡ get old q) ⊎ Settles (get old q) o) (sym (others q (other_id q n))) (far.each q));
+        (λ n. subst (λ (o : Option Slot). (o ≡ get old q) ⊎ Settles (get old q) o) (sym (others q (other_id id q n))) (far.each q));
     still = λ q t h e. by_place id q (IsStill t) h
         (λ same. settled_still s.mark s t (get after id) settled (subst (λ (x : Id). get after x ≡ Some t) same e))
         (λ other less. still_before q t other less (sym (others q other) ∙ e) (is_behind id_order last q) refl);
     kinds = λ q t e. by_bool (is_eq (id_order q id)) (IsOfKind q.kind t.object)
         (λ y. let same = id_order_once q id ((Equal-is (id_order q id)).0 y) in
         subst (λ (x : Id). IsOfKind x.kind t.object) (sym same) (settled_kind id.kind s.mark s t (get after id) settled (subst (λ (x : Id). get after x ≡ Some t) same e) of))
-        (λ n. far.kinds q t (sym (others q (other_id q n)) ∙ e));
+        (λ n. far.kinds q t (sym (others q (other_id id q n)) ∙ e));
   } where
     settled : Settles (Some s) (get after id)
     settled = subst (λ (o : Option Slot). Settles o (get after id)) here settles
 
     added : AddsAt id (Some s) mid new
     added = subst (λ (o : Option Slot). AddsAt id o mid new) here adds
-
-    other_id : (q : Id) → is_eq (id_order q id) ≡ false → q ≢ id
-    other_id q n same = contrary (is_eq (id_order q id)) ⊥ (ap (λ (x : Id). is_eq (id_order x id)) same ∙ ap is_eq (tied_itself id_order_total id)) n
 
     still_before : (q : Id) (t : Slot) → q ≢ id → id_order q id ≡ Less → get cur q ≡ Some t → (b : Bool) → is_behind id_order last q ≡ b → IsStill t
     still_before q t other less e true behind = none_is t (sym (next.2 q behind less) ∙ e)

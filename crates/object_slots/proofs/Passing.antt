@@ -1,9 +1,9 @@
 -- Tests, and how many entries pass them.
-use Rattle.std.proofs.Common.{◌≡◌, ℕ, ◌<◌, ◌≤◌, ◌||◌, Bool, true, false, cond, length, IsSome, is_some, List, [], ◌∷◌, Option, Some, None, Result, Ok, Err, OnErr, Ordering, refl, sym, ap, ◌∙◌, arith}
-use Rattle.std.specs.FinMap.{FinMap, find}
+use Rattle.std.proofs.Common.{◌≡◌, ◌<◌, ◌≤◌, ◌||◌, Bool, true, false, cond, length, IsSome, is_some, List, [], ◌∷◌, Some, Result, Ok, Err, OnErr, Ordering, Less, Equal, Greater, refl, sym, ap, ◌∙◌, arith}
+use Rattle.std.specs.FinMap.{find}
 use Rattle.std.specs.List.{filter, list_any}
 use Rattle.std.specs.Map.{lookup}
-use Rattle.std.specs.Ordering.{eq_by_cmp}
+use Rattle.std.specs.Ordering.{eq_by_cmp, is_lt}
 
 pub by_bool : (b : Bool) (P : Type 0) → (b ≡ true → P) → (b ≡ false → P) → P
 by_bool true P is_so isnt = is_so refl
@@ -11,6 +11,11 @@ by_bool false P is_so isnt = isnt refl
 
 pub contrary : (b : Bool) (P : Type 0) → b ≡ true → b ≡ false → P
 contrary b P is_so isnt = absurd (let both : true ≡ false = sym is_so ∙ isnt in cc)
+
+pub lt_less : (o : Ordering) → is_lt o ≡ true → o ≡ Less
+lt_less Less e = refl
+lt_less Equal e = contrary false (Equal ≡ Less) e refl
+lt_less Greater e = contrary false (Greater ≡ Less) e refl
 
 -- ---- one or the other
 

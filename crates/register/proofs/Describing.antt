@@ -29,7 +29,7 @@ use Rattle.register.specs.Decided.{Door, IsDoor}
 use Rattle.register.specs.Kept.{AreTexts, IsHeldNode, RegisterSays, is_marked, is_marked_in}
 use Rattle.register.specs.Cutting.{IsAmong}
 use Rattle.register.proofs.Installing.{one_run, same_bytes}
-use Rattle.register.proofs.Parts.{by_bool, contrary}
+use Rattle.object_slots.proofs.Passing.{by_bool, contrary}
 
 -- ---- how many records of nodes stand before one
 

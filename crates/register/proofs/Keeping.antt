@@ -19,7 +19,8 @@ use Rattle.register.specs.Marks.{Marked}
 use Rattle.register.specs.Decided.{Door}
 use Rattle.register.specs.Kept.{IsHeldNode, IsRegisterMarked, the_run, the_next, a_node, RegisterSays, all_kept, is_marked, is_marked_in}
 use Rattle.register.specs.Cutting.{AddsRegister, AreAdded, IsAmong, IsDueNode, IsDueOne, IsNodeBody, IsRightNode, IsRightOne, OfEither, is_of_all, is_of_paths}
-use Rattle.register.proofs.Parts.{AreApart, by_bool, contrary}
+use Rattle.object_slots.proofs.Passing.{by_bool, contrary}
+use Rattle.register.proofs.Parts.{AreApart}
 use Rattle.register.proofs.PathWalks.{same_path}
 
 -- ---- where the last record of a key says what stands there

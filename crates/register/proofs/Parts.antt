@@ -1,17 +1,11 @@
 -- Parts of a cut in turn.
-use Rattle.std.proofs.Common.{◌≡◌, ◌≢◌, inl, inr, ℕ, List, [], ◌∷◌, ◌++◌, Bool, true, false, Result, Ok, Err, OnOk, OnErr, refl, sym, ap, subst, ◌∙◌, append_assoc, append-nil}
+use Rattle.std.proofs.Common.{◌≡◌, ◌≢◌, inl, inr, ℕ, List, [], ◌∷◌, ◌++◌, Bool, true, false, Result, Ok, Err, OnErr, refl, sym, ap, subst, ◌∙◌, append_assoc, append-nil}
 use Rattle.std.specs.List.{AllByRecursion}
 use Rattle.flush_journal.specs.Records.{Record}
 use Rattle.record_cuts.specs.Cuts.{AddsRecord, AreOnce}
 use Rattle.record_cuts.proofs.CutLemmas.{all_append, all_more}
+use Rattle.object_slots.proofs.Passing.{contrary}
 use Rattle.register.specs.Cutting.{Adds, AddsOne, IsAmong, OfEither}
-
-pub contrary : (b : Bool) (P : Type 0) → b ≡ true → b ≡ false → P
-contrary b P is_so isnt = absurd (let both : true ≡ false = sym is_so ∙ isnt in cc)
-
-pub by_bool : (b : Bool) (P : Type 0) → (b ≡ true → P) → (b ≡ false → P) → P
-by_bool true P is_so isnt = is_so refl
-by_bool false P is_so isnt = isnt refl
 
 among_front : (key : List ℕ) (xs ys : List Record) → IsAmong key xs → IsAmong key (xs ++ ys)
 among_front key [] ys h = absurd h
@@ -73,10 +67,6 @@ module _ (due : Bool) (key body : List ℕ) (old new : List Record) where
   none_added e = ([], record { right = tt; once = tt; all = λ w k d. contrary false (IsAmong k []) w refl }, e ∙ sym (append-nil old))
 
 -- ---- what a call says
-
-pub map_ok : {A E P Q : Type 0} (r : Result A E) → (P → Q) → OnOk r P → OnOk r Q
-map_ok (Ok x) f h = f h
-map_ok (Err e) f h = tt
 
 pub map_err : {A E P Q : Type 0} (r : Result A E) → (P → Q) → OnErr r P → OnErr r Q
 map_err (Ok x) f h = tt

@@ -17,7 +17,7 @@ use Rattle.domains.specs.declared.classes.Node.{Node}
 use Rattle.record_keys.specs.Keys.{node_key}
 use Rattle.register.specs.Cutting.{AddsNodes, AddsWanted, AreAdded, IsAmong, IsDueNode, IsNodeBody, IsRightNode, is_key_wanted, is_of_all, is_of_paths, is_wanted}
 use Rattle.register.specs.Marks.{Marked}
-use Rattle.register.proofs.Parts.{by_bool, contrary}
+use Rattle.object_slots.proofs.Passing.{by_bool, contrary, lt_less}
 
 pub both : (a b : Bool) → a ≡ true → b ≡ true → (a && b) ≡ true
 both a b e f = ap (λ x. x && b) e ∙ f
@@ -34,11 +34,6 @@ pub same_path : (p q : List ℕ) → node_key p ≡ node_key q → p ≡ q
 same_path p q e = cc
 
 -- ---- behind a path
-
-lt_less : (o : Ordering) → is_lt o ≡ true → o ≡ Less
-lt_less Less e = refl
-lt_less Equal e = contrary false (Equal ≡ Less) e refl
-lt_less Greater e = contrary false (Greater ≡ Less) e refl
 
 weaker_behind : (last : Option (List ℕ)) (k q : List ℕ) → is_behind text_order last k ≡ true → is_behind text_order (Some k) q ≡ true → is_behind text_order last q ≡ true
 weaker_behind None k q h e = refl

@@ -34,7 +34,7 @@ use Rattle.register.specs.Laws.{DecisionsKeepWhatIsSaid}
 use Rattle.register.specs.Marks.{Marked, all_marks, with_domain, with_path}
 use Rattle.register.specs.declared.verdicts.Verdict.{Verdict}
 use Rattle.register.specs.declared.verdicts.Verdict.TheVariants.{Granted, Answered, Denied, Refused, NoMemory}
-use Rattle.register.proofs.Parts.{by_bool, contrary}
+use Rattle.object_slots.proofs.Passing.{by_bool, contrary}
 
 abbrev pub StillSays : Door → Door → Type 0
 StillSays d new = (held : Held) → RegisterSays d held → RegisterSays new held
