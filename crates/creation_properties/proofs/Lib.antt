@@ -1,0 +1,2 @@
+mod CreationLemmas
+mod SpelledLemmas

@@ -1,0 +1,11 @@
+pub mod Paths
+pub mod Faults
+pub mod Items
+pub mod Ids
+pub mod Names
+pub mod AttributeLists
+pub mod TitleMaps
+pub mod LinkLists
+pub mod Types
+pub mod Arrays
+pub mod Spelled

@@ -1,0 +1,4 @@
+mod CollectionLemmas
+mod ParseLemmas
+mod ObjectLemmas
+pub mod DocumentLemmas
