@@ -1,0 +1,5 @@
+pub mod Walking
+pub mod MemberLemmas
+pub mod LinkLemmas
+pub mod EntryLemmas
+pub mod DocumentLemmas
