@@ -40,7 +40,7 @@ use Rattle.register.specs.declared.verdicts.Verdict.{Verdict}
 use Rattle.register.specs.declared.verdicts.Verdict.TheVariants as verdict
 use Rattle.service_core.specs.declared.answers.What.{What}
 use Rattle.service_core.specs.declared.answers.What.TheVariants.{Replied, Denied, NoMemory}
-use Rattle.service_core.specs.Laws.{DomainsAreForgotten, Gives, IsDoneAt, IsGranted, LinkedThenMade, MadeAlone, OneObject, PlacesInOrder}
+use Rattle.service_core.specs.Laws.{DomainsAreForgotten, Gives, IsDoneAt, IsGranted, LinkedThenMade, MadeAlone, OneObject, PlacesGoOn, PlacesInOrder}
 use Rattle.service_core.specs.Steps.{IsAnswered, World, by_verdict, run_on, served, started, step, without_domain}
 use Rattle.service_core.proofs.ForgetLemmas.{get-without}
 use Rattle.service_core.proofs.TurnLemmas.{run_by_steps, run_steps}
@@ -56,6 +56,9 @@ module _ (takes : TakesPlace) where
       (λ early. ap (λ (x : World). x.door.places) early.1)
       (λ late. ap (λ (x : Door). x.places) late.0 ∙ takes w.door caller request)
       said.1
+
+  pub places_go_on : PlacesGoOn
+  places_go_on w new caller request answer steps = place_after w new caller request answer.what steps.answered
 
   pub places_in_order : PlacesInOrder
   places_in_order w last [] after c calls = let place : c.answer.place ≡ w.door.places = calls.0.place in omega (arith, place)

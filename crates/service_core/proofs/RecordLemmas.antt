@@ -25,7 +25,7 @@ use Rattle.register.specs.Kept.{IsHeldNode, IsRegisterMarked, RegisterSays, a_no
 use Rattle.register.specs.Kept.{the_run as marks_run}
 use Rattle.register.specs.Marks.{no_marks}
 use Rattle.stray_records.specs.Strays.{HasNoStrays, IsStrayKey}
-use Rattle.service_core.specs.Records.{DescribesWorld, IsKept, IsWorldMarked, WorldSays, WorldStillSays, run_record}
+use Rattle.service_core.specs.Records.{DescribesWorld, as_kept, IsKept, IsWorldMarked, WorldSays, WorldStillSays, run_record}
 use Rattle.service_core.specs.Worlds.{IsBuilt, IsNew, State, seen}
 
 -- ---- which part a key is of
@@ -218,3 +218,7 @@ all_told d ls built register lanes kept held said = record {
   given = λ id o there. let is_given = built.given id o there in (is_given.out.run, is_given.number);
   strays = said.strays;
 }
+
+-- what is to be written doesn't matter to what describes it
+pub described_as_kept : (held : Held) (s : State) → DescribesWorld held s.door.run (seen s) → DescribesWorld held s.door.run (as_kept s)
+described_as_kept held s d = record { register = d.register; objects = d.objects; given = d.given; strays = d.strays }

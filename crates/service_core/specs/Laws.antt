@@ -23,13 +23,18 @@ use Rattle.register.specs.Tickets.{Issue}
 use Rattle.register.specs.declared.verdicts.Verdict.TheVariants.{Granted}
 use Rattle.service_core.specs.declared.answers.What.TheVariants.{Replied}
 use Rattle.service_core.specs.Replays.{AreSteps, Call}
-use Rattle.service_core.specs.Steps.{World, replay, step}
+use Rattle.service_core.specs.declared.answers.Answer.{Answer}
+use Rattle.service_core.specs.Steps.{Steps, World, replay, step}
 
 -- ---- places, tickets and marks
 
 -- the n-th answer, counted from 0, has the n-th place behind the first
 abbrev pub PlacesInOrder : Type 0
 PlacesInOrder = (w last : World) (before after : List Call) (c : Call) → AreSteps w (before ++ c ∷ after) last → c.answer.place ≡ w.door.places + length before
+
+-- after an answer one place more was given
+abbrev pub PlacesGoOn : Type 0
+PlacesGoOn = (w new : World) (caller : Caller) (request : Request) (answer : Answer) → Steps w caller request answer new → new.door.places ≡ w.door.places + 1
 
 -- the same but for the places and the tickets that were given and for what is to be written, over whatever lanes
 pub record AreAlike (w v : World) : Type 0 where

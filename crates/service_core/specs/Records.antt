@@ -3,6 +3,7 @@
 --     WorldStillSays old new      so it does after a change, where it did before
 --     IsWorldMarked s key      the next cut writes the record of a key
 --     IsKept s      nothing is to be written
+--     as_kept s      the world as requests see it, whatever of it is to be written
 --     DescribesWorld held run w      what is held describes the world, in this run
 --     IsWorldOf held lanes s      the world that is described, at the begin of the next run
 --     IsWorldFault lanes held key      the key that is named where none is described
@@ -46,6 +47,9 @@ pub record IsKept (s : State) : Type 0 where
 pub record IsSameWorld (old new : State) : Type 0 where
   pub door : all_kept new.door ≡ all_kept old.door
   pub objects : (seen new).objects ≡ (seen old).objects
+
+abbrev pub as_kept : State → World
+as_kept s = record { door = all_kept s.door; objects = (seen s).objects }
 
 -- ---- the world that is described
 

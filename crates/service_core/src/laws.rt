@@ -2,7 +2,7 @@
 
 ghost use Rattle.service_core.specs.Keeps.{DenialsKeep, RefusalsKeep};
 ghost use Rattle.service_core.specs.Laws.{DomainsAreForgotten, LinkedThenMade, MadeAlone, OneObject};
-ghost use Rattle.service_core.specs.Laws.{PlacesInOrder, ReplaysAlike, StepsAlike};
+ghost use Rattle.service_core.specs.Laws.{PlacesGoOn, PlacesInOrder, ReplaysAlike, StepsAlike};
 ghost use Rattle.service_core.specs.Replays.{CallsAreReplays};
 
 use chunk_owner::refusals_leave_all;
@@ -25,7 +25,8 @@ pub fn unserved_requests_keep_the_world()
 
 /// Calls have the places in order, one each, whatever they are answered.
 pub fn places_in_order()
-    ensures { PlacesInOrder }
+    ensures order { PlacesInOrder }
+    ensures next { PlacesGoOn }
 {
     decisions_keep();
 }

@@ -3,6 +3,7 @@
 
 mod answers;
 mod faults;
+mod kept;
 #[cfg(test)]
 mod kept_world_tests;
 mod laws;

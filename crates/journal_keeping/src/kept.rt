@@ -1,0 +1,40 @@
+ghost use Rattle.std.specs.Prelude.{◌≡◌, ℕ, OnOk};
+ghost use Rattle.flush_journal.specs.Batches.{records};
+ghost use Rattle.flush_journal.specs.Records.{Held, put_all};
+
+use flush_journal::Batch;
+use std::alloc::AllocError;
+
+/// A world of which a journal keeps records.
+pub trait Kept {
+    /// What is kept.
+    ghost World: { Type 0 };
+
+    /// The world as it stands, whatever of it is to be written.
+    ghost world: { Self → World };
+
+    /// How many requests it has decided.
+    ghost places: { World → ℕ };
+
+    /// What is held tells it, but for what is to be written.
+    ghost says: { Self → Held → Type 0 };
+
+    /// What is held describes a world.
+    ghost tells: { Held → World → Type 0 };
+
+    /// Appends the records of what changed since the last cut. After `Ok` what is held with them describes the world.
+    ///
+    /// # Errors
+    ///
+    /// Only where memory runs out. What was appended stays in the batch, and what is not cut is cut later.
+    fn cut(&mut self, into: &mut Batch) -> Result<(), AllocError>
+        ensures cut { (held : Held) → says self.old (put_all (records into.old) held)
+            → says self.new (put_all (records into.new) held) }
+        ensures told { OnOk result ((held : Held) → says self.new held
+            → tells held (world self.new)) }
+        ensures world { world self.new ≡ world self.old };
+
+    /// How many requests the world has decided.
+    fn places(&self) -> u64
+        ensures { result ≡ places (world self.now) };
+}
