@@ -1,0 +1,5 @@
+mod RootLemmas
+mod GroupLemmas
+mod RecordLemmas
+mod OpeningLemmas
+mod MakingLemmas

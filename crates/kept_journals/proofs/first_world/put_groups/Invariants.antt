@@ -1,0 +1,12 @@
+use Rattle.std.proofs.Common.{◌≡◌, drop}
+use Rattle.service_core.specs.Records.{WorldStillSays}
+use Rattle.service_core.specs.Worlds.{seen}
+use Rattle.kept_journals.specs.Groups.{MayHaveGroups, with_groups}
+use Rattle.kept_journals.proofs.first_world.put_groups.Given as goal
+
+-- what is left may be put, and once it is all are
+abbrev pub invariant-loop-id : goal.invariant-loop-id
+invariant-loop-id l =
+    (with_groups (seen l.world) (drop l.id-index l.ids) ≡ with_groups (seen l.fn.world) l.ids)
+    × MayHaveGroups (seen l.world) (drop l.id-index l.ids)
+    × WorldStillSays l.fn.world l.world

@@ -1,0 +1,10 @@
+use Rattle.flush_journal.specs.Batches.{records}
+use Rattle.kept_journals.proofs.RecordLemmas.{first_records}
+use Rattle.kept_journals.proofs.making.first_batch.Goals as goal
+
+pub returns : goal.returns
+returns c =
+    first_records c.args.catalogue c.args.lanes c.in_ok-world.world c.cut.new.self
+    (records c.new-batch.result) (records c.cut.new.into)
+    c.in_ok-world.ensures.world c.in_ok-world.ensures.says c.new-batch.ensures
+    c.in_ok-cut.ensures.cut c.in_ok-cut.ensures.same (c.is_described.ensures c.in_ok-cut.ensures.kept)
