@@ -1,0 +1,26 @@
+//! A world as a store of objects.
+
+use domain_documents::ObjectStore;
+use object_acts::Object;
+use object_ids::ObjectId;
+use service_core::World;
+
+/// The objects of a world, as requests see them.
+#[derive(Clone, Copy)]
+pub(crate) struct Held<'a> {
+    pub world: &'a World,
+}
+
+impl ObjectStore for Held<'_> {
+    ghost use Rattle.service_core.specs.Worlds.{seen};
+
+    ghost objects = { λ held. (seen held.world.now).objects };
+
+    fn object(&self, id: &ObjectId) -> Option<&Object> {
+        self.world.object(id)
+    }
+
+    fn next_id(&self, after: Option<&ObjectId>) -> Option<ObjectId> {
+        self.world.next_id(after)
+    }
+}
