@@ -1,0 +1,4 @@
+pub mod NamedLemmas
+pub mod RegisterLemmas
+pub mod WholeLemmas
+pub mod WorldLemmas
