@@ -1,9 +1,8 @@
 -- What is written and read back, and what a refusal leaves.
-use Rattle.std.proofs.Common.{◌≡◌, ℕ, suc, ◌*◌, ◌<◌, cond, Bool, true, false, nat_le, List, [], ◌∷◌, ◌++◌, length, take, drop, get_or, Option, Some, None, Result, Ok, Err, codes, All, refl, sym, ap, subst, ◌∙◌, inl, inr, arith, mul-one}
+use Rattle.std.proofs.Common.{◌≡◌, ℕ, suc, ◌*◌, ◌<◌, cond, Bool, true, false, nat_le, List, [], ◌∷◌, ◌++◌, length, take, drop, get_or, Option, Some, None, Result, Ok, Err, codes, refl, sym, ap, subst, ◌∙◌, inl, inr, arith, mul-one}
 use Rattle.std.specs.List.{AllByRecursion, AllZip, flat_map}
 use Rattle.std.proofs.lemmas.Bool.{cases_order}
 use Rattle.std.proofs.lemmas.List.{length-drop, take-append-drop}
-use Rattle.std.proofs.lemmas.List.Elements.{All-head, All-tail}
 use Rattle.serde_json.specs.Data.{Data}
 use Rattle.hdf_types.specs.Elems.{Elem}
 use Rattle.hdf_types.specs.Reading.{size_of}
@@ -29,6 +28,7 @@ use Rattle.chunk_store.specs.Listed.{IsOnce}
 use Rattle.chunk_store.specs.Grids.{Grid, IsWhole, value_at, reads, written, writes}
 use Rattle.chunk_store.proofs.KeyLemmas.{put_here, put_cases}
 use Rattle.chunk_store.proofs.GridLemmas.{reads_same, value-tabulated}
+use Rattle.chunk_store.proofs.PickLemmas.{each_all}
 use Rattle.object_ops.specs.declared.ops.Part.{Part}
 use Rattle.object_ops.specs.declared.ops.Part.TheVariants as part
 use Rattle.object_ops.specs.declared.refusals.Refusal.{Refusal}
@@ -67,10 +67,6 @@ read-written k (at ∷ ats) f bs apart size =
     let shorter : length rest ≡ length ats * k = omega (arith, size, length-drop k bs) in
     let tail : flat_map (written g k ats rest) ats ≡ rest = read-written k ats g rest others shorter in
     ap (λ x. x ++ flat_map (written g k ats rest) ats) head ∙ ap (λ xs. take k bs ++ xs) tail ∙ take-append-drop k bs
-
-each_all : {A : Type 0} (P : A → Type 0) (xs : List A) → All P xs → AllByRecursion P xs
-each_all P [] h = tt
-each_all P (x ∷ xs) h = (All-head P x xs h, each_all P xs (All-tail P x xs h))
 
 reads-writes : (g : Grid) (s : Slab) (bs : List ℕ) → IsSlab s → SlabIn s g.shape → length bs ≡ cell_count (extents s) * size_of g.kind → reads (writes g (slab_cells s g.shape) bs) (slab_cells s g.shape) ≡ bs
 reads-writes g s bs slab inside size =

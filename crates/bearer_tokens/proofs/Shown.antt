@@ -4,7 +4,7 @@ use Rattle.std.specs.Char.{to_ascii_lowercase}
 use Rattle.std.specs.List.{list_all}
 use Rattle.std.specs.Option.{unwrap_or}
 use Rattle.std.proofs.Math.Seq.{take-append_seam, drop-append_seam}
-use Rattle.std.proofs.lemmas.Bool.{cases_Bool, eqb-true}
+use Rattle.std.proofs.lemmas.Bool.{cases_Bool, eqb-true, and_from}
 use Rattle.std.proofs.lemmas.List.{length-map}
 use Rattle.std.proofs.lemmas.Slice.Eq.{bytes_eq-Decides}
 use Rattle.bearer_tokens.specs.Bearer.{ShowsToken, after_spaces, bearer_token, begins_token, if_any, is_bearer, without_spaces}
@@ -26,9 +26,6 @@ and_first false b h = absurd (true≢false (sym h))
 and_second : (a b : Bool) → (a && b) ≡ true → b ≡ true
 and_second true b h = h
 and_second false b h = absurd (true≢false (sym h))
-
-and_both : (a b : Bool) → a ≡ true → b ≡ true → (a && b) ≡ true
-and_both a b h k = ap (λ t. t && b) h ∙ k
 
 some_bytes : (x y : List ℕ) → Some x ≡ Some y → x ≡ y
 some_bytes x y e = ap (λ o. unwrap_or o x) e
@@ -87,7 +84,7 @@ record Rest (bytes token : List ℕ) : Type 0 where
 one_space : (byte : ℕ) (bytes token : List ℕ) → (byte == 32) ≡ true → Rest bytes token → Rest (byte ∷ bytes) token
 one_space byte bytes token spaced rest = record {
   spaces = byte ∷ rest.spaces;
-  blank = and_both (byte == 32) _ spaced rest.blank;
+  blank = and_from (byte == 32) _ spaced rest.blank;
   begins = rest.begins;
   parts = ap (λ bs. byte ∷ bs) rest.parts;
 }

@@ -1,4 +1,4 @@
-mod SizeLemmas
+pub mod SizeLemmas
 pub mod CellLemmas
 pub mod DefaultLemmas
 pub mod LayoutLemmas

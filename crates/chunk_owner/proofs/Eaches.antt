@@ -3,6 +3,7 @@ use Rattle.std.proofs.Common.{◌≡◌, Bool, true, false, cond, Option, Some, 
 use Rattle.std.specs.Cmp.{Equal-is}
 use Rattle.std.specs.Ordering.{eq_by_cmp}
 use Rattle.std.specs.FinMap.{empty, get, insert, remove, get-empty, get-insert, get-remove, same_map}
+use Rattle.lane_installs.proofs.Walking.{unmarked_once}
 use Rattle.text_maps.proofs.ValueMaps.{get-values}
 use Rattle.object_ids.specs.IdOrder.{id_order}
 use Rattle.object_ids.specs.IdValues.{Id}
@@ -64,13 +65,8 @@ if_kind m id (Some x) e kinds = kinds id x (sym e)
 pub get-shown : (m : Objects) (id : Id) → get (shown m) id ≡ option_map unmarked (get m id)
 get-shown m id = get-values id_order_total unmarked m id
 
-body-unmarked : (b : Body) → unmarked_body (unmarked_body b) ≡ unmarked_body b
-body-unmarked (Group links) = refl
-body-unmarked (Dataset array) = refl
-body-unmarked (Datatype type) = refl
-
 unmarked-unmarked : (o : Object) → unmarked (unmarked o) ≡ unmarked o
-unmarked-unmarked o = ap (λ (b : Body). record o { body = b }) (body-unmarked o.body)
+unmarked-unmarked o = ap (λ (b : Body). record o { body = b }) (unmarked_once o.body)
 
 pub option-unmarked : (w : Option Object) → option_map unmarked (option_map unmarked w) ≡ option_map unmarked w
 option-unmarked None = refl

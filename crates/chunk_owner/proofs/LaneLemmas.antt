@@ -15,19 +15,17 @@ use Rattle.object_slots.specs.Slots.{HasSameIds, Slots, object_by, object_of, ob
 use Rattle.object_slots.specs.Slots.{AreOfKind as AreSlotsOfKind}
 use Rattle.object_slots.proofs.Placed.{everywhere}
 use Rattle.object_slots.proofs.Standing.{get-objects_of, objects-insert}
+use Rattle.object_slots.proofs.LaneCuts.{none_is}
 use Rattle.chunk_owner.specs.Lanes.{AreHome, AreOfKind, AreShown, AreSlotsOf, Each, Forgets, IsWhole, Objects, StandsIn, StaysHome, StayHome, seen_lane, shown}
 use Rattle.chunk_owner.specs.Acts.{IsTouchedIn}
 use Rattle.chunk_owner.proofs.Eaches.{get-shown, option-unmarked, unmarked_kind}
 
 -- ---- slots stay at home
 
-none_slot : {P : Type 0} (s : Slot) → None ≡ Some s → P
-none_slot s e = absurd (cc)
-
 pub home_same_ids : (m n : Slots) (id : Id) → HasSameIds m n → StaysHome id m n
 home_same_ids m n id same lane lanes is home q s there = at (get m q) refl where
   at : (o : Option Slot) → get m q ≡ o → lane_of lanes q ≡ lane
-  at None e = none_slot s (sym (same q e) ∙ there)
+  at None e = none_is s (sym (same q e) ∙ there)
   at (Some t) e = home q t e
 
 pub home_others : (m n : Slots) (id : Id) → ((q : Id) → q ≢ id → get n q ≡ get m q) → StaysHome id m n
@@ -51,7 +49,7 @@ slots_still lane lanes m n same kinds were = record { below = were.below; home =
   home_at : (q : Id) (s : Slot) → get n q ≡ Some s → lane_of lanes q ≡ lane
   home_at q s there = at (get m q) refl where
     at : (o : Option Slot) → get m q ≡ o → lane_of lanes q ≡ lane
-    at None e = none_slot s (sym (same q e) ∙ there)
+    at None e = none_is s (sym (same q e) ∙ there)
     at (Some t) e = were.home q t e
 
 pub slots_put : (lane lanes : ℕ) (m n : Slots) (id : Id) → lane_of lanes id ≡ lane → ((q : Id) → q ≢ id → get n q ≡ get m q) → AreSlotsOfKind n → AreSlotsOf lane lanes m → AreSlotsOf lane lanes n
@@ -60,8 +58,8 @@ slots_put lane lanes m n id is others kinds were = record { below = were.below; 
 pub slots_empty : (lane lanes : ℕ) (m : Slots) → m ≡ empty → lane < lanes → AreSlotsOf lane lanes m
 slots_empty lane lanes m none small = subst (λ (w : Slots). AreSlotsOf lane lanes w) (sym none) (record {
   below = small;
-  home = λ q s e. none_slot s (sym (get-empty id_order q) ∙ e);
-  kinds = λ q s e. none_slot s (sym (get-empty id_order q) ∙ e);
+  home = λ q s e. none_is s (sym (get-empty id_order q) ∙ e);
+  kinds = λ q s e. none_is s (sym (get-empty id_order q) ∙ e);
 })
 
 -- ---- the objects in them

@@ -2,6 +2,7 @@
 use Rattle.std.proofs.Common.{◌≡◌, ◌<◌, ◌⊎◌, inl, inr, ⊎_elim, Bool, true, false, ◌&&◌, ◌||◌, ◌==◌, nat_lt, cond, Option, Some, None, sym, ap, refl, ◌∙◌, eq-eqb, ne_eqb, eqb-true, lt-ltb, ltb-true}
 use Rattle.std.specs.Ordering.{eq_by_cmp}
 use Rattle.std.specs.FinMap.{get, get-insert, get-remove}
+use Rattle.std.proofs.lemmas.Bool.{or_right, and_from}
 use Rattle.json_trees.proofs.TreeLemmas.{both_true}
 use Rattle.object_ids.specs.IdOrder.{id_order}
 use Rattle.object_ids.specs.IdValues.{Id}
@@ -25,14 +26,6 @@ left_true : (a b : Bool) → a ≡ true → (a || b) ≡ true
 left_true true b e = refl
 left_true false b e = absurd (cc)
 
-right_true : (a b : Bool) → b ≡ true → (a || b) ≡ true
-right_true true b e = refl
-right_true false b e = e
-
-and_true : (a b : Bool) → a ≡ true → b ≡ true → (a && b) ≡ true
-and_true true b e f = f
-and_true false b e f = absurd (cc)
-
 is_gone : (b : Bool) (id : Id) → cond b (Gone id) (NoObject id) ≡ Gone id → b ≡ true
 is_gone true id e = refl
 is_gone false id e = let both : NoObject id ≡ Gone id = e in absurd (cc)
@@ -46,8 +39,8 @@ used_given g id e = ⊎_elim
 given_used : (g : Grant) (id : Id) → ((id.run < g.run) ⊎ ((id.run ≡ g.run) × (id.serial < g.serial))) → is_used g id ≡ true
 given_used g id h = ⊎_elim
     (λ (r : id.run < g.run). left_true (nat_lt id.run g.run) (id.run == g.run && nat_lt id.serial g.serial) (lt-ltb id.run g.run r))
-    (λ (s : (id.run ≡ g.run) × (id.serial < g.serial)). right_true (nat_lt id.run g.run) (id.run == g.run && nat_lt id.serial g.serial)
-    (and_true (id.run == g.run) (nat_lt id.serial g.serial) (eq-eqb id.run g.run s.0) (lt-ltb id.serial g.serial s.1)))
+    (λ (s : (id.run ≡ g.run) × (id.serial < g.serial)). or_right (nat_lt id.run g.run) (id.run == g.run && nat_lt id.serial g.serial)
+    (and_from (id.run == g.run) (nat_lt id.serial g.serial) (eq-eqb id.run g.run s.0) (lt-ltb id.serial g.serial s.1)))
     h
 
 test_given : (g : Grant) (id : Id) → (id.domain == g.number && is_used g id) ≡ true → WasGiven g id
@@ -56,7 +49,7 @@ test_given g id e = let p = both_true (id.domain == g.number) (is_used g id) e i
 pub gone_where_given : GoneWhereGiven
 gone_where_given g id = (
   λ e. test_given g id (is_gone (id.domain == g.number && is_used g id) id e),
-  λ h. ap (λ b. cond b (Gone id) (NoObject id)) (and_true (id.domain == g.number) (is_used g id) (eq-eqb id.domain g.number h.0) (given_used g id h.1)),
+  λ h. ap (λ b. cond b (Gone id) (NoObject id)) (and_from (id.domain == g.number) (is_used g id) (eq-eqb id.domain g.number h.0) (given_used g id h.1)),
 )
 
 pub refuted : (b : Bool) (P : Type 0) → (b ≡ true → P) → (P → ⊥) → b ≡ false

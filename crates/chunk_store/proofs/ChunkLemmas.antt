@@ -1,5 +1,5 @@
 -- Chunks of an array, and the map that keeps its cells.
-use Rattle.std.proofs.Common.{◌≡◌, ℕ, suc, ◌+◌, ◌*◌, ◌/◌, mul_comm, ◌<◌, ◌≤◌, ◌&&◌, ◌↔◌, Bool, IsTrue, true, false, cond, min, nat_eq, nat_lt, bytes_eq, eqb-true, eq-eqb, List, [], ◌∷◌, length, drop, get_or, All, Result, Ok, Err, IfOk, not, refl, sym, ap, subst, ◌∙◌, ◌⊎◌, inl, inr, arith}
+use Rattle.std.proofs.Common.{◌≡◌, ℕ, suc, ◌+◌, ◌*◌, ◌/◌, mul_comm, ◌<◌, ◌≤◌, ◌&&◌, ◌↔◌, Bool, IsTrue, true, false, cond, nat_eq, nat_lt, bytes_eq, eqb-true, eq-eqb, List, [], ◌∷◌, length, drop, get_or, All, Result, Ok, Err, IfOk, not, refl, sym, ap, subst, ◌∙◌, ◌⊎◌, inl, inr, arith}
 use Rattle.std.specs.List.{flat_map}
 use Rattle.std.specs.BTreeMap.{BTreeMap}
 use Rattle.std.specs.Cmp.{both_ways}
@@ -7,7 +7,7 @@ use Rattle.std.specs.declared.vec.Vec.{Vec}
 use Rattle.std.specs.declared.alloc.Global.{Global}
 use Rattle.std.proofs.lemmas.Bool.{cases_Bool, cases_lt}
 use Rattle.std.proofs.lemmas.Bool.Decides.{nat_tests}
-use Rattle.std.proofs.lemmas.List.{drop_all, drop-drop, length-drop}
+use Rattle.std.proofs.lemmas.List.{drop-drop, length-drop}
 use Rattle.std.proofs.lemmas.Nat.{mul-le}
 use Rattle.std.proofs.Math.Nat.{mul-div_cancel_left}
 use Rattle.std.proofs.lemmas.Slice.Eq.{bytes_eq-Decides}
@@ -42,9 +42,6 @@ abbrev Cells : Type 0
 Cells = BTreeMap (List ℕ) (Vec ℕ Global)
 
 -- ---- the number of a chunk's cells
-
-pub product_end : (t i m : ℕ) (ns : List ℕ) → length ns ≤ i → t ≤ m → t ≡ min (t * cell_count (drop i ns)) m
-product_end t i m ns h k = rw (drop_all i ns h) (omega (arith, k))
 
 -- ---- which chunks there are
 

@@ -7,7 +7,7 @@ pub mod WriteLemmas
 mod CutLemmas
 mod TrackLemmas
 mod InstallLemmas
-mod NextLemmas
+pub mod NextLemmas
 mod ChunkLemmas
 mod MarkLemmas
 mod ArrayLemmas

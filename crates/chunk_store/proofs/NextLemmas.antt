@@ -2,7 +2,7 @@
 use Rattle.std.proofs.Common.{◌≡◌, ◌≢◌, ℕ, ◌||◌, ◌&&◌, Bool, true, false, cond, length, IsSome, IfSome, bytes_eq, List, [], ◌∷◌, Option, Some, None, Ordering, Less, Equal, Greater, nat_cmp, is_eq, refl, sym, ap, subst, ◌∙◌, ◌⊎◌, inl, inr}
 use Rattle.std.specs.List.{list_any}
 use Rattle.std.specs.Cmp.Lexicographic.{slice_cmp}
-use Rattle.std.proofs.lemmas.Bool.{cases_Bool}
+use Rattle.std.proofs.lemmas.Bool.{cases_Bool, or_right}
 use Rattle.std.proofs.lemmas.Map.Text.{is_eq-slice_cmp}
 use Rattle.std.proofs.lemmas.Slice.Eq.{bytes_eq-Decides}
 use Rattle.std.specs.List.{AllByRecursion, filter}
@@ -20,10 +20,6 @@ use Rattle.chunk_store.specs.Grids.{Grid}
 use Rattle.chunk_store.specs.Indexes.{IsIndex}
 use Rattle.chunk_store.specs.Marks.{Stored, state, is_dirty, body_of, cut, AreIndexes, ComesAfter, IsNext, Covers, recorded, first_key, is_after, is_later}
 
-later_true : (a b : Bool) → b ≡ true → (a || b) ≡ true
-later_true true b h = refl
-later_true false b h = h
-
 first_true : (a b : Bool) → a ≡ true → (a || b) ≡ true
 first_true a b h = ap (λ x. x || b) h
 
@@ -35,7 +31,7 @@ by_order i j Greater e h = absurd (h refl)
 -- one more chunk in front of those that were found
 pub covers_next : (is_meant : List ℕ → Bool) (done : List (List ℕ)) (after : Option (List ℕ)) (i : List ℕ) → Covers is_meant done after → IsNext is_meant after (Some i) → Covers is_meant (i ∷ done) (Some i)
 covers_next is_meant done after i covers next = λ j dirty. elim (covers j dirty) [
-  | inl there ↦ inl (later_true (bytes_eq j i) (list_any (bytes_eq j) done) there)
+  | inl there ↦ inl (or_right (bytes_eq j i) (list_any (bytes_eq j) done) there)
   | inr later ↦ elim (by_order i j (slice_cmp nat_cmp i j) refl (next.2 j later dirty)) [
     | inl same ↦ inl (first_true (bytes_eq j i) (list_any (bytes_eq j) done) ((bytes_eq-Decides j i).1 (sym ((bytes_eq-Decides i j).0 same))))
     | inr less ↦ inr less
@@ -92,7 +88,7 @@ after_told : (after : Option (List ℕ)) (i : List ℕ) → is_after after i ≡
 after_told None i h = tt
 after_told (Some a) i h = less_from (slice_cmp nat_cmp a i) h
 
-after_read : (after : Option (List ℕ)) (i : List ℕ) → ComesAfter after i → is_after after i ≡ true
+pub after_read : (after : Option (List ℕ)) (i : List ℕ) → ComesAfter after i → is_after after i ≡ true
 after_read None i h = refl
 after_read (Some a) i h = ap is_lt h
 

@@ -1,7 +1,7 @@
 -- Writes and other dims keep what the records stand for.
 use Rattle.std.proofs.Common.{◌≡◌, ℕ, suc, ◌+◌, ◌*◌, ◌/◌, ◌%◌, ◌<◌, ◌≤◌, ◌&&◌, ◌||◌, Bool, true, false, cond, min, nat_eq, nat_lt, nat_le, bytes_eq, eqb-true, eq-eqb, List, [], ◌∷◌, length, take, drop, get_or, All, Option, Some, None, refl, sym, ap, subst, ◌∙◌, ◌⊎◌, inl, inr, arith}
 use Rattle.std.specs.List.{AllByRecursion}
-use Rattle.std.proofs.lemmas.Bool.{cases_Bool, ltb-true, leb-true}
+use Rattle.std.proofs.lemmas.Bool.{cases_Bool, ltb-true, leb-true, or_parts}
 use Rattle.std.proofs.lemmas.Nat.{div-add-mod', mod_below}
 use Rattle.std.proofs.lemmas.List.Elements.{All-head, All-tail}
 use Rattle.std.proofs.lemmas.Slice.Eq.{bytes_eq-Decides}
@@ -86,14 +86,10 @@ written_other f s (at ∷ ats) bs x h = written_other (put f at (take s bs)) s a
 abbrev IsApart : List ℕ → List (List ℕ) → List ℕ → Type 0
 IsApart chunk ats i = AllByRecursion (λ at. quotients at chunk ≡ i → ⊥) ats
 
-apart_from : (a b : Bool) → (a || b) ≡ false → (a ≡ false) × (b ≡ false)
-apart_from true b h = absurd (let both : true ≡ false = h in cc)
-apart_from false b h = (refl, h)
-
 untouched : (chunk : List ℕ) (ats : List (List ℕ)) (i : List ℕ) → touches chunk ats i ≡ false → IsApart chunk ats i
 untouched chunk [] i h = tt
 untouched chunk (at ∷ ats) i h =
-    let both = apart_from (bytes_eq (quotients at chunk) i) (touches chunk ats i) h in
+    let both = or_parts (bytes_eq (quotients at chunk) i) (touches chunk ats i) h in
     (λ e. let no_cell : true ≡ false = sym ((bytes_eq-Decides (quotients at chunk) i).1 e) ∙ both.0 in absurd (cc), untouched chunk ats i both.1)
 
 -- a chunk with one of the cells is in the grid

@@ -9,11 +9,11 @@ use Rattle.flush_journal.specs.Records.{Held}
 use Rattle.lane_installs.specs.Records.{IsFault, IsLeast}
 use Rattle.lane_owners.specs.Records.{IsFirstFault}
 use Rattle.register_installs.specs.Registers.{IsNextNumber, IsRegisterFault, IsRun}
+use Rattle.register_installs.proofs.NodeWalks.{one_next}
 use Rattle.stray_records.specs.Strays.{IsStray}
 use Rattle.register.proofs.Installing.{one_run as same_run}
 use Rattle.service_core.specs.Records.{of_lane, of_none, of_register}
 use Rattle.described_worlds.specs.Faultless.{FaultsAreOne}
-use Rattle.described_worlds.proofs.RegisterLemmas.{one_next}
 
 -- one key is the least
 least_once : (P : List ℕ → Type 0) (key other : List ℕ) → IsLeast P key → IsLeast P other → other ≡ key

@@ -17,6 +17,7 @@ use Rattle.object_records.specs.Objects.{IsKeptBody}
 use Rattle.object_slots.proofs.Passing.{by_bool}
 use Rattle.lane_installs.specs.Records.{IsWholeObject}
 use Rattle.lane_installs.proofs.Fronts.{none_some, some_is}
+use Rattle.lane_installs.proofs.Walking.{unmarked_once}
 use Rattle.chunk_owner.specs.Lanes.{Objects}
 use Rattle.described_worlds.specs.Told.{AreWhole}
 
@@ -26,11 +27,6 @@ kept_unmarked : (b : Body) → IsKeptBody b → IsKeptBody (unmarked_body b)
 kept_unmarked (body.Group links) kept = kept
 kept_unmarked (body.Dataset array) kept = kept
 kept_unmarked (body.Datatype type) kept = kept
-
-unmarked_once : (b : Body) → unmarked_body (unmarked_body b) ≡ unmarked_body b
-unmarked_once (body.Group links) = refl
-unmarked_once (body.Dataset array) = refl
-unmarked_once (body.Datatype type) = refl
 
 -- as requests see it
 pub whole_unmarked : (o : Object) → IsKeptBody o.body → IsWholeObject (Some (unmarked o))

@@ -10,6 +10,7 @@ use Rattle.object_slots.specs.Slots.{Describes}
 use Rattle.lane_installs.specs.Records.{AreHeld, IsFault, IsWholeObject}
 use Rattle.lane_owners.specs.Records.{AreGivenUpTo, IsFirstFault}
 use Rattle.register_installs.specs.Registers.{IsNextNumber, IsRun}
+use Rattle.register_installs.proofs.NodeWalks.{one_next}
 use Rattle.register.proofs.Installing.{one_run as same_run}
 use Rattle.register.specs.Kept.{installed}
 use Rattle.domains.specs.Contents.{Contents}
@@ -18,7 +19,7 @@ use Rattle.service_core.specs.Steps.{World}
 use Rattle.service_core.specs.Worlds.{seen}
 use Rattle.described_worlds.specs.Faultless.{WorldsStand}
 use Rattle.described_worlds.specs.Told.{AreOne, AreWhole, InstallsAreOne, WorldsAreOne}
-use Rattle.described_worlds.proofs.RegisterLemmas.{one_next, registers_are_one, registers_stand}
+use Rattle.described_worlds.proofs.RegisterLemmas.{registers_are_one, registers_stand}
 
 -- ---- no key at fault
 

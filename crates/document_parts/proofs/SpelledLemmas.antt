@@ -1,5 +1,5 @@
 -- Attributes, links and arrays: what is read is what the trees spell, and the other way.
-use Rattle.std.proofs.Common.{◌≡◌, ℕ, List, Bool, true, false, cond, inl, inr, Option, Some, None, is_some, option_and_then, Result, Ok, Err, codes, decimal, refl, sym, ap, subst, ◌∙◌}
+use Rattle.std.proofs.Common.{◌≡◌, ℕ, List, Bool, true, false, cond, inl, inr, Option, Some, None, option_and_then, Result, Ok, Err, codes, decimal, refl, sym, ap, subst, ◌∙◌}
 use Rattle.std.specs.FinMap.{FinMap, contains_key, insert}
 use Rattle.std.specs.Option.{ok_or}
 use Rattle.std.proofs.lemmas.Bool.{cond-true, cond-false}
@@ -55,12 +55,6 @@ no_some x e = cc
 
 some_same : {A : Type 0} (x y : A) → Some x ≡ Some y → x ≡ y
 some_same x y e = cc
-
-none_of : {A : Type 0} (o : Option A) → is_some o ≡ false → o ≡ None
-none_of None e = refl
-none_of (Some x) e = absurd (apart e) where
-  apart : true ≡ false → ⊥
-  apart e = cc
 
 -- what has a text at a key is an object
 object_of_text : (k : List ℕ) (d : Data) (t : List ℕ) → text_at k d ≡ Some t → (ms : Members) × (as_object d ≡ Some ms)

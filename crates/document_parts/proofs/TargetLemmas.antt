@@ -1,15 +1,15 @@
 -- What holds of the links of a group of a document after a change.
-use Rattle.std.proofs.Common.{◌≡◌, ℕ, List, Bool, true, false, cond, nat_lt, Some, None, Result, Ok, Err, OnOk, OnErr, refl, sym, subst, arith}
+use Rattle.std.proofs.Common.{◌≡◌, ℕ, List, nat_lt, Result, Ok, Err, OnOk, OnErr, sym, subst, arith}
 use Rattle.std.proofs.lemmas.Bool.{ltb-true}
 use Rattle.std.specs.FinMap.{contains_key, empty, insert, len, len-empty}
 use Rattle.text_maps.specs.Keyed.{text_order}
 use Rattle.object_ids.specs.Puts.{Blames, put_fault}
 use Rattle.object_ids.specs.declared.puts.PutFault.{PutFault}
-use Rattle.object_ids.specs.declared.puts.PutFault.TheVariants.{Taken, Limit}
 use Rattle.object_ids.proofs.PutLemmas.{insert_most}
 use Rattle.attributes.proofs.MapLemmas.{each_inserted, each_of_none}
 use Rattle.groups_links.specs.GroupLinks.{most_links}
 use Rattle.groups_links.specs.Titles.{IsGoodTitle}
+use Rattle.groups_links.proofs.GroupLemmas.{room_left}
 use Rattle.document_parts.specs.TitleMaps.{AreTargets, IsSoundTarget, TargetMap}
 use Rattle.document_parts.specs.declared.targets.Target.{Target}
 
@@ -19,12 +19,6 @@ no_targets = record {
   titled = each_of_none (λ title target. IsGoodTitle title);
   sound = each_of_none (λ title target. IsSoundTarget target);
 }
-
--- where nothing is at fault there is room
-room_left : (there few : Bool) → cond there (Some Taken) (cond few None (Some Limit)) ≡ None → few ≡ true
-room_left true few e = absurd (cc)
-room_left false true e = refl
-room_left false false e = absurd (cc)
 
 -- a put that was done or refused
 pub put_targets : (r : Result (Unit {0}) PutFault) (old new : TargetMap) (k : List ℕ) (v : Target) → IsGoodTitle k → IsSoundTarget v → AreTargets old

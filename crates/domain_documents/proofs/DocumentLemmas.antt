@@ -6,6 +6,7 @@ use Rattle.std.specs.List.{AllByRecursion}
 use Rattle.std.specs.List.Sorted.{IsStrictlySortedBy}
 use Rattle.std.specs.Ordering.{eq_by_cmp, match_ordering}
 use Rattle.std.proofs.lemmas.Cmp.{tied_itself}
+use Rattle.std.proofs.lemmas.Bool.{or_parts, and_parts}
 use Rattle.serde_json.specs.Data.{Data, Members, no_members, member, put}
 use Rattle.serde_json.specs.Find.{get_member}
 use Rattle.serde_json.specs.Written.{has_float, members_have_float}
@@ -34,11 +35,6 @@ ids_alike = search (comparing, rules) depth 9
 
 itself : (x : Id) → id_eq x x ≡ true
 itself x = sym (ids_alike x x) ∙ ap is_eq (tied_itself id_order_total x)
-
-both : (a b : Bool) → (a && b) ≡ true → (a ≡ true) × (b ≡ true)
-both true true h = (refl, refl)
-both true false h = absurd (let e : false ≡ true = h in cc)
-both false b h = absurd (let e : false ≡ true = h in cc)
 
 -- ---- what stands at the text of an id
 
@@ -79,7 +75,7 @@ module _ (m : Objects) (h : Home) (k : Kind) where
   member_found : (id : Id) (o : Object) → is_of k h id ≡ true → held_or_root h id (get m id) ≡ Some o → member_at m h k id ≡ Some o
   member_found id o is there =
       ap (λ b. cond b (object_at m h id) None) is
-      ∙ ap (λ b. cond b (held_or_root h id (get m id)) None) (both (kind_rank id.kind == kind_rank k) (id.domain == h.number) is).1
+      ∙ ap (λ b. cond b (held_or_root h id (get m id)) None) (and_parts (kind_rank id.kind == kind_rank k) (id.domain == h.number) is).1
       ∙ there
 
   -- the root, as it is held or as an empty group
@@ -130,14 +126,10 @@ keys_in_order m h k ms is =
 
 -- ---- no floats
 
-parts : (a b : Bool) → (a || b) ≡ false → (a ≡ false) × (b ≡ false)
-parts true b h = absurd (let e : true ≡ false = h in cc)
-parts false b h = (refl, h)
-
 put_exact : (key : List ℕ) (d : Data) (ms : Members) → has_float d ≡ false → members_have_float ms ≡ false → members_have_float (put key d ms) ≡ false
 put_exact key d no_members one rest = neither one refl
 put_exact key d (member l e ms) one rest =
-    let split = parts (has_float e) (members_have_float ms) rest in
+    let split = or_parts (has_float e) (members_have_float ms) rest in
     at (text_order key l) split.0 split.1 (put_exact key d ms one split.1)
   where
     at : (o : Ordering) → has_float e ≡ false → members_have_float ms ≡ false → members_have_float (put key d ms) ≡ false

@@ -151,7 +151,7 @@ grown_end c [] = omega arith
 grown_end c (rs ∷ bs) =
     grown_end (grown c (length (encoded_all rs)) rs) bs ∙ omega (arith, sum_by-cons (λ (rs : List Record). 9 + length (encoded_all rs)) rs bs)
 
-put_both : (xs ys : List Record) (m : Held) → put_all (xs ++ ys) m ≡ put_all ys (put_all xs m)
+pub put_both : (xs ys : List Record) (m : Held) → put_all (xs ++ ys) m ≡ put_all ys (put_all xs m)
 put_both [] ys m = refl
 put_both (x ∷ xs) ys m = put_both xs ys _
 

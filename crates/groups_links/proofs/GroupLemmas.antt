@@ -87,7 +87,7 @@ remove_links m k held = record {
 }
 
 -- where nothing is at fault there is room
-room_left : (there few : Bool) → cond there (Some Taken) (cond few None (Some Limit)) ≡ None → few ≡ true
+pub room_left : (there few : Bool) → cond there (Some Taken) (cond few None (Some Limit)) ≡ None → few ≡ true
 room_left true few e = absurd (cc)
 room_left false true e = refl
 room_left false false e = absurd (cc)

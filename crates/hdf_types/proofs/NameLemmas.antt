@@ -3,6 +3,7 @@ use Rattle.std.proofs.Common.{◌≡◌, ◌≢◌, ℕ, suc, ◌||◌, Bool, tr
 use Rattle.std.specs.Option.{is_some}
 use Rattle.std.specs.List.{list_any, AllByRecursion}
 use Rattle.std.specs.Str.{bytes_eq}
+use Rattle.std.proofs.lemmas.Bool.{or_parts}
 use Rattle.json_trees.proofs.TableLemmas.{equal_bytes, differs}
 use Rattle.json_trees.proofs.FaultLemmas.{chosen}
 use Rattle.hdf_types.specs.declared.types.Field.{Field}
@@ -18,17 +19,13 @@ Apart seen n = AllByRecursion (λ m. m ≢ n) seen
 abbrev Fresh : List (List ℕ) → List (List ℕ) → Type 0
 Fresh seen ns = AllByRecursion (λ n. AllByRecursion (λ m. m ≢ n) seen) ns
 
-neither : (a b : Bool) → (a || b) ≡ false → (a ≡ false) × (b ≡ false)
-neither true b e = cc
-neither false b e = (refl, e)
-
 not_equal : (m n : List ℕ) → bytes_eq m n ≡ false → m ≢ n
 not_equal m n e same = cc (sym (ap (λ x. bytes_eq x n) same) ∙ e, equal_bytes n)
 
 apart_told : (seen : List (List ℕ)) (n : List ℕ) → list_any (λ m. bytes_eq m n) seen ≡ false → Apart seen n
 apart_told [] n e = tt
 apart_told (m ∷ seen) n e =
-    let parts = neither (bytes_eq m n) (list_any (λ m. bytes_eq m n) seen) e in
+    let parts = or_parts (bytes_eq m n) (list_any (λ m. bytes_eq m n) seen) e in
     (not_equal m n parts.0, apart_told seen n parts.1)
 
 apart_read : (seen : List (List ℕ)) (n : List ℕ) → Apart seen n → list_any (λ m. bytes_eq m n) seen ≡ false

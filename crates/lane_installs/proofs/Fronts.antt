@@ -27,7 +27,7 @@ same_key q k e = exact_texts q k ((Equal-is (text_order q k)).0 e)
 pub unlike : (q k : List ℕ) → q ≢ k → eq_by_cmp text_order q k ≡ false
 unlike q k other = by_bool (eq_by_cmp text_order q k) (eq_by_cmp text_order q k ≡ false) (λ y. absurd (other (same_key q k y))) (λ n. n)
 
-itself : (q : List ℕ) → eq_by_cmp text_order q q ≡ true
+pub itself : (q : List ℕ) → eq_by_cmp text_order q q ≡ true
 itself q = ap is_eq (tied_itself nat_list_cmp_total q)
 
 pub differ : (q k : List ℕ) → eq_by_cmp text_order q k ≡ false → q ≢ k

@@ -242,7 +242,7 @@ whole_unmarked (body.Group links) whole = whole
 whole_unmarked (body.Dataset array) whole = whole
 whole_unmarked (body.Datatype type) whole = whole
 
-unmarked_once : (b : Body) → unmarked_body (unmarked_body b) ≡ unmarked_body b
+pub unmarked_once : (b : Body) → unmarked_body (unmarked_body b) ≡ unmarked_body b
 unmarked_once (body.Group links) = refl
 unmarked_once (body.Dataset array) = refl
 unmarked_once (body.Datatype type) = refl

@@ -164,7 +164,7 @@ nothing step w left held = (
   },
 )
 
-rose_since : (first before now : ℕ) → first ≤ before → Rose before now → Rose first now
+pub rose_since : (first before now : ℕ) → first ≤ before → Rose before now → Rose first now
 rose_since first before now e rose = let l = rose.later in let r = rose.rose in record { later = omega (arith, e, l); rose = omega (arith, e, r) }
 
 -- a last step has its causes, and no count fell before it

@@ -72,9 +72,6 @@ each_found (e ∷ es) rising held = (
   each_found es (halves _ _ rising).1 (λ k v f. held k v (ap (λ b. cond b (Some e.1) (find text_order k es)) (unlike e.0 k (found_above nat_list_cmp_total e.0 k es v (halves _ _ rising).0 f)) ∙ f)),
 )
 
-entry_back : (entry : Rights) → entry_in (entry_tree entry) ≡ Some entry
-entry_back entry = refl
-
 row_back : (e : Row) → is_name (length e.0) e.0 ≡ true → entry_of (e.0, entry_tree e.1) ≡ Some e
 row_back e named = ap (λ (b : Bool). option_and_then (λ name. option_map (λ entry. (name, entry)) (entry_in (entry_tree e.1))) (only_if b (Some e.0))) named
 

@@ -6,6 +6,7 @@ use Rattle.std.proofs.lemmas.Slice.Eq.{bytes_eq-Decides}
 use Rattle.serde_json.specs.Data.{unsigned, negative, float, Data, null, boolean, number, string, array, object, Members, no_members, member}
 use Rattle.serde_json.specs.Find.{as_bool, as_str, get_member}
 use Rattle.json_trees.specs.Trees.{all_in, whole_in}
+use Rattle.json_trees.proofs.TreeLemmas.{both_true, and_then_some, map_some}
 use Rattle.object_ids.specs.Ids.{text_of_id}
 use Rattle.object_ids.specs.Names.{is_name}
 use Rattle.object_ids.specs.declared.ids.Kind.{Kind}
@@ -64,18 +65,6 @@ only_told : {A : Type 0} (b : Bool) (o : Option A) (x : A) → only_if b o ≡ S
 only_told true o x e = (refl, e)
 only_told false o x e = let both : None ≡ Some x = e in absurd (cc)
 
-both_told : (a b : Bool) → (a && b) ≡ true → (a ≡ true) × (b ≡ true)
-both_told true b e = (refl, e)
-both_told false b e = absurd (let both : false ≡ true = e in cc)
-
-step_told : {A B : Type 0} (f : A → Option B) (o : Option A) (y : B) → option_and_then f o ≡ Some y → (x : A) × (o ≡ Some x) × (f x ≡ Some y)
-step_told f None y e = let both : None ≡ Some y = e in absurd (cc)
-step_told f (Some x) y e = (x, refl, e)
-
-map_told : {A B : Type 0} (f : A → B) (o : Option A) (y : B) → option_map f o ≡ Some y → (x : A) × (o ≡ Some x) × (f x ≡ y)
-map_told f None y e = let both : None ≡ Some y = e in absurd (cc)
-map_told f (Some x) y e = (x, refl, (let same : f x ≡ y = cc in same))
-
 name_told : (text name : List ℕ) → name_in text ≡ Some name → (is_name (length name) name ≡ true) × (text ≡ name)
 name_told text name e =
     let told = only_told (is_name (length text) text) (Some text) name e in
@@ -131,11 +120,11 @@ rows_exact no_members tidy rows is =
     let same : [] ≡ rows = let both : Some [] ≡ Some rows = is in cc in
     subst (λ (rs : List Row). (entry_members rs ≡ no_members) × AllByRecursion (λ e. is_name (length e.0) e.0 ≡ true) rs) same (refl, tt)
 rows_exact (member k d ms) tidy rows is =
-    let first = step_told (λ (y : Row). option_map (λ ys. y ∷ ys) (all_in entry_of (pairs_of ms))) (entry_of (k, d)) rows is in
-    let more = map_told (λ (ys : List Row). first.0 ∷ ys) (all_in entry_of (pairs_of ms)) rows first.2 in
+    let first = and_then_some (λ (y : Row). option_map (λ ys. y ∷ ys) (all_in entry_of (pairs_of ms))) (entry_of (k, d)) rows is in
+    let more = map_some (λ (ys : List Row). first.0 ∷ ys) (all_in entry_of (pairs_of ms)) rows first.2 in
     let rest = rows_exact ms tidy.1 more.0 more.1 in
-    let named = step_told (λ (n : List ℕ). option_map (λ entry. (n, entry)) (entry_in d)) (name_in k) first.0 first.1 in
-    let entry = map_told (λ (r : Rights). (named.0, r)) (entry_in d) first.0 named.2 in
+    let named = and_then_some (λ (n : List ℕ). option_map (λ entry. (n, entry)) (entry_in d)) (name_in k) first.0 first.1 in
+    let entry = map_some (λ (r : Rights). (named.0, r)) (entry_in d) first.0 named.2 in
     let name = name_told k named.0 named.1 in
     let tree = entry_exact d tidy.0 entry.0 entry.1 in
     let one : entry_members ((named.0, entry.0) ∷ more.0) ≡ member k d ms = (λ i. member (sym name.1 i) (tree i) (rest.0 i)) in
@@ -146,7 +135,7 @@ rows_exact (member k d ms) tidy rows is =
 list_exact : (d : Data) → IsTidy d → (list : Entries) → list_in d ≡ Some list → (list_tree list ≡ d) × IsList list
 list_exact (object ms) tidy list is =
     let told = only_told (nat_le (length (pairs_of ms)) 1024) (option_map map_of (all_in entry_of (pairs_of ms))) list is in
-    let found = map_told map_of (all_in entry_of (pairs_of ms)) list told.1 in
+    let found = map_some map_of (all_in entry_of (pairs_of ms)) list told.1 in
     let rows = rows_exact ms tidy.1 found.0 found.1 in
     let few : length found.0 ≤ 1024 = omega (arith, leb-true _ _ told.0, length-members found.0, ap (λ (ns : Members). length (pairs_of ns)) rows.0) in
     let made = list_of_rows found.0 (subst IsRising (sym rows.0) tidy.0) rows.1 few in
@@ -185,12 +174,12 @@ module _ (ms : Members) (up : IsRising ms) (acls : Data) (owner : List ℕ)
   domain_exact : get_member (codes "class") ms ≡ Some (string (codes "domain")) → (class : NodeClass) → domain_in (object ms) ≡ Some class → IsExact ms acls owner class
   domain_exact word class is =
       let told = only_told (size (object ms) == 5) _ class is in
-      let own = step_told (λ (n : ℕ). option_and_then (domain_of n) (root_at (object ms))) (number_at (object ms)) class told.1 in
-      let root = step_told (domain_of own.0) (root_at (object ms)) class own.2 in
+      let own = and_then_some (λ (n : ℕ). option_and_then (domain_of n) (root_at (object ms))) (number_at (object ms)) class told.1 in
+      let root = and_then_some (domain_of own.0) (root_at (object ms)) class own.2 in
       let made = only_told (is_root own.0 root.0) (Some (Domain own.0 root.0)) class root.2 in
-      let text = step_told id_of (option_and_then as_str (get_member (codes "root") ms)) root.0 root.1 in
+      let text = and_then_some id_of (option_and_then as_str (get_member (codes "root") ms)) root.0 root.1 in
       let id = id_told text.0 root.0 text.2 in
-      let held = both_told _ _ made.0 in
+      let held = both_true _ _ made.0 in
       let same_domain : root.0.domain ≡ own.0 = eqb-true root.0.domain own.0 held.1 in
       let root_is : get_member (codes "root") ms ≡ Some (string (text_of_id root.0)) = text_told _ text.0 text.1 ∙ ap (λ (t : List ℕ). Some (string t)) (sym id.1) in
       let ns = member (codes "acls") acls (member (codes "class") (string (codes "domain")) (member (codes "number") (number (unsigned own.0))
@@ -218,14 +207,14 @@ with_list class acls list owner ms tree same = sym tree ∙ ap (λ (t : Data). c
 
 pub node_exact : (d : Data) → IsTidy d → (node : Node) → node_in d ≡ Some node → (d ≡ node_tree node) × IsKeptNode node
 node_exact (object ms) tidy node is =
-    let a = step_told (λ (class : NodeClass). option_and_then (λ owner. option_map (λ list. record { class = class; owner = owner; list = list }) (acls_in (object ms))) (owner_in (object ms)))
+    let a = and_then_some (λ (class : NodeClass). option_and_then (λ owner. option_map (λ list. record { class = class; owner = owner; list = list }) (acls_in (object ms))) (owner_in (object ms)))
     (class_in (object ms)) node is in
-    let b = step_told (λ (owner : List ℕ). option_map (λ list. record { class = a.0; owner = owner; list = list }) (acls_in (object ms))) (owner_in (object ms)) node a.2 in
-    let c = map_told (λ (list : Entries). record { class = a.0; owner = b.0; list = list }) (acls_in (object ms)) node b.2 in
-    let word = step_told (class_of (object ms)) (option_and_then as_str (get_member (codes "class") ms)) a.0 a.1 in
-    let owner = step_told name_in (option_and_then as_str (get_member (codes "owner") ms)) b.0 b.1 in
+    let b = and_then_some (λ (owner : List ℕ). option_map (λ list. record { class = a.0; owner = owner; list = list }) (acls_in (object ms))) (owner_in (object ms)) node a.2 in
+    let c = map_some (λ (list : Entries). record { class = a.0; owner = b.0; list = list }) (acls_in (object ms)) node b.2 in
+    let word = and_then_some (class_of (object ms)) (option_and_then as_str (get_member (codes "class") ms)) a.0 a.1 in
+    let owner = and_then_some name_in (option_and_then as_str (get_member (codes "owner") ms)) b.0 b.1 in
     let named = name_told owner.0 b.0 owner.2 in
-    let acls = step_told list_in (get_member (codes "acls") ms) c.0 c.1 in
+    let acls = and_then_some list_in (get_member (codes "acls") ms) c.0 c.1 in
     let list = list_exact acls.0 (tidy_member (codes "acls") acls.0 ms tidy.1 acls.1) c.0 acls.2 in
     let owner_is : get_member (codes "owner") ms ≡ Some (string b.0) = text_told _ owner.0 owner.1 ∙ ap (λ (t : List ℕ). Some (string t)) named.1 in
     let exact = class_exact ms tidy.0 acls.0 b.0 acls.1 owner_is word.0 (text_told _ word.0 word.1) a.0 word.2 in
@@ -243,7 +232,7 @@ node_exact (array ds) tidy node is = let both : None ≡ Some node = is in absur
 pub body_exact : (body : List ℕ) (node : Node) → node_of_body body ≡ Some node → (is_utf8 body ≡ true) × (read body ≡ Some (node_tree node)) × IsKeptNode node
 body_exact body node is =
     let told = only_told (is_utf8 body) (option_and_then node_in (read body)) node is in
-    let tree = step_told node_in (read body) node told.1 in
+    let tree = and_then_some node_in (read body) node told.1 in
     let exact = node_exact tree.0 (read_tidy body tree.0 tree.1) node tree.2 in
     (told.0, tree.1 ∙ ap Some exact.0, exact.1)
 

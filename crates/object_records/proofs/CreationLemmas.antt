@@ -14,7 +14,7 @@ use Rattle.shapes.specs.Extents.{SpellsList}
 use Rattle.shapes.specs.Printed.{limit_tree, numbers_tree}
 use Rattle.shapes.specs.Shapes.{dims_of}
 use Rattle.hdf_values.specs.Elements.{IsEncoded, decoded}
-use Rattle.hdf_values.proofs.ElementLemmas.{encoded-fits}
+use Rattle.hdf_values.proofs.ElementLemmas.{encoded-fits, list_of-items_of}
 use Rattle.hdf_values.proofs.PieceLemmas.{decoded_fits}
 use Rattle.chunk_layout.specs.Asked.{IsAnswer, asked_of}
 use Rattle.chunk_layout.specs.declared.Layout.{Layout}
@@ -27,7 +27,6 @@ use Rattle.chunk_store.specs.Grids.{Grid, IsWhole, blank_of}
 use Rattle.array_acts.specs.Creation.{creation_tree, fill_members, layout_members, layout_tree}
 use Rattle.object_records.specs.Creations.{chunk_or, creation_in, fill_in, has_no_filter}
 use Rattle.object_records.specs.Lists.{no_fault}
-use Rattle.object_records.proofs.ListLemmas.{list_of-items}
 
 -- an answer to what is asked for is the chunk of the definition
 pub chunk_answered : (size : ℕ) (dims : List ℕ) (asked : Result (Option (List ℕ)) LayoutFault) (layout : Layout) → IsAnswer dims size asked (Ok layout) → chunk_or size dims asked ≡ Some layout.chunk
@@ -38,7 +37,7 @@ chunk_answered size dims (Ok (Some chunk)) layout h = let same : layout ≡ reco
 -- ---- creation properties
 
 numbers_spelled : (ns : List ℕ) → SpellsList IsWholeNumber (numbers_tree Rest ns) ns
-numbers_spelled ns = (items_of (map (limit_tree Rest) ns), refl, subst (λ (ds : List Data). AllZip IsWholeNumber ds ns) (sym (list_of-items (map (limit_tree Rest) ns))) (each ns))
+numbers_spelled ns = (items_of (map (limit_tree Rest) ns), refl, subst (λ (ds : List Data). AllZip IsWholeNumber ds ns) (sym (list_of-items_of (map (limit_tree Rest) ns))) (each ns))
   where
     each : (ms : List ℕ) → AllZip IsWholeNumber (map (limit_tree Rest) ms) ms
     each [] = tt

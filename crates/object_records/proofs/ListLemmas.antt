@@ -7,8 +7,6 @@ use Rattle.std.specs.List.{AllByRecursion, AllZip}
 use Rattle.std.proofs.lemmas.Bool.{lt-ltb}
 use Rattle.std.proofs.lemmas.Cmp.{nat_list_cmp_total}
 use Rattle.serde_json.specs.Data.{Data}
-use Rattle.serde_json.specs.View.{items_of}
-use Rattle.json_trees.specs.Trees.{list_of}
 use Rattle.object_ids.specs.Puts.{put_fault}
 use Rattle.object_ids.specs.declared.puts.PutFault.{PutFault}
 use Rattle.object_ids.specs.declared.puts.PutFault.TheVariants.{Taken, Limit}
@@ -17,10 +15,6 @@ use Rattle.text_maps.specs.Keyed.{text_order}
 use Rattle.text_maps.proofs.KeyedMaps.{exact_texts}
 use Rattle.text_maps.proofs.Walks.{halves, less}
 use Rattle.object_records.specs.Lists.{listed, put_in}
-
-pub list_of-items : (ds : List Data) → list_of (items_of ds) ≡ ds
-list_of-items [] = refl
-list_of-items (d ∷ ds) = ap (λ xs. d ∷ xs) (list_of-items ds)
 
 -- a greater key isn't tied with a lesser one
 pub greater : (x y : List ℕ) → text_order x y ≡ Less → eq_by_cmp text_order y x ≡ false

@@ -27,6 +27,7 @@ use Rattle.shapes.proofs.ShapeLemmas as shapes
 use Rattle.hdf_values.specs.Attributes.{Content, IsSoundAttribute, content}
 use Rattle.hdf_values.specs.declared.attributes.Attribute.{Attribute}
 use Rattle.hdf_values.proofs.AttributeLemmas.{printed_back}
+use Rattle.hdf_values.proofs.ElementLemmas.{list_of-items_of}
 use Rattle.attributes.specs.AttributeMaps.{AreAttributes, longest_name, most_attributes}
 use Rattle.attributes.specs.AttributeTrees.{attribute_tree, attributes_list, entry_tree}
 use Rattle.attributes.proofs.MapLemmas.{each_entry}
@@ -51,7 +52,7 @@ use Rattle.object_records.specs.Entries.{Entry, Kept, Names, dataset, datatype, 
 use Rattle.object_records.specs.Lists.{attribute_in, attributes_in, links_in, listed, name_at, no_fault, titled_in}
 use Rattle.object_records.specs.Objects.{IsKeptBody, body_tree, dataset_in, dataset_tree, kept_in, object_in, object_tree, spelled_in}
 use Rattle.object_records.proofs.CreationLemmas.{creation_back}
-use Rattle.object_records.proofs.ListLemmas.{list_back, list_of-items, zip_of}
+use Rattle.object_records.proofs.ListLemmas.{list_back, zip_of}
 use Rattle.object_records.proofs.ReadLemmas.{attribute_read, title_read}
 
 -- ---- attributes
@@ -71,7 +72,7 @@ attributes_back m held =
     (λ name a e. attribute_back name (content a) (held.named name a e) (held.sound name a e)) in
     let zip = subst (λ (es : List (List ℕ × Content)). AllZip (λ d e. attribute_in d ≡ Some e) trees es) (sym (entries-values nat_list_cmp_total content m))
     (zip_of (entry_tree Document true) seen attribute_in (entries m) each) in
-    ap (listed most_attributes attribute_in empty) (list_of-items trees)
+    ap (listed most_attributes attribute_in empty) (list_of-items_of trees)
     ∙ list_back most_attributes attribute_in (with_values content m) trees zip (omega (arith, held.few, len-values nat_list_cmp_total content m))
 
 -- ---- links
@@ -98,7 +99,7 @@ links_back m held =
     (λ title link e. link_back title link (held.titled title link e) (held.named title link e) (held.sound title link e)) in
     let zip = subst (λ (es : List (List ℕ × LinkTo)). AllZip (λ d e. titled_in d ≡ Some e) trees es) (map-id (entries m))
     (zip_of tree (λ e. e) titled_in (entries m) each) in
-    ap (listed most_links titled_in empty) (list_of-items trees) ∙ list_back most_links titled_in m trees zip held.few
+    ap (listed most_links titled_in empty) (list_of-items_of trees) ∙ list_back most_links titled_in m trees zip held.few
 
 -- ---- types and datasets
 

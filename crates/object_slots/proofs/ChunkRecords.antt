@@ -1,16 +1,15 @@
 -- What is held once the records of some chunks are written.
-use Rattle.std.proofs.Common.{◌≡◌, ◌≢◌, ℕ, ◌≤◌, length, arith, append-nil, append_assoc, ◌||◌, Bool, true, false, cond, bytes_eq, List, [], ◌∷◌, ◌++◌, map, Option, Some, None, refl, sym, ap, subst, ◌∙◌}
+use Rattle.std.proofs.Common.{◌≡◌, ◌≢◌, ℕ, ◌≤◌, length, arith, append-nil, append_assoc, ◌||◌, true, false, cond, bytes_eq, List, [], ◌∷◌, ◌++◌, map, Option, Some, None, refl, sym, ap, subst, ◌∙◌}
 use Rattle.std.specs.FinMap.{get}
 use Rattle.std.specs.List.{AllByRecursion}
 use Rattle.std.specs.Option.{option_map_or}
 use Rattle.std.proofs.lemmas.Slice.Eq.{bytes_eq-Decides}
+use Rattle.std.proofs.lemmas.Bool.{or_right}
+use Rattle.chunk_layout.proofs.DefaultLemmas.{few_dims}
 use Rattle.object_ids.specs.IdValues.{Id}
 use Rattle.object_ids.specs.Ids.{InRange}
 use Rattle.object_ids.specs.declared.ids.Kind.TheVariants.{Dataset}
-use Rattle.shapes.specs.declared.Shape.{Shape}
-use Rattle.shapes.specs.declared.Shape.TheVariants.{Null, Scalar, Simple}
 use Rattle.shapes.specs.declared.TheConstants.{MAX_RANK}
-use Rattle.shapes.specs.Shapes.{IsSound, dims_of}
 use Rattle.chunk_store.specs.Grids.{Grid, IsWhole}
 use Rattle.chunk_store.specs.Indexes.{IsIndex}
 use Rattle.chunk_store.specs.Marks.{IsNext, Stored}
@@ -44,12 +43,8 @@ module _ (id : Id) (range : InRange id) (kind : id.kind ≡ Dataset) (mark : Mar
     in_first : (i : List ℕ) (done : List (List ℕ)) → is_among (i ∷ done) i ≡ true
     in_first i done = ap (λ b. b || is_among done i) ((bytes_eq-Decides i i).1 refl)
 
-    or_last : (a b : Bool) → b ≡ true → (a || b) ≡ true
-    or_last true b e = refl
-    or_last false b e = e
-
     in_rest : (j i : List ℕ) (done : List (List ℕ)) → is_among done j ≡ true → is_among (i ∷ done) j ≡ true
-    in_rest j i done there = or_last (bytes_eq j i) (is_among done j) there
+    in_rest j i done there = or_right (bytes_eq j i) (is_among done j) there
 
   index_of : (done : List (List ℕ)) (i : List ℕ) → AreAll done → is_among done i ≡ true → is_index i ≡ true
   index_of [] i all e = contrary false (is_index i ≡ true) e refl
@@ -137,13 +132,8 @@ module _ (id : Id) (mark : Mark) (s : Stored) (old mid : List Record) (after : O
   pub cutting_front : (new : List Record) → new ≡ mid → AddsChunks id mark s false old new
   cutting_front new same = (c.done, record { meant = c.meant; distinct = c.walk.distinct; all = λ e i meant. contrary false (is_among c.done i ≡ true) e refl }, same ∙ c.added)
 
-shape_rank : (shape : Shape) → IsSound shape → length (dims_of shape) ≤ MAX_RANK
-shape_rank Null h = omega arith
-shape_rank Scalar h = omega arith
-shape_rank (Simple dims limits) h = h.fitting.few_axes
-
 -- a chunk's index has a number for each axis of an array
 pub index_there : (s : Stored) (i : List ℕ) → IsWhole s.grid → IsIndex s.grid.chunk i → is_index i ≡ true
 index_there s i whole index = numbers_index i (record { few = few; small = index.small }) where
   few : length i ≤ MAX_RANK
-  few = let rank = shape_rank s.grid.shape whole.shape in omega (arith, index.rank, whole.rank, rank)
+  few = let rank = few_dims s.grid.shape whole.shape in omega (arith, index.rank, whole.rank, rank)

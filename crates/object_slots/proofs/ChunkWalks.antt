@@ -7,9 +7,11 @@ use Rattle.std.specs.Cmp.Lexicographic.{slice_cmp, nat_list_cmp_total}
 use Rattle.std.proofs.lemmas.Cmp.{tied_itself}
 use Rattle.std.proofs.lemmas.Map.Text.{is_eq-slice_cmp}
 use Rattle.std.proofs.lemmas.Slice.Eq.{bytes_eq-Decides}
+use Rattle.std.proofs.lemmas.Bool.{or_right, or_parts}
 use Rattle.chunk_store.specs.Marks.{ComesAfter, IsNext, is_after}
+use Rattle.chunk_store.proofs.NextLemmas.{after_read}
 use Rattle.object_slots.specs.Cutting.{AreDistinct, is_among}
-use Rattle.object_slots.proofs.Passing.{by_bool, contrary, lt_less, or_more, or_first, or_later, or_either, or_neither, neither_or, fewer_there, found_lookup}
+use Rattle.object_slots.proofs.Passing.{by_bool, contrary, lt_less, or_more, or_first, or_either, neither_or, fewer_there, found_lookup}
 
 -- ---- chunks among others
 
@@ -27,21 +29,21 @@ among_front (k ∷ is) i j e = or_more (bytes_eq j k) (is_among is j) (is_among 
 
 among_last : (is : List (List ℕ)) (i : List ℕ) → is_among (is ++ i ∷ []) i ≡ true
 among_last [] i = or_first (bytes_eq i i) false (itself i)
-among_last (k ∷ is) i = or_later (bytes_eq i k) (is_among (is ++ i ∷ []) i) (among_last is i)
+among_last (k ∷ is) i = or_right (bytes_eq i k) (is_among (is ++ i ∷ []) i) (among_last is i)
 
 among_either : (is : List (List ℕ)) (i j : List ℕ) (P : Type 0) → (is_among is j ≡ true → P) → (j ≡ i → P) → is_among (is ++ i ∷ []) j ≡ true → P
 among_either [] i j P there same e = or_either (bytes_eq j i) false P (λ y. same ((bytes_eq-Decides j i).0 y)) (λ n. contrary false P n refl) e
 among_either (k ∷ is) i j P there same e = or_either (bytes_eq j k) (is_among (is ++ i ∷ []) j) P (λ y. there (or_first (bytes_eq j k) (is_among is j) y))
-    (λ rest. among_either is i j P (λ h. there (or_later (bytes_eq j k) (is_among is j) h)) same rest) e
+    (λ rest. among_either is i j P (λ h. there (or_right (bytes_eq j k) (is_among is j) h)) same rest) e
 
 among_neither : (is : List (List ℕ)) (i j : List ℕ) → is_among is j ≡ false → bytes_eq j i ≡ false → is_among (is ++ i ∷ []) j ≡ false
 among_neither [] i j e n = neither_or (bytes_eq j i) false n refl
-among_neither (k ∷ is) i j e n = let both = or_neither (bytes_eq j k) (is_among is j) e in
+among_neither (k ∷ is) i j e n = let both = or_parts (bytes_eq j k) (is_among is j) e in
     neither_or (bytes_eq j k) (is_among (is ++ i ∷ []) j) both.0 (among_neither is i j both.1 n)
 
 distinct_more : (is : List (List ℕ)) (i : List ℕ) → AreDistinct is → is_among is i ≡ false → AreDistinct (is ++ i ∷ [])
 distinct_more [] i h n = (refl, tt)
-distinct_more (k ∷ is) i h n = let both = or_neither (bytes_eq i k) (is_among is i) n in
+distinct_more (k ∷ is) i h n = let both = or_parts (bytes_eq i k) (is_among is i) n in
     (among_neither is i k h.0 (turned i k both.0), distinct_more is i h.1 both.1)
 
 -- those entries that come after
@@ -102,17 +104,13 @@ module _ (is_meant : List ℕ → Bool) (done : List (List ℕ)) (after : Option
 
 -- ---- fewer chunks come after a later one
 
-is_after_true : (after : Option (List ℕ)) (i : List ℕ) → ComesAfter after i → is_after after i ≡ true
-is_after_true None i h = refl
-is_after_true (Some a) i h = ap is_lt h
-
 module _ (after : Option (List ℕ)) (i : List ℕ) (later : ComesAfter after i) where
   after_weaker : (j : List ℕ) → is_after (Some i) j ≡ true → is_after after j ≡ true
-  after_weaker j e = is_after_true after j (after_more after i j later (lt_less (slice_cmp nat_cmp i j) e))
+  after_weaker j e = after_read after j (after_more after i j later (lt_less (slice_cmp nat_cmp i j) e))
 
   at_itself : (k : List ℕ) → bytes_eq i k ≡ true → (is_after (Some i) k ≡ false) × (is_after after k ≡ true)
   at_itself k y = subst (λ (j : List ℕ). (is_after (Some i) j ≡ false) × (is_after after j ≡ true)) ((bytes_eq-Decides i k).0 y)
-      (ap is_lt (tied_itself nat_list_cmp_total i), is_after_true after i later)
+      (ap is_lt (tied_itself nat_list_cmp_total i), after_read after i later)
 
   pub walk_smaller : (es : List (List ℕ × Bool)) → IsSome (lookup (bytes_eq i) es) → length (left_after (Some i) es) < length (left_after after es)
   walk_smaller es known = fewer_there (is_after (Some i)) (is_after after) after_weaker (bytes_eq i) at_itself es (found_lookup (bytes_eq i) es known)

@@ -14,7 +14,7 @@ use Rattle.object_slots.specs.Slots.{Slots}
 use Rattle.object_slots.specs.Settled.{Settles, SettlesBy, SlotSettles, is_dropped, is_dropped_slot}
 use Rattle.object_slots.proofs.Passing.{by_bool, contrary}
 
-itself : (id : Id) → eq_by_cmp id_order id id ≡ true
+pub itself : (id : Id) → eq_by_cmp id_order id id ≡ true
 itself id = ap is_eq (tied_itself id_order_total id)
 
 apart : (q id : Id) → q ≢ id → eq_by_cmp id_order q id ≡ false

@@ -16,8 +16,9 @@ use Rattle.object_acts.specs.declared.objects.Body.TheVariants as body
 use Rattle.object_acts.specs.Objects.{IsOfKind, kind_of_body}
 use Rattle.flush_journal.specs.Records.{Record, Held, kept_body, put_all}
 use Rattle.flush_journal.proofs.PutLemmas.{put_others, put_last}
+use Rattle.flush_journal.proofs.BlockLemmas.{put_both}
 use Rattle.record_cuts.specs.Cuts.{AreOnce, IsCut, IsWithout}
-use Rattle.record_cuts.proofs.CutLemmas.{put_all-append, all_append}
+use Rattle.record_cuts.proofs.CutLemmas.{all_append}
 use Rattle.record_keys.specs.Keys.{chunk_key, object_key}
 use Rattle.object_records.specs.Entries.{Entry, entry_of, kept_of}
 use Rattle.object_records.specs.Objects.{object_of_body}
@@ -235,7 +236,7 @@ module _ (id : Id) (base : Held) (old mid new : List Record) (mark : Mark) (o : 
     appended = c.appended ∙ ap (λ (rs : List Record). rs ++ c.added) object.2 ∙ append_assoc old object.0 c.added;
     changed = all_append (λ r. IsMarkedIn id mark o.body r.0) object.0 c.added (object_marks id mark o object.0 object.1) (chunk_marked id mark o.body c.added c.chunks);
     once = once_behind id mark o object.0 c.added object.1 c.chunks c.once;
-    stands = subst later (sym (put_all-append object.0 c.added base)) (stands (put_all c.added first) c.object c.stands);
+    stands = subst later (sym (put_both object.0 c.added base)) (stands (put_all c.added first) c.object c.stands);
   }
 
   first_chunks : chunks_at first id ≡ chunks_at base id

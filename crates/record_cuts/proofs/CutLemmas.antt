@@ -1,12 +1,9 @@
 -- Cuts in turn.
-use Rattle.std.proofs.Common.{◌≡◌, ◌≢◌, ℕ, List, [], ◌∷◌, ◌++◌, ◌⊎◌, inl, inr, refl, sym, ap, subst, ◌∙◌, append_assoc}
+use Rattle.std.proofs.Common.{◌≡◌, ◌≢◌, ℕ, List, [], ◌∷◌, ◌++◌, ◌⊎◌, inl, inr, sym, ap, subst, ◌∙◌, append_assoc}
 use Rattle.std.specs.List.{AllByRecursion}
-use Rattle.flush_journal.specs.Records.{Record, Held, put_all, put_record}
+use Rattle.flush_journal.specs.Records.{Record, Held, put_all}
+use Rattle.flush_journal.proofs.BlockLemmas.{put_both}
 use Rattle.record_cuts.specs.Cuts.{IsWithout, AreOnce, AreApart, IsEither, IsCut}
-
-pub put_all-append : (xs ys : List Record) (m : Held) → put_all (xs ++ ys) m ≡ put_all ys (put_all xs m)
-put_all-append [] ys m = refl
-put_all-append (x ∷ xs) ys m = put_all-append xs ys (put_record x m)
 
 pub all_append : (P : Record → Type 0) (xs ys : List Record) → AllByRecursion P xs → AllByRecursion P ys → AllByRecursion P (xs ++ ys)
 all_append P [] ys h g = g
@@ -32,5 +29,5 @@ module _ (first second : List ℕ → Type 0) (apart : AreApart first second) wh
     changed = all_append (λ r. IsEither first second r.0) c.added d.added (all_more (λ r. first r.0) (λ r. IsEither first second r.0) c.added (λ r m. inl m) c.changed)
         (all_more (λ r. second r.0) (λ r. IsEither first second r.0) d.added (λ r m. inr m) d.changed);
     once = once_append c.added d.added c.changed d.changed c.once d.once;
-    stands = subst later (sym (put_all-append c.added d.added base)) d.stands;
+    stands = subst later (sym (put_both c.added d.added base)) d.stands;
   }

@@ -1,15 +1,14 @@
 -- What is held of a register of which nothing is marked describes it.
-use Rattle.std.proofs.Common.{◌≡◌, ◌≢◌, inl, inr, ℕ, ◌+◌, ◌<◌, ◌≤◌, ◌^◌, ◌&&◌, ◌||◌, T, Bool, true, false, cond, List, [], ◌∷◌, ◌++◌, drop, Option, Some, None, is_some, IsSome, option_map, Less, Equal, is_eq, refl, sym, ap, subst, ◌∙◌, arith}
+use Rattle.std.proofs.Common.{◌≡◌, ◌≢◌, inl, inr, ℕ, ◌+◌, ◌<◌, ◌≤◌, ◌^◌, ◌&&◌, ◌||◌, T, Bool, true, false, cond, List, [], ◌∷◌, ◌++◌, drop, Option, Some, None, is_some, IsSome, option_map, Less, Equal, refl, sym, ap, subst, ◌∙◌, arith}
 use Rattle.std.proofs.lemmas.Bool.{eqb-true}
 use Rattle.std.proofs.lemmas.Cmp.{tied_itself}
 use Rattle.std.proofs.lemmas.List.Sums.{sum_by-cons}
-use Rattle.std.proofs.lemmas.Nat.{from_be_bytes-to_be_bytes_8}
 use Rattle.std.specs.Cmp.Lexicographic.{nat_list_cmp_total}
 use Rattle.std.specs.FinMap.{FinMap, contains_key, entries, entries_sorted, find, get, get-empty, get-entries, get-insert, get-remove, insert, is_sorted, len, len-insert, remove, same_map}
 use Rattle.std.specs.FinMap.Entries.{below_all}
-use Rattle.std.specs.Int.{from_be_bytes, w64}
 use Rattle.std.specs.Ordering.{eq_by_cmp, is_lt}
 use Rattle.std.specs.Prelude.{option_and_then}
+use Rattle.lane_installs.proofs.Fronts.{itself}
 use Rattle.text_maps.specs.Keyed.{text_order}
 use Rattle.text_maps.proofs.KeyedMaps.{exact_texts}
 use Rattle.text_maps.proofs.Walks.{halves}
@@ -21,20 +20,17 @@ use Rattle.domains.specs.declared.classes.Node.{Node}
 use Rattle.domains.specs.declared.classes.NodeClass.{NodeClass}
 use Rattle.domains.specs.declared.classes.NodeClass.TheVariants.{Folder, Domain}
 use Rattle.record_keys.specs.Keys.{node_key}
-use Rattle.record_keys.specs.Numbers.{next_bytes}
 use Rattle.node_records.specs.Nodes.{node_of_body}
 use Rattle.register_installs.specs.Registers.{DescribesRegister, IsNextNumber, IsNodeRecord, IsRun, KeepsNumber, class_at, count_nodes, is_node_key, node_at}
+use Rattle.register_installs.proofs.NodeWalks.{one_next}
 use Rattle.register.specs.Marks.{Marked, no_marks}
 use Rattle.register.specs.Decided.{Door, IsDoor}
 use Rattle.register.specs.Kept.{AreTexts, IsHeldNode, RegisterSays, is_marked, is_marked_in}
 use Rattle.register.specs.Cutting.{IsAmong}
-use Rattle.register.proofs.Installing.{one_run, same_bytes}
+use Rattle.register.proofs.Installing.{one_run}
 use Rattle.object_slots.proofs.Passing.{by_bool, contrary}
 
 -- ---- how many records of nodes stand before one
-
-itself : (path : List ℕ) → eq_by_cmp text_order path path ≡ true
-itself path = ap is_eq (tied_itself nat_list_cmp_total path)
 
 as_node : (key : List ℕ) → is_node_key key ≡ true → key ≡ node_key (drop 1 key)
 as_node [] e = contrary false ([] ≡ node_key []) e refl
@@ -118,12 +114,6 @@ few path body rest (e ∷ front) m sorted h = by_bool (is_node_key e.0) (count_n
         fits all some left most less size same = omega (arith, less, size, same)
 
 -- ---- what is held
-
-one_next : (held : Held) (a b : ℕ) → IsNextNumber held a → IsNextNumber held b → a ≡ b
-one_next held a b x y =
-    sym (from_be_bytes-to_be_bytes_8 a (below a x.small)) ∙ ap (from_be_bytes w64) (same_bytes (next_bytes a) (next_bytes b) (sym x.here ∙ y.here)) ∙ from_be_bytes-to_be_bytes_8 b (below b y.small) where
-      below : (n : ℕ) → n ≤ 2 ^ 48 → n < 2 ^ 64
-      below n small = omega arith
 
 none_body : {P : Type 0} (x : List ℕ) → None ≡ Some x → P
 none_body x e = absurd (cc)

@@ -5,6 +5,7 @@ use Rattle.std.specs.FinMap.{FinMap, contains_key, entries, get}
 use Rattle.std.specs.List.{AllByRecursion}
 use Rattle.std.specs.Ordering.{is_lt, ordering_reverse}
 use Rattle.std.proofs.lemmas.Cmp.{tied_itself}
+use Rattle.std.proofs.lemmas.Bool.{and_from}
 use Rattle.text_maps.specs.Keyed.{text_order}
 use Rattle.text_maps.specs.Nexts.{is_behind, left, IsNext, IsStep}
 use Rattle.text_maps.proofs.KeyedMaps.{exact_texts}
@@ -18,9 +19,6 @@ use Rattle.record_keys.specs.Keys.{node_key}
 use Rattle.register.specs.Cutting.{AddsNodes, AddsWanted, AreAdded, IsAmong, IsDueNode, IsNodeBody, IsRightNode, is_key_wanted, is_of_all, is_of_paths, is_wanted}
 use Rattle.register.specs.Marks.{Marked}
 use Rattle.object_slots.proofs.Passing.{by_bool, contrary, lt_less}
-
-pub both : (a b : Bool) → a ≡ true → b ≡ true → (a && b) ≡ true
-both a b e f = ap (λ x. x && b) e ∙ f
 
 pub first_half : (a b : Bool) → (a && b) ≡ true → a ≡ true
 first_half true b e = refl
@@ -105,7 +103,7 @@ module _ (c : Contents) {V : Type 0} (keys : FinMap text_order V) (missing : Boo
     with_record : (whole : Bool) (body : List ℕ) (tail : List Record) → is_wanted c missing k ≡ true → IsNodeBody (get c.nodes k) body → IsTail whole (Some k) tail
         → IsTail whole last ((node_key k, body) ∷ tail)
     with_record whole body tail want is t = record {
-      right = ((k, next.0, both (contains_key keys k) (is_wanted c missing k) next.1 want, refl, is), all_more (IsLater (Some k)) (IsLater last) tail later t.right);
+      right = ((k, next.0, and_from (contains_key keys k) (is_wanted c missing k) next.1 want, refl, is), all_more (IsLater (Some k)) (IsLater last) tail later t.right);
       once = (all_more (IsLater (Some k)) (λ r. r.0 ≢ node_key k) tail other t.right, t.once);
       all = λ w path behind want. by_bool (is_behind text_order (Some k) path) (IsAmong (node_key path) ((node_key k, body) ∷ tail))
           (λ y. inr (t.all w path y want))

@@ -1,10 +1,9 @@
 -- A walk over records that installs folders and domains.
-use Rattle.std.proofs.Common.{◌≡◌, ◌≢◌, inl, inr, ℕ, ◌+◌, ◌<◌, ◌≤◌, ◌^◌, Bool, true, false, cond, ◌&&◌, not, nat_le, nat_lt, List, [], ◌∷◌, ◌++◌, T, Option, Some, None, IsSome, is_some, option_and_then, option_map, Less, is_eq, refl, sym, ap, subst, ◌∙◌, arith}
+use Rattle.std.proofs.Common.{◌≡◌, ◌≢◌, inl, inr, ℕ, ◌+◌, ◌<◌, ◌≤◌, ◌^◌, Bool, true, false, cond, ◌&&◌, not, nat_le, nat_lt, List, [], ◌∷◌, ◌++◌, T, Option, Some, None, IsSome, is_some, option_and_then, option_map, Less, refl, sym, ap, subst, ◌∙◌, arith}
 use Rattle.std.specs.Int.{from_be_bytes, w32, w64}
 use Rattle.std.proofs.lemmas.Nat.{from_be_bytes-to_be_bytes_4, from_be_bytes-to_be_bytes_8}
 use Rattle.std.proofs.lemmas.Bool.{and_from, and_parts, le-leb, leb-true, lt-ltb, ltb-true}
 use Rattle.std.specs.Cmp.{Equal-is}
-use Rattle.std.proofs.lemmas.Cmp.{tied_itself}
 use Rattle.std.specs.Cmp.Lexicographic.{nat_list_cmp_total}
 use Rattle.std.specs.FinMap.{contains_key, empty, entries, entries_sorted, get, get-empty, get-insert, insert, is_sorted, len, len-insert}
 use Rattle.std.specs.Ordering.{eq_by_cmp}
@@ -24,6 +23,7 @@ use Rattle.node_records.specs.Nodes.{node_of_body}
 use Rattle.lane_installs.specs.Walks.{held_by}
 use Rattle.lane_installs.proofs.Fronts.{all_held, differ, held_before, held_here, new_key, none_some, nothing_held, said_else, said_here, same_key, some_is, split_more, unlike}
 use Rattle.object_slots.proofs.Passing.{by_bool, contrary}
+use Rattle.object_slots.proofs.KeptSlots.{itself}
 use Rattle.register_installs.specs.Registers.{IsDomainOf, IsNextNumber, IsNodeRecord, IsRun, KeepsNumber, class_at, count_nodes, is_node_key, node_at}
 use Rattle.register_installs.specs.Walks.{AreRoots, IsNextOf, IsNodeWalk, NoPut, no_node, no_place, no_number, PutsNode, Roots, is_given, may_stand, number_id, one_without, with_root}
 use Rattle.register_installs.proofs.NodeKeys.{count_more, front_less, key_path, one_split, other_kind, parent_before, root_before}
@@ -49,9 +49,6 @@ either : (b : Bool) (i : Id) (o : Option Id) → IsSome o → IsSome (cond b (So
 either true i o some = refl
 either false i o some = some
 
-self_id : (id : Id) → eq_by_cmp id_order id id ≡ true
-self_id id = ap is_eq (tied_itself id_order_total id)
-
 same_number : (a b : ℕ) → eq_by_cmp id_order (number_id a) (number_id b) ≡ true → a ≡ b
 same_number a b e = ap (λ (id : Id). id.domain) (id_order_once (number_id a) (number_id b) ((Equal-is (id_order (number_id a) (number_id b))).0 e))
 
@@ -66,7 +63,7 @@ one_run held a b x y =
       below : (n : ℕ) → n < 2 ^ 22 → n < 2 ^ 32
       below n small = omega arith
 
-one_next : (held : Held) (a b : ℕ) → IsNextNumber held a → IsNextNumber held b → a ≡ b
+pub one_next : (held : Held) (a b : ℕ) → IsNextNumber held a → IsNextNumber held b → a ≡ b
 one_next held a b x y =
     sym (from_be_bytes-to_be_bytes_8 a (below a x.small)) ∙ ap (from_be_bytes w64) (some_is (next_bytes a) (next_bytes b) (sym x.here ∙ y.here)) ∙ from_be_bytes-to_be_bytes_8 b (below b y.small) where
       below : (n : ℕ) → n ≤ 2 ^ 48 → n < 2 ^ 64
@@ -329,7 +326,7 @@ module _ (held : Held) (rest : List Record) (e : Record) (c : Contents) (roots :
 
                 new : (class : NodeClass) → roots' ≡ with_root roots class → Some class ≡ Some (Domain number id) → IsSome (get roots' (number_id number))
                 new Folder with e = let c : Folder ≡ Domain number id = some_is Folder (Domain number id) e in cc
-                new (Domain n i) with e = subst (λ (o : Option Id). IsSome o) (sym (ap (λ (m : Roots). get m (number_id number)) with ∙ get-insert id_order_total roots (number_id n) i (number_id number) ∙ ap (λ b. cond b (Some i) (get roots (number_id number))) (ap (λ m. eq_by_cmp id_order (number_id m) (number_id n)) (sym (same_own n i number id (some_is (Domain n i) (Domain number id) e))) ∙ self_id (number_id n)))) refl
+                new (Domain n i) with e = subst (λ (o : Option Id). IsSome o) (sym (ap (λ (m : Roots). get m (number_id number)) with ∙ get-insert id_order_total roots (number_id n) i (number_id number) ∙ ap (λ b. cond b (Some i) (get roots (number_id number))) (ap (λ m. eq_by_cmp id_order (number_id m) (number_id n)) (sym (same_own n i number id (some_is (Domain n i) (Domain number id) e))) ∙ itself (number_id n)))) refl
 
                 old : (class : NodeClass) → roots' ≡ with_root roots class → IsSome (get roots (number_id number)) → IsSome (get roots' (number_id number))
                 old Folder with some = subst (λ (m : Roots). IsSome (get m (number_id number))) (sym with) some

@@ -72,7 +72,7 @@ pub record IsDecided (d : Door) (op : Op) (m : Objects) (p : Verdict × Door) : 
   pub given : MayGrant p.1 p.0
   pub servable : IsServable (length d.issued) op p.0 m
 
-no_id : (id : Id) → None ≡ Some id → ⊥
+pub no_id : (id : Id) → None ≡ Some id → ⊥
 no_id id e = let both : None ≡ Some id = e in absurd (cc)
 
 -- ---- lists of counts

@@ -44,6 +44,7 @@ use Rattle.service_core.specs.Laws.{DomainsAreForgotten, Gives, IsDoneAt, IsGran
 use Rattle.service_core.specs.Steps.{IsAnswered, World, by_verdict, run_on, served, started, step, without_domain}
 use Rattle.service_core.proofs.ForgetLemmas.{get-without}
 use Rattle.service_core.proofs.TurnLemmas.{run_by_steps, run_steps}
+use Rattle.service_core.proofs.DecideLemmas.{no_id}
 use Rattle.lane_owners.proofs.WholeLemmas.{get-set_at}
 
 -- ---- places
@@ -68,9 +69,6 @@ module _ (takes : TakesPlace) where
       omega (arith, next, place)
 
 -- ---- what is granted
-
-no_id : (id : Id) → None ≡ Some id → ⊥
-no_id id e = let both : None ≡ Some id = e in absurd (cc)
 
 -- the steps of an operation on one object
 only_of : (n : ℕ) (op : Op) (ts : List Turn) (id : Id) → id_of op ≡ Some id → HasSteps n op ts → map (λ t. t.step) ts ≡ Some Only ∷ []

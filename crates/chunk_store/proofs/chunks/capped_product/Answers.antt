@@ -1,6 +1,6 @@
 use Rattle.std.proofs.Common.{◌<◌, ◌≤◌, ◌-◌, ◌^◌, length, ◌∙◌, arith}
+use Rattle.chunk_layout.proofs.SizeLemmas.{bytes_end}
 use Rattle.shapes.proofs.CapLemmas.{capped_next}
-use Rattle.chunk_store.proofs.ChunkLemmas.{product_end}
 use Rattle.chunk_store.proofs.chunks.capped_product.Goals as goal
 
 pub loop-n-preserved : goal.loop-n-preserved
@@ -14,4 +14,4 @@ loop-n-preserved c =
 pub returns : goal.returns
 returns c =
     let past : length c.args.dims.now ≤ c.loop-n.n-index = omega arith in
-    product_end c.loop-n.total c.loop-n.n-index (2 ^ 64 - 1) c.args.dims.now past c.loop-n.invariant.capped ∙ c.loop-n.invariant.product
+    bytes_end c.loop-n.total c.loop-n.n-index (2 ^ 64 - 1) c.args.dims.now past c.loop-n.invariant.capped ∙ c.loop-n.invariant.product

@@ -1,8 +1,8 @@
 use Rattle.std.proofs.Common.{◌≡◌, List, ap, subst, sym, ◌∙◌}
 use Rattle.flush_journal.specs.Batches.{records}
 use Rattle.flush_journal.specs.Records.{Held, Record, put_all}
+use Rattle.flush_journal.proofs.BlockLemmas.{put_both}
 use Rattle.object_ids.proofs.NamedMaps.{on_ok}
-use Rattle.record_cuts.proofs.CutLemmas.{put_all-append}
 use Rattle.service_core.specs.Records.{WorldSays}
 use Rattle.service_core.proofs.RecordLemmas.{described_as_kept}
 use Rattle.service_core.proofs.kept.WorldKept.cut.Goals as goal
@@ -10,7 +10,7 @@ use Rattle.service_core.proofs.kept.WorldKept.cut.Goals as goal
 pub returns-clause-cut : goal.returns-clause-cut
 returns-clause-cut c = λ held said.
     let k = c.cut-result.ensures.cut (put_all (records c.args.into.now) held) in
-    subst (WorldSays c.cut-result.new.self) (sym (ap (λ (rs : List Record). put_all rs held) k.appended ∙ put_all-append (records c.args.into.now) k.added held)) (k.stands said)
+    subst (WorldSays c.cut-result.new.self) (sym (ap (λ (rs : List Record). put_all rs held) k.appended ∙ put_both (records c.args.into.now) k.added held)) (k.stands said)
 
 pub returns-clause-told : goal.returns-clause-told
 returns-clause-told c = on_ok c.cut-result.result (λ kept held said. described_as_kept held c.cut-result.new.self (c.is_described.ensures kept held said)) c.cut-result.ensures.kept
