@@ -3,3 +3,4 @@ pub mod NodeLemmas
 pub mod PeopleLemmas
 pub mod SettingLemmas
 pub mod TableLemmas
+pub mod Serials

@@ -8,7 +8,7 @@ use Rattle.std.specs.Ordering.{is_lt, eq_by_cmp, ordering_reverse}
 use Rattle.std.specs.FinMap.{contains_key, contains_key-keys, empty, entries, entries_sorted, get, get-entries, get-insert, get-remove, len, len-entries, remove, same_map}
 use Rattle.std.specs.FinMap.Entries.{find}
 use Rattle.std.specs.Cmp.Lexicographic.{nat_list_cmp_total}
-use Rattle.std.proofs.lemmas.Bool.{cases_Bool, or_cases, not-true, le-leb, cond-true, cond-false, false_from_ne_true, true≢false}
+use Rattle.std.proofs.lemmas.Bool.{cases_Bool, or_cases, not-true, le-leb, cond-true, cond-false, false_from_ne_true, true≢false, and_from, or_right}
 use Rattle.std.proofs.lemmas.Cmp.{tied_itself}
 use Rattle.std.proofs.lemmas.Map.Text.{is_eq-slice_cmp}
 use Rattle.std.proofs.lemmas.Slice.Eq.{bytes_eq-Decides}
@@ -17,7 +17,7 @@ use Rattle.object_ids.specs.Paths.{parent_of, root_path}
 use Rattle.object_ids.specs.declared.ids.Kind.TheVariants.{Group}
 use Rattle.text_maps.specs.Keyed.{text_order}
 use Rattle.text_maps.proofs.KeyedMaps.{exact_texts}
-use Rattle.domains.specs.Contents.{Contents, only_root, with_node}
+use Rattle.domains.specs.Contents.{Contents, IsDomainAt, only_root, with_node}
 use Rattle.domains.specs.declared.classes.Node.{Node}
 use Rattle.domains.specs.declared.classes.NodeClass.{NodeClass}
 use Rattle.domains.specs.declared.classes.NodeClass.TheVariants.{Domain, Folder}
@@ -197,16 +197,9 @@ each_among P (e ∷ es) f = (f e.0 (inl refl), each_among P es (λ q a. f q (inr
 each_key : (m : Settings) (P : List ℕ → Type 0) → ((q : List ℕ) → contains_key m q ≡ true → P q) → Each P (entries m)
 each_key m P f = each_among P (entries m) (λ q a. f q (contains_key-keys m q ∙ any_from_among q (entries m) a))
 
-both_true : (a b : Bool) → a ≡ true → b ≡ true → (a && b) ≡ true
-both_true a b h k = ap (λ (x : Bool). x && b) h ∙ k
-
-either_true : (a b : Bool) → b ≡ true → (a || b) ≡ true
-either_true true b h = refl
-either_true false b h = h
-
 all_each : (test : List ℕ → Bool) (es : PathSettings) → Each (λ q. test q ≡ true) es → list_all (λ e. test e.0) es ≡ true
 all_each test [] h = refl
-all_each test (e ∷ es) h = both_true (test e.0) (list_all (λ x. test x.0) es) h.0 (all_each test es h.1)
+all_each test (e ∷ es) h = and_from (test e.0) (list_all (λ x. test x.0) es) h.0 (all_each test es h.1)
 
 parent_there : (folders : Settings) (q : List ℕ) → IsFolderPath folders (parent_of q)
     → has_parent (others_of folders) q ≡ true
@@ -218,7 +211,7 @@ parent_there folders q parent =
     at_root
     (λ there. ⊎_elim
     at_root
-    (λ other. either_true (bytes_eq (parent_of q) root_path) (contains_key others (parent_of q)) (ap is_some (others_get folders (parent_of q) other) ∙ there))
+    (λ other. or_right (bytes_eq (parent_of q) root_path) (contains_key others (parent_of q)) (ap is_some (others_get folders (parent_of q) other) ∙ there))
     (same_or_other (parent_of q) root_path))
     parent
 
@@ -239,7 +232,7 @@ tree_found folders domains tree =
     let e : list_all (λ e. has_parent others e.0) (entries domains) ≡ true =
     all_each (has_parent others) (entries domains) (each_key domains (λ q. has_parent others q ≡ true) (λ q there. parent_there folders q (tree.domain_parents q there))) in
     let f : nat_le (len others + len domains) MAX_BELOW_ROOT ≡ true = le-leb (len others + len domains) MAX_BELOW_ROOT tree.few in
-    both_true _ _ (both_true _ _ (both_true _ _ (both_true _ _ a b) d) e) f
+    and_from _ _ (and_from _ _ (and_from _ _ (and_from _ _ a b) d) e) f
 
 -- the catalogue that is made has the configured nodes
 abbrev root_setting : Settings → Setting
@@ -347,22 +340,19 @@ configured_read folders domains c h =
     cond-true _ _ _ (tree_found folders domains h.0)
     ∙ ap Some (one_catalogue folders domains (made_of folders domains) c (nodes_made folders domains h.0) h.1)
 
--- a node of another class is no domain
+-- a folder is no domain
 folder_only : (setting : Setting) (o : Option Node) (number : ℕ) (root : Id) → o ≡ Some (folder_node setting)
-    → option_map (λ node. node.class) o ≡ Some (Domain number root) → root.run ≡ 0
+    → option_map (λ node. node.class) o ≡ Some (Domain number root) → ⊥
 folder_only setting o number root is at =
     let folder : ◌≡◌ {A = Option NodeClass} (Some Folder) (Some (Domain number root)) = sym (ap (option_map (λ node. node.class)) is) ∙ at in
-    absurd (cc folder)
+    cc folder
 
--- the root of each domain was given out in run 0
-pub configured_roots : (folders domains : Settings) (c : Contents) → HasConfigured folders domains c → HasFirstRoots c
-configured_roots folders domains c h path number root at = ⊎_elim
-    (λ some.
-    let node : Node = ranked_domain (rank_of domains path) some.0 in
-    let is : Some node.class ≡ Some (Domain number root) = sym (ap (option_map (λ node. node.class)) (h.domain path some.0 some.1)) ∙ at in
-    let run : ◌≡◌ {A = ℕ} 0 root.run = ap run_in is in
-    sym run)
-    (λ no_domain. ⊎_elim
+-- each domain was configured
+pub domain_was_configured : (folders domains : Settings) (c : Contents) → HasConfigured folders domains c
+    → (path : List ℕ) (number : ℕ) (root : Id) → IsDomainAt c path number root → (setting : Setting) × (get domains path ≡ Some setting)
+domain_was_configured folders domains c h path number root at = ⊎_elim
+    (λ some. some)
+    (λ no_domain. absurd (⊎_elim
     (λ some. folder_only some.0 (get c.nodes path) number root (h.folder path some.0 some.1) at)
     (λ no_folder. ⊎_elim
     (λ same.
@@ -371,10 +361,24 @@ configured_roots folders domains c h path number root at = ⊎_elim
     (λ other.
     let none : ◌≡◌ {A = Option NodeClass} None (Some (Domain number root)) =
     sym (ap (option_map (λ node. node.class)) (h.nothing_else path other no_folder no_domain)) ∙ at in
-    absurd (cc none))
+    cc none)
     (same_or_other path root_path))
-    (some_or_none (get folders path)))
+    (some_or_none (get folders path))))
     (some_or_none (get domains path))
+
+-- and has the class that its rank says
+pub class_configured : (folders domains : Settings) (c : Contents) → HasConfigured folders domains c
+    → (path : List ℕ) (number : ℕ) (root : Id) → IsDomainAt c path number root
+    → (setting : Setting) × (get domains path ≡ Some setting) × (Some (ranked_domain (rank_of domains path) setting).class ≡ Some (Domain number root))
+class_configured folders domains c h path number root at =
+    let some = domain_was_configured folders domains c h path number root at in
+    (some.0, some.1, sym (ap (option_map (λ node. node.class)) (h.domain path some.0 some.1)) ∙ at)
+
+-- the root of each domain was given out in run 0
+pub configured_roots : (folders domains : Settings) (c : Contents) → HasConfigured folders domains c → HasFirstRoots c
+configured_roots folders domains c h path number root at =
+    let run : ◌≡◌ {A = ℕ} 0 root.run = ap run_in (class_configured folders domains c h path number root at).2 in
+    sym run
   where
     run_in : Option NodeClass → ℕ
     run_in None = 0

@@ -4,13 +4,15 @@
 --     MakeTree folders domains      a catalogue can have these folders and domains
 --     HasConfigured folders domains c      the nodes of the catalogue c are the configured ones
 --     HasFirstRoots c      the roots of its domains were given out in run 0
-use Rattle.std.specs.Prelude.{◌≡◌, ◌≢◌, ◌⊎◌, ◌≤◌, ℕ, ◌+◌, List, length, filter, Some, None, IsSome, codes}
+--     HasFirstSerials c      and their serials are below the number of domains
+use Rattle.std.specs.Prelude.{◌≡◌, ◌≢◌, ◌⊎◌, ◌<◌, ◌≤◌, ℕ, ◌+◌, List, length, filter, Some, None, IsSome, codes}
 use Rattle.std.specs.Ordering.{is_lt}
 use Rattle.std.specs.FinMap.{FinMap, empty, get, keys, len, remove}
 use Rattle.object_ids.specs.IdValues.{Id}
 use Rattle.object_ids.specs.Paths.{parent_of, root_path}
 use Rattle.object_ids.specs.declared.ids.Kind.TheVariants.{Group}
 use Rattle.text_maps.specs.Keyed.{text_order}
+use Rattle.domains.specs.Changes.{domain_count}
 use Rattle.domains.specs.Contents.{Contents, IsDomainAt}
 use Rattle.domains.specs.declared.classes.Node.{Node}
 use Rattle.domains.specs.declared.classes.NodeClass.TheVariants.{Folder, Domain}
@@ -56,3 +58,7 @@ pub record HasConfigured (folders domains : Settings) (c : Contents) : Type 0 wh
 -- the root of each domain was given out in run 0
 abbrev pub HasFirstRoots : Contents → Type 0
 HasFirstRoots c = (path : List ℕ) (number : ℕ) (root : Id) → IsDomainAt c path number root → root.run ≡ 0
+
+-- and they have the first serials of it: there are as many as domains
+abbrev pub HasFirstSerials : Contents → Type 0
+HasFirstSerials c = (path : List ℕ) (number : ℕ) (root : Id) → IsDomainAt c path number root → root.serial < domain_count c

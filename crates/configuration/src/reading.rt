@@ -1,7 +1,7 @@
 ghost use Rattle.std.specs.Prelude.{◌≡◌, [], true, false, Some, None, IfOk, IsErrOf, IsSomeAnd, codes, option_and_then};
 ghost use Rattle.toml.specs.View.{table_view};
 ghost use Rattle.configuration.specs.Configured.{catalogue_in, config_of, document_in, is_config_key, tokens_in};
-ghost use Rattle.configuration.specs.ConfiguredNodes.{HasFirstRoots};
+ghost use Rattle.configuration.specs.ConfiguredNodes.{HasFirstRoots, HasFirstSerials};
 ghost use Rattle.configuration.specs.Settings.{settings_in};
 ghost use Rattle.configuration.specs.Tables.{has_only, table_at};
 
@@ -35,6 +35,7 @@ use toml::Table;
 pub fn read_config(alloc: Global, text: &[u8]) -> Result<Config, ConfigFault>
     ensures ok { IfOk result (λ config. option_and_then config_of (document_in text.now) ≡ Some config) }
     ensures roots { IfOk result (λ config. HasFirstRoots config.catalogue) }
+    ensures serials { IfOk result (λ config. HasFirstSerials config.catalogue) }
     ensures bad_toml { IsErrOf result ConfigFault.BadToml → document_in text.now ≡ None }
     ensures bad_key { IsErrOf result ConfigFault.BadKey → IsSomeAnd (document_in text.now) (λ table. config_of table ≡ None) }
 {
@@ -66,6 +67,7 @@ fn read_document(alloc: Global, text: &[u8]) -> Result<Table, ConfigFault>
 fn read_table(alloc: Global, table: &Table) -> Result<Config, Refusal>
     ensures ok { IfOk result (λ config. config_of (table_view table.now) ≡ Some config) }
     ensures roots { IfOk result (λ config. HasFirstRoots config.catalogue) }
+    ensures serials { IfOk result (λ config. HasFirstSerials config.catalogue) }
     ensures bad { IsErrOf result Refusal.BadKey → config_of (table_view table.now) ≡ None }
 {
     if !has_config_keys(table) {
@@ -111,6 +113,7 @@ fn read_tokens_in(alloc: Global, table: &Table) -> Result<Tokens, Refusal>
 fn read_catalogue_in(alloc: Global, table: &Table) -> Result<Catalogue, Refusal>
     ensures ok { IfOk result (λ catalogue. catalogue_in (table_view table.now) ≡ Some catalogue) }
     ensures roots { IfOk result HasFirstRoots }
+    ensures serials { IfOk result HasFirstSerials }
     ensures bad { IsErrOf result Refusal.BadKey → catalogue_in (table_view table.now) ≡ None }
 {
     let folders = read_settings_at(alloc, table, "folders")?;
