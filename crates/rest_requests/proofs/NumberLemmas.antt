@@ -46,11 +46,11 @@ use Rattle.request_bodies.specs.Values.{part_at, part_by, points_in}
 use Rattle.route_table.specs.Found.{route_for}
 use Rattle.route_table.specs.declared.routes.Route.{Route}
 use Rattle.rest_requests.specs.Domains.{domain_by, named_domain, path_in}
-use Rattle.rest_requests.specs.Order.{AreNumbered, asked, asks_flush, bad_class, bad_field, bad_id, bad_name, bad_shape, collection_of, key_tests, no_method, no_object, no_route, number_of, object_of, on_body, on_object, reads_body, tests}
+use Rattle.rest_requests.specs.Order.{AreNumbered, asked, bad_class, bad_field, bad_id, bad_name, bad_shape, collection_of, key_tests, no_method, no_object, no_route, number_of, object_of, on_body, on_object, reads_body, tests}
 use Rattle.rest_requests.specs.Parameters.{first, second, id_at, name_at, parameter_at, title_at}
 use Rattle.rest_requests.specs.Requests.{RequestText}
 use Rattle.rest_requests.specs.declared.forms.Form.{Form}
-use Rattle.rest_requests.specs.declared.forms.Form.TheVariants.{GetNode, PutNode, DropNode, ListNodes, GetAcls, GetAcl, PutAcl, MakeObject, GetObject, DropObject, ListLinks, GetLink, PutLink, DropLink, ListAttributes, GetAttribute, PutAttribute, DropAttribute, GetShape, PutShape, GetElem, GetValue, PutValue, GetPoints}
+use Rattle.rest_requests.specs.declared.forms.Form.TheVariants.{GetNode, PutNode, Flush, DropNode, ListNodes, GetAcls, GetAcl, PutAcl, MakeObject, GetObject, DropObject, ListLinks, GetLink, PutLink, DropLink, ListAttributes, GetAttribute, PutAttribute, DropAttribute, GetShape, PutShape, GetElem, GetValue, PutValue, GetPoints}
 
 -- what a test finds has this number
 abbrev Has : ℕ → Option Refusal → Type 0
@@ -241,6 +241,7 @@ id_field form path = go (collection_of form)
 keys_field : (form : Form) (d : Data) → Has 11 (first_of (key_tests form d))
 keys_field GetNode d = tt
 keys_field PutNode d = alone 11 (fault (folder_in d)) (missing (no.BadField field.Folder) (truth_at (codes "folder") d))
+keys_field Flush d = tt
 keys_field DropNode d = tt
 keys_field ListNodes d = tt
 keys_field GetAcls d = tt
@@ -275,6 +276,7 @@ field_numbered path form d = both 11 (bad_id form path) (key_tests form d) (id_f
 class_numbered : (form : Form) (d : Data) → Has 12 (bad_class form d)
 class_numbered GetNode d = tt
 class_numbered PutNode d = tt
+class_numbered Flush d = tt
 class_numbered DropNode d = tt
 class_numbered ListNodes d = tt
 class_numbered GetAcls d = tt
@@ -301,6 +303,7 @@ class_numbered GetPoints d = tt
 shape_of_form : (form : Form) (d : Data) → Has 13 (bad_shape form d)
 shape_of_form GetNode d = tt
 shape_of_form PutNode d = tt
+shape_of_form Flush d = tt
 shape_of_form DropNode d = tt
 shape_of_form ListNodes d = tt
 shape_of_form GetAcls d = tt
@@ -327,6 +330,7 @@ shape_of_form GetPoints d = tt
 name_of_form : (path : Text) (form : Form) (d : Data) → Has 14 (bad_name path form d)
 name_of_form path GetNode d = tt
 name_of_form path PutNode d = tt
+name_of_form path Flush d = tt
 name_of_form path DropNode d = tt
 name_of_form path ListNodes d = tt
 name_of_form path GetAcls d = tt
@@ -352,13 +356,9 @@ name_of_form path GetPoints d = tt
 
 -- ---- the whole message
 
-route_numbered : (route : Option Route) (form : Option Form) (query : Text) → Has 6 (no_route route form query)
-route_numbered None form query = refl
-route_numbered (Some route) form query = go (asks_flush form query)
-  where
-    go : (b : Bool) → Has 6 (if b then Some no.NoRoute else None)
-    go true = refl
-    go false = tt
+route_numbered : (route : Option Route) → Has 6 (no_route route)
+route_numbered None = refl
+route_numbered (Some route) = tt
 
 method_numbered : (route : Option Route) (form : Option Form) → Has 7 (no_method route form)
 method_numbered None form = tt
@@ -399,8 +399,8 @@ are_numbered tokens m =
     let path = path_of m.target in
     let query = query_of m.target in
     let route = route_for path in
-    let form = asked route m.method in (
-      route_numbered route form query,
+    let form = asked route m.method query in (
+      route_numbered route,
       (
         method_numbered route form,
         (

@@ -1,6 +1,6 @@
 -- The first refusal of a message is the first that its tests find.
 use Rattle.std.proofs.Common.{◌≡◌, ◌∙◌, ap, refl, ℕ, List, [], ◌∷◌, Bool, true, false, Option, Some, None, Result, Ok, Err}
-use Rattle.std.specs.Prelude.{codes, option_and_then, if◌then◌else◌}
+use Rattle.std.specs.Prelude.{codes, option_and_then, option_map}
 use Rattle.serde_json.specs.Data.{Data}
 use Rattle.serde_json.specs.Find.{get}
 use Rattle.json_trees.specs.Faults.{◌>>=◌}
@@ -28,11 +28,11 @@ use Rattle.route_table.specs.declared.routes.Route.{Route}
 use Rattle.rest_requests.specs.Domains.{domain_of}
 use Rattle.rest_requests.specs.Forms.{form_at}
 use Rattle.rest_requests.specs.Operations.{op_of}
-use Rattle.rest_requests.specs.Order.{asked, asks_flush, bad_class, bad_field, bad_name, bad_shape, no_method, no_object, no_route, object_of, on_body, on_object, tests}
+use Rattle.rest_requests.specs.Order.{asked, bad_class, bad_field, bad_name, bad_shape, no_method, no_object, no_route, object_of, on_body, on_object, tests}
 use Rattle.rest_requests.specs.Parameters.{first, second, id_at, name_at, title_at}
-use Rattle.rest_requests.specs.Requests.{RequestText, known, request_at, request_of, served}
+use Rattle.rest_requests.specs.Requests.{RequestText, form_by, known, request_at, request_of}
 use Rattle.rest_requests.specs.declared.forms.Form.{Form}
-use Rattle.rest_requests.specs.declared.forms.Form.TheVariants.{GetNode, PutNode, DropNode, ListNodes, GetAcls, GetAcl, PutAcl, MakeObject, GetObject, DropObject, ListLinks, GetLink, PutLink, DropLink, ListAttributes, GetAttribute, PutAttribute, DropAttribute, GetShape, PutShape, GetElem, GetValue, PutValue, GetPoints}
+use Rattle.rest_requests.specs.declared.forms.Form.TheVariants.{GetNode, PutNode, Flush, DropNode, ListNodes, GetAcls, GetAcl, PutAcl, MakeObject, GetObject, DropObject, ListLinks, GetLink, PutLink, DropLink, ListAttributes, GetAttribute, PutAttribute, DropAttribute, GetShape, PutShape, GetElem, GetValue, PutValue, GetPoints}
 
 -- ---- chains of tests
 
@@ -126,6 +126,7 @@ on_read (Err refusal) form path k each = refl
 op_first : (form : Form) (path query body : Text) → fault (op_of form path query body) ≡ first_of (form_tests form path body)
 op_first GetNode path query body = refl
 op_first PutNode path query body = on_read (body_in body) PutNode path (λ d. folder_in d >>= λ folder. Ok (op.PutNode folder)) (λ d. one_field (folder_in d) op.PutNode)
+op_first Flush path query body = refl
 op_first DropNode path query body = refl
 op_first ListNodes path query body = refl
 op_first GetAcls path query body = refl
@@ -159,32 +160,6 @@ op_first GetPoints path query body = on_read (body_in body) GetPoints path (λ d
 
 -- ---- the whole message
 
-served_is : (query : Text) (form : Form) → served query form ≡ (if asks_flush (Some form) query then Err no.NoRoute else Ok form)
-served_is query GetNode = refl
-served_is query PutNode = refl
-served_is query DropNode = refl
-served_is query ListNodes = refl
-served_is query GetAcls = refl
-served_is query GetAcl = refl
-served_is query PutAcl = refl
-served_is query (MakeObject kind) = refl
-served_is query (GetObject kind) = refl
-served_is query (DropObject kind) = refl
-served_is query ListLinks = refl
-served_is query GetLink = refl
-served_is query PutLink = refl
-served_is query DropLink = refl
-served_is query (ListAttributes kind) = refl
-served_is query (GetAttribute kind) = refl
-served_is query (PutAttribute kind) = refl
-served_is query (DropAttribute kind) = refl
-served_is query GetShape = refl
-served_is query PutShape = refl
-served_is query GetElem = refl
-served_is query GetValue = refl
-served_is query PutValue = refl
-served_is query GetPoints = refl
-
 abbrev behind_form : TokenTable → RequestText → Form → List (Option Refusal)
 behind_form tokens m form = fault (known tokens m.authorization) ∷ fault (domain_of (query_of m.target) m.domain) ∷ form_tests form (path_of m.target) m.body
 
@@ -201,18 +176,15 @@ module _ (tokens : TokenTable) (m : RequestText) where
   abbrev step : Form → Result (Caller × Request) Refusal
   step form =
       known tokens m.authorization >>= λ caller. domain_of (query_of m.target) m.domain >>= λ domain.
-      op_of form (path_of m.target) (query_of m.target) m.body >>= λ op. Ok (caller, request_at domain op)
+      op_of (form_by (query_of m.target) form) (path_of m.target) (query_of m.target) m.body >>= λ op. Ok (caller, request_at domain op)
 
-  flush_first : (form : Form) (b : Bool) → fault ((if b then Err no.NoRoute else Ok form) >>= step) ≡ first_of ((if b then Some no.NoRoute else None) ∷ behind_form tokens m form)
-  flush_first form true = refl
-  flush_first form false = known_first form (path_of m.target) (query_of m.target) m.body (known tokens m.authorization) (domain_of (query_of m.target) m.domain)
-
-  form_first : (form : Form) → fault (served (query_of m.target) form >>= step) ≡ first_of ((if asks_flush (Some form) (query_of m.target) then Some no.NoRoute else None) ∷ behind_form tokens m form)
-  form_first form = ap (λ r. fault (r >>= step)) (served_is (query_of m.target) form) ∙ flush_first form (asks_flush (Some form) (query_of m.target))
+  step_first : (form : Form) → fault (step form) ≡ first_of (behind_form tokens m (form_by (query_of m.target) form))
+  step_first form =
+      known_first (form_by (query_of m.target) form) (path_of m.target) (query_of m.target) m.body (known tokens m.authorization) (domain_of (query_of m.target) m.domain)
 
   abbrev all_tests : Option Route → Option Form → List (Option Refusal)
   all_tests route form =
-      no_route route form (query_of m.target)
+      no_route route
       ∷ no_method route form
       ∷ fault (known tokens m.authorization)
       ∷ fault (domain_of (query_of m.target) m.domain)
@@ -223,17 +195,12 @@ module _ (tokens : TokenTable) (m : RequestText) where
       ∷ on_body form m.body (bad_name (path_of m.target))
       ∷ []
 
-  route_first : (route : Route) (form : Option Form) → fault (or_refuse no.Method form >>= λ form. served (query_of m.target) form >>= step) ≡ first_of (all_tests (Some route) form)
+  route_first : (route : Route) (form : Option Form) → fault (or_refuse no.Method form >>= step) ≡ first_of (all_tests (Some route) (option_map (form_by (query_of m.target)) form))
   route_first route None = refl
-  route_first route (Some form) = form_first form ∙ without (if asks_flush (Some form) (query_of m.target) then Some no.NoRoute else None) (behind_form tokens m form)
-    where
-      -- the route has the method
-      without : (o : Option Refusal) (rest : List (Option Refusal)) → first_of (o ∷ rest) ≡ first_of (o ∷ None ∷ rest)
-      without None rest = refl
-      without (Some r) rest = refl
+  route_first route (Some form) = step_first form
 
-  path_first : (route : Option Route) → fault (or_refuse no.NoRoute route >>= λ route. or_refuse no.Method (option_and_then (form_at route) (method_named m.method)) >>= λ form. served (query_of m.target) form >>= step)
-      ≡ first_of (all_tests route (asked route m.method))
+  path_first : (route : Option Route) → fault (or_refuse no.NoRoute route >>= λ route. or_refuse no.Method (option_and_then (form_at route) (method_named m.method)) >>= step)
+      ≡ first_of (all_tests route (asked route m.method (query_of m.target)))
   path_first None = refl
   path_first (Some route) = route_first route (option_and_then (form_at route) (method_named m.method))
 

@@ -12,7 +12,7 @@ use Rattle.request_bodies.specs.Makes.{make_in}
 use Rattle.request_bodies.specs.Values.{points_in, write_in}
 use Rattle.rest_requests.specs.Parameters.{first, second, id_at, name_at, title_at}
 use Rattle.rest_requests.specs.declared.forms.Form.{Form}
-use Rattle.rest_requests.specs.declared.forms.Form.TheVariants.{GetNode, PutNode, DropNode, ListNodes, GetAcls, GetAcl, PutAcl, MakeObject, GetObject, DropObject, ListLinks, GetLink, PutLink, DropLink, ListAttributes, GetAttribute, PutAttribute, DropAttribute, GetShape, PutShape, GetElem, GetValue, PutValue, GetPoints}
+use Rattle.rest_requests.specs.declared.forms.Form.TheVariants.{GetNode, PutNode, Flush, DropNode, ListNodes, GetAcls, GetAcl, PutAcl, MakeObject, GetObject, DropObject, ListLinks, GetLink, PutLink, DropLink, ListAttributes, GetAttribute, PutAttribute, DropAttribute, GetShape, PutShape, GetElem, GetValue, PutValue, GetPoints}
 
 -- ---- folders, domains and access lists
 
@@ -90,6 +90,7 @@ get_points path body = body_in body >>= λ d. id_at Dataset path >>= λ id. poin
 abbrev pub op_of : Form → Text → Text → Text → Result Op Refusal
 op_of GetNode path query body = Ok op.GetNode
 op_of PutNode path query body = put_node body
+op_of Flush path query body = Ok op.Flush
 op_of DropNode path query body = Ok op.DropNode
 op_of ListNodes path query body = Ok op.ListNodes
 op_of GetAcls path query body = Ok op.GetAcls

@@ -1,5 +1,5 @@
 -- The refusals of a message, each found by a test of its own, in the order of their numbers.
-use Rattle.std.specs.Prelude.{◌≡◌, ℕ, suc, List, [], ◌∷◌, Bool, true, false, Option, Some, None, IfSome, Result, Ok, Err, option_and_then, codes, if◌then◌else◌}
+use Rattle.std.specs.Prelude.{◌≡◌, ℕ, suc, List, [], ◌∷◌, Bool, true, false, Option, Some, None, IfSome, Result, Ok, Err, option_and_then, option_map, codes, if◌then◌else◌}
 use Rattle.serde_json.specs.Data.{Data, object, no_members}
 use Rattle.serde_json.specs.Find.{get}
 use Rattle.bearer_tokens.specs.Bearer.{TokenTable}
@@ -21,7 +21,7 @@ use Rattle.route_table.specs.declared.routes.Route.{Route}
 use Rattle.rest_requests.specs.Domains.{domain_of}
 use Rattle.rest_requests.specs.Forms.{form_at}
 use Rattle.rest_requests.specs.Parameters.{first, second, id_at, name_at, title_at}
-use Rattle.rest_requests.specs.Requests.{RequestText, is_flush, known}
+use Rattle.rest_requests.specs.Requests.{RequestText, form_by, known}
 use Rattle.rest_requests.specs.declared.forms.Form.{Form}
 use Rattle.rest_requests.specs.declared.forms.Form.TheVariants.{PutNode, GetAcl, PutAcl, MakeObject, GetObject, DropObject, ListLinks, GetLink, PutLink, DropLink, ListAttributes, GetAttribute, PutAttribute, DropAttribute, GetShape, PutShape, GetElem, GetValue, PutValue, GetPoints}
 
@@ -58,20 +58,15 @@ number_of (JournalFull end need room) = 28
 
 -- ---- the route and the method
 
--- what a method asks of a route, if anything
-abbrev pub asked : Option Route → Text → Option Form
-asked None method = None
-asked (Some route) method = option_and_then (form_at route) (method_named method)
+-- what a method and a query ask of a route, if anything
+abbrev pub asked : Option Route → Text → Text → Option Form
+asked None method query = None
+asked (Some route) method query = option_map (form_by query) (option_and_then (form_at route) (method_named method))
 
--- a flush is asked
-abbrev pub asks_flush : Option Form → Text → Bool
-asks_flush (Some PutNode) query = is_flush query
-asks_flush form query = false
-
--- no route has the path; a flush isn't served either
-abbrev pub no_route : Option Route → Option Form → Text → Option Refusal
-no_route None form query = Some NoRoute
-no_route (Some route) form query = if asks_flush form query then Some NoRoute else None
+-- no route has the path
+abbrev pub no_route : Option Route → Option Refusal
+no_route None = Some NoRoute
+no_route (Some route) = None
 
 -- the route lacks the method
 abbrev pub no_method : Option Route → Option Form → Option Refusal
@@ -184,8 +179,8 @@ tests tokens m =
     let path = path_of m.target in
     let query = query_of m.target in
     let route = route_for path in
-    let form = asked route m.method in
-    no_route route form query
+    let form = asked route m.method query in
+    no_route route
     ∷ no_method route form
     ∷ fault (known tokens m.authorization)
     ∷ fault (domain_of query m.domain)

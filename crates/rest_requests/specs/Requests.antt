@@ -22,7 +22,7 @@ use Rattle.rest_requests.specs.Operations.{op_of}
 use Rattle.rest_requests.specs.declared.fault.RequestFault.{RequestFault}
 use Rattle.rest_requests.specs.declared.fault.RequestFault.TheVariants.{Refused, NoMemory}
 use Rattle.rest_requests.specs.declared.forms.Form.{Form}
-use Rattle.rest_requests.specs.declared.forms.Form.TheVariants.{PutNode}
+use Rattle.rest_requests.specs.declared.forms.Form.TheVariants.{PutNode, Flush}
 use Rattle.rest_requests.specs.declared.parts.RequestParts.{RequestParts}
 
 -- what a message says
@@ -54,10 +54,10 @@ form_of route method = or_refuse no.Method (option_and_then (form_at route) (met
 abbrev pub is_flush : Text → Bool
 is_flush query = option_map_or (λ value. bytes_eq value (codes "1")) (value_of (codes "flush") (pairs_of query)) false
 
--- a flush isn't served
-abbrev pub served : Text → Form → Result Form Refusal
-served query PutNode = if is_flush query then Err no.NoRoute else Ok PutNode
-served query form = Ok form
+-- where a folder or a domain would be put, a query may ask for a flush in its place
+abbrev pub form_by : Text → Form → Form
+form_by query PutNode = if is_flush query then Flush else PutNode
+form_by query form = form
 
 -- who asks
 abbrev pub known : TokenTable → Option Text → Result Caller Refusal
@@ -71,9 +71,9 @@ abbrev pub request_of : TokenTable → RequestText → Result (Caller × Request
 request_of tokens m =
     let path = path_of m.target in
     let query = query_of m.target in
-    routed path >>= λ route. form_of route m.method >>= λ form. served query form >>= λ form.
+    routed path >>= λ route. form_of route m.method >>= λ form.
     known tokens m.authorization >>= λ caller. domain_of query m.domain >>= λ domain.
-    op_of form path query m.body >>= λ op. Ok (caller, request_at domain op)
+    op_of (form_by query form) path query m.body >>= λ op. Ok (caller, request_at domain op)
 
 -- the methods of what a target names
 abbrev pub methods_in : Option Route → Methods

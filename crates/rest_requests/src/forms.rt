@@ -14,6 +14,7 @@ use route_table::{Method, Route};
 pub(crate) enum Form {
     GetNode,
     PutNode,
+    Flush,
     DropNode,
     ListNodes,
     GetAcls,

@@ -30,6 +30,7 @@ pub(crate) fn op_of(
     match form {
         Form::GetNode => Ok(Op::GetNode),
         Form::PutNode => put_node(alloc, body),
+        Form::Flush => Ok(Op::Flush),
         Form::DropNode => Ok(Op::DropNode),
         Form::ListNodes => Ok(Op::ListNodes),
         Form::GetAcls => Ok(Op::GetAcls),

@@ -4,8 +4,8 @@ ghost use Rattle.std.specs.Prelude.{◌≡◌, IfOk};
 ghost use Rattle.std.specs.Option.{option_copied};
 ghost use Rattle.object_ops.specs.Conditions.{IsSoundOp};
 ghost use Rattle.request_bodies.specs.Refusing.{Answers, Gives};
-ghost use Rattle.rest_requests.specs.Requests.{Reads, allow_of, form_of, is_flush, known, methods_at};
-ghost use Rattle.rest_requests.specs.Requests.{request_of, routed, said, served};
+ghost use Rattle.rest_requests.specs.Requests.{Reads, allow_of, form_by, form_of, is_flush, known};
+ghost use Rattle.rest_requests.specs.Requests.{methods_at, request_of, routed, said};
 
 use crate::domain::domain_of;
 use crate::fault::RequestFault;
@@ -26,7 +26,7 @@ use std::alloc::{AllocError, Global};
 ///
 /// The first refusal, in this order: `NoRoute`, `Method`, `BadToken`, `BadDomain`, `BadJson`, `BadField`,
 /// `UnsupportedType`, `BadShape`, `BadName`; but creation properties and the value of an attribute are judged only where
-/// type and shape are accepted. A flush is refused as `NoRoute`.
+/// type and shape are accepted.
 pub fn read_request(
     alloc: Global,
     parts: &RequestParts<'_>,
@@ -56,9 +56,9 @@ fn request(
     let (path, query) = path_and_query(parts.target);
     let route = routed(tokens, path)?;
     let form = form_of(route, parts.method)?;
-    let form = served(alloc, query, form)?;
     let caller = known(tokens, parts.authorization)?;
     let domain = domain_of(alloc, query, parts.domain)?;
+    let form = form_by(alloc, query, form)?;
     let op = op_of(alloc, form, path, query, parts.body)?;
     let caller = caller.copy()?;
     Ok((caller, Request { path: domain, op }))
@@ -85,12 +85,12 @@ fn form_of(route: Route, method: &str) -> Result<Form, BodyFault>
     }
 }
 
-// A flush isn't served.
-fn served(alloc: Global, query: &str, form: Form) -> Result<Form, BodyFault>
-    ensures { Answers result (served query.now form) }
+// What is asked where a query may ask for a flush.
+fn form_by(alloc: Global, query: &str, form: Form) -> Result<Form, AllocError>
+    ensures { IfOk result (λ by. by ≡ form_by query.now form) }
 {
     if form == Form::PutNode && is_flush(alloc, query)? {
-        return Err(BodyFault::Refused(Refusal::NoRoute));
+        return Ok(Form::Flush);
     }
     Ok(form)
 }

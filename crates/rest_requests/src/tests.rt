@@ -21,7 +21,8 @@ get|/||{"reason":"method"}
 HEAD|/||{"reason":"method"}
 OPTIONS|/domains||{"reason":"method"}
 POST|/domains||{"reason":"method"}
-PUT|/?flush=0&flush=1||/ PutNode domain"#;
+PUT|/?flush=0&flush=1||/ PutNode domain
+PUT|/?flush=1|[|/ Flush"#;
 
 const PARAMETERS: &str = r#"GET|/groups/d~||{"field":"id","reason":"bad-field"}
 GET|/datasets/D~||{"field":"id","reason":"bad-field"}
@@ -83,6 +84,7 @@ fn asked(op: &Op) -> (&str, &str) {
         Op::GetNode => ("GetNode", ""),
         Op::PutNode { folder: true } => ("PutNode", " folder"),
         Op::PutNode { folder: false } => ("PutNode", " domain"),
+        Op::Flush => ("Flush", ""),
         Op::GetAcl { name } => ("GetAcl ", name.text()),
         Op::GetLink { title, .. } => ("GetLink ", title.text()),
         Op::GetAttribute { name, .. } => ("GetAttribute ", name.text()),
