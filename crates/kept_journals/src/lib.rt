@@ -12,3 +12,6 @@ pub use faults::{MakeRefused, OpenFault, OpenRefused};
 pub use laws::first_roots_by_runs_and_serials;
 pub use making::make_journal;
 pub use opening::{Opened, open_world};
+
+#[cfg(test)]
+mod tests;
