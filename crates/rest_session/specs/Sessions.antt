@@ -1,17 +1,36 @@
--- What a message is answered in a world, and what the world is then.
-use Rattle.std.specs.Prelude.{◌≡◌, ◌⊎◌, ℕ, List, [], map, codes, Bool, Option, Result, Ok, Err}
+-- What a message is answered in a world that is kept, and what the world is then.
+--     Served      the tokens, the world, and its keeping
+--     acknowledges op what      the answer says that a change of folders, domains or lists was done, or that all is kept
+--     IsServed s message bytes t      a message, its answer's bytes, and what is left
+use Rattle.std.specs.Prelude.{◌≡◌, ◌⊎◌, ℕ, List, [], map, codes, Bool, true, false, Option, Result, Ok, Err, OnErr, IfOk}
 use Rattle.httparse.specs.Spans.{name_and_value}
 use Rattle.http_wire.specs.Heads.{first_value}
 use Rattle.http_wire.specs.Messages.{RequestMessage, closes}
 use Rattle.http_wire.specs.Replies.{no_memory_reply}
 use Rattle.access_lists.specs.declared.people.Caller.{Caller}
 use Rattle.bearer_tokens.specs.Bearer.{TokenTable}
+use Rattle.edge_traits.specs.declared.disk.Disk.{Ghosts}
+use Rattle.flush_journal.specs.Batches.{records}
+use Rattle.flush_journal.specs.Records.{Held}
+use Rattle.flush_journal.specs.declared.why.Why.{Why}
+use Rattle.flush_journal.specs.declared.why.Why.TheVariants as why
+use Rattle.journal_keeping.specs.Keepings.{IsBacked, Keeps}
+use Rattle.journal_keeping.specs.declared.keeping.Keeping.{Keeping}
 use Rattle.object_ops.specs.Needs.{decided_at}
+use Rattle.object_ops.specs.declared.ops.Op.{Op}
+use Rattle.object_ops.specs.declared.ops.Op.TheVariants.{DropNode, Flush, PutAcl, PutNode}
 use Rattle.object_ops.specs.declared.ops.Request.{Request}
 use Rattle.object_ops.specs.declared.refusals.Refusal.{Refusal}
+use Rattle.object_ops.specs.declared.refusals.Refusal.TheVariants.{DiskFault, JournalFull}
+use Rattle.object_ops.specs.declared.replies.Reply.TheVariants as outcome
 use Rattle.rest_requests.specs.Requests.{RequestText, allow_of, request_of}
+use Rattle.route_table.specs.Methods.{no_methods}
+use Rattle.service_core.specs.Records.{DescribesWorld, WorldSays, WorldStillSays, as_kept}
 use Rattle.service_core.specs.Steps.{Steps, World}
+use Rattle.service_core.specs.Worlds.{State, seen}
 use Rattle.service_core.specs.declared.answers.Answer.{Answer}
+use Rattle.service_core.specs.declared.answers.What.{What}
+use Rattle.service_core.specs.declared.answers.What.TheVariants.{Replied}
 use Rattle.rest_session.specs.Responses.{IsResponse, refused}
 
 -- the first field of a name
@@ -28,24 +47,76 @@ said_by m = record {
   body = m.body;
 }
 
--- the tokens that are known, and the world
-pub record Served : Type 0 where
+-- the tokens that are known, the world, and its keeping
+pub record Served {D : Type 0} (met : Ghosts D) : Type 0 where
   pub tokens : TokenTable
-  pub world : World
+  pub world : State
+  pub keeping : Keeping D met
 
--- what is no request is refused, and the world stays; a request is one step of the world
-abbrev pub IsAnsweredBy : World → List ℕ → Result (Caller × Request) Refusal → Bool → List ℕ → World → Type 0
-IsAnsweredBy w target (Err refusal) close bytes v = (bytes ≡ refused [] refusal (allow_of target refusal) close) × (v ≡ w)
-IsAnsweredBy w target (Ok read) close bytes v =
-    (answer : Answer) × Steps w read.0 read.1 answer v × IsResponse (decided_at read.1) answer.what close bytes
+-- ---- what is kept before it is answered
 
--- no memory was found, and the world stays
-abbrev pub IsUnread : World → Bool → List ℕ → World → Type 0
-IsUnread w close bytes v = (bytes ≡ no_memory_reply close) × (v ≡ w)
+abbrev pub is_to_keep : Op → Bool
+is_to_keep Flush = true
+is_to_keep (PutNode folder) = true
+is_to_keep DropNode = true
+is_to_keep (PutAcl name rights) = true
+is_to_keep op = false
 
--- the bytes answer a message; what it asks is the first refusal or the request that it spells
-abbrev pub IsServed : Served → RequestMessage → List ℕ → Served → Type 0
+abbrev pub acknowledges : Op → What → Bool
+acknowledges op (Replied (outcome.Done status body)) = is_to_keep op
+acknowledges op what = false
+
+-- what is held describes a world in its run
+abbrev pub TellsWorld : Held → World → Type 0
+TellsWorld held w = DescribesWorld held w.door.run w
+
+-- a keeping of the world: the world stays, whatever of it is to be written; after Ok it is kept with all its places
+pub record KeepsWorld {D : Type 0} {met : Ghosts D} (k : Keeping D met) (s : State) (l : Keeping D met) (t : State) (result : Result ℕ Why) : Type 0 where
+  pub keeps : Keeps TellsWorld k.journal l.journal (records k.building) (records l.building) (WorldSays s) (WorldSays t) (as_kept t) result
+  pub same : as_kept t ≡ as_kept s
+  pub number : IfOk result (λ n. n ≡ t.door.places)
+  pub kept : IfOk result (λ n. l.kept ≡ n)
+  pub refused : OnErr result (l.kept ≡ k.kept)
+
+-- the answer where a change stands that was not kept; or that there was no memory
+abbrev pub IsUnkept : Why → Bool → List ℕ → Type 0
+IsUnkept why.DiskFault close bytes = (bytes ≡ refused [] DiskFault no_methods close) ⊎ (bytes ≡ no_memory_reply close)
+IsUnkept (why.JournalFull end need room) close bytes = (bytes ≡ refused [] (JournalFull end need room) no_methods close) ⊎ (bytes ≡ no_memory_reply close)
+IsUnkept why close bytes = bytes ≡ no_memory_reply close
+
+abbrev pub IsKeptAnswer : List ℕ → What → Bool → Result ℕ Why → List ℕ → Type 0
+IsKeptAnswer path what close (Ok kept) bytes = IsResponse path what close bytes
+IsKeptAnswer path what close (Err why) bytes = IsUnkept why close bytes
+
+-- ---- a request
+
+-- what the step left is answered; where the answer acknowledges a change, only once it is kept
+abbrev pub IsFinished : {D : Type 0} {met : Ghosts D} → Bool → List ℕ → What → Bool → Keeping D met → State → List ℕ → Served met → Type 0
+IsFinished false path what close keeping mid bytes t = (t.world ≡ mid) × (t.keeping ≡ keeping) × IsResponse path what close bytes
+IsFinished true path what close keeping mid bytes t =
+    (result : Result ℕ Why) × KeepsWorld keeping mid t.keeping t.world result × IsKeptAnswer path what close result bytes
+
+-- one step of the world, which changes no more of it than it marks
+pub record IsStepped {D : Type 0} {met : Ghosts D} (s : Served met) (caller : Caller) (request : Request) (close : Bool) (bytes : List ℕ) (t : Served met) : Type 0 where
+  pub answer : Answer
+  pub mid : State
+  pub steps : Steps (seen s.world) caller request answer (seen mid)
+  pub says : WorldStillSays s.world mid
+  pub finished : IsFinished (acknowledges request.op answer.what) (decided_at request) answer.what close s.keeping mid bytes t
+
+-- nothing changed
+pub record StandsStill {D : Type 0} {met : Ghosts D} (s t : Served met) : Type 0 where
+  pub world : t.world ≡ s.world
+  pub keeping : t.keeping ≡ s.keeping
+
+-- what is no request is refused, and all stays; a request is one step of the world
+abbrev pub IsAnsweredBy : {D : Type 0} {met : Ghosts D} → Served met → List ℕ → Result (Caller × Request) Refusal → Bool → List ℕ → Served met → Type 0
+IsAnsweredBy s target (Err refusal) close bytes t = (bytes ≡ refused [] refusal (allow_of target refusal) close) × StandsStill s t
+IsAnsweredBy s target (Ok read) close bytes t = IsStepped s read.0 read.1 close bytes t
+
+-- the bytes answer a message; what it asks is the first refusal or the request that it spells; or no memory was found, and all stays
+abbrev pub IsServed : {D : Type 0} {met : Ghosts D} → Served met → RequestMessage → List ℕ → Served met → Type 0
 IsServed s m bytes t =
     (t.tokens ≡ s.tokens)
-    × (IsAnsweredBy s.world m.head.target (request_of s.tokens (said_by m)) (closes m) bytes t.world
-    ⊎ IsUnread s.world (closes m) bytes t.world)
+    × (IsAnsweredBy s m.head.target (request_of s.tokens (said_by m)) (closes m) bytes t
+    ⊎ ((bytes ≡ no_memory_reply (closes m)) × StandsStill s t))

@@ -1,11 +1,23 @@
 //! Laws over the definitions of this crate. No program calls these functions; the contract of each is the law.
 
-ghost use Rattle.std.specs.Prelude.{◌≡◌, ℕ, Bool, List, [], true};
+ghost use Rattle.std.specs.Prelude.{◌≡◌, ◌≤◌, ℕ, Bool, List, [], ◌∷◌, Option, true};
+ghost use Rattle.flush_journal.specs.Moments.{Leaves};
+ghost use Rattle.flush_journal.specs.Standing.{disk_of};
+ghost use Rattle.flush_journal.specs.Unchanged.{SameDisk};
+ghost use Rattle.link_service.specs.Links.{IsTranscript};
+ghost use Rattle.link_service.specs.declared.end.LinkEnd.{LinkEnd};
+ghost use Rattle.service_core.specs.Records.{as_kept};
 ghost use Rattle.http_wire.specs.Replies.{fault_reply, no_memory_reply};
 ghost use Rattle.http_wire.specs.declared.message_fault.MessageFault.{MessageFault};
 ghost use Rattle.route_table.specs.Methods.{no_methods};
 ghost use Rattle.service_core.specs.declared.answers.What.TheVariants.{NoMemory};
 ghost use Rattle.rest_session.specs.Responses.{refusal_of, refused, said};
+ghost use Rattle.rest_session.specs.Sessions.{IsServed, Served};
+ghost use Rattle.rest_session.specs.Stood.{AreKept, HoldsStood, IsBackedBy, IsStretch};
+
+use edge_traits::Disk;
+use journal_keeping::images_are_kept;
+use service_core::{World, places_in_order};
 
 /// What ends a link is refused as a request is.
 pub fn faults_are_refused()
@@ -18,3 +30,28 @@ pub fn no_memory_is_said()
     ensures { (path : List ℕ) (close : Bool)
         → no_memory_reply close ≡ said path NoMemory close }
 {}
+
+/// The disk stays the same one while a link is served, and its count of faults doesn't fall. On a disk that keeps its rule,
+/// whatever a crash leaves between two messages is a world as it stood between two of the link's messages, and no earlier
+/// than at the last keeping that was answered Ok: where it is so at first. Whatever a crash at any moment since `u` leaves, up
+/// to `v`, is a world that stood by then, and no earlier than at the last keeping before `u`; what is kept never gets less.
+pub fn what_is_kept_stood<D: Disk>()
+    ensures disk { (s t : Served D.Disk) (taken sent : List ℕ) (left : Option (List ℕ)) (end : LinkEnd)
+        → IsTranscript IsServed s taken sent left t end
+        → SameDisk D.Disk (disk_of s.keeping.journal) (disk_of t.keeping.journal) }
+    ensures stood { (s t : Served D.Disk) (taken sent : List ℕ) (left : Option (List ℕ)) (end : LinkEnd)
+        → IsTranscript IsServed s taken sent left t end → D.honest
+        → IsBackedBy s (as_kept s.world ∷ []) → s.keeping.kept ≤ s.world.door.places
+        → AreKept s t taken }
+    ensures stretch { (s t : Served D.Disk) (taken sent : List ℕ) (left : Option (List ℕ)) (end : LinkEnd)
+        → IsTranscript IsServed s taken sent left t end → IsStretch s t taken s t }
+    ensures crash { (s t u v : Served D.Disk) (taken : List ℕ) → IsStretch s t taken u v
+        → D.honest → IsBackedBy s (as_kept s.world ∷ []) → s.keeping.kept ≤ s.world.door.places
+        → Leaves D.Disk (disk_of u.keeping.journal) (disk_of v.keeping.journal)
+        (HoldsStood s v taken u.keeping.kept) }
+    ensures onward { (s t u v : Served D.Disk) (taken : List ℕ) → IsStretch s t taken u v
+        → s.keeping.kept ≤ s.world.door.places → u.keeping.kept ≤ v.keeping.kept }
+{
+    images_are_kept::<D, World>();
+    places_in_order();
+}

@@ -1,4 +1,4 @@
-//! A world, lent to a link.
+//! A world and its keeping, lent to a link.
 
 ghost use Rattle.std.specs.Prelude.{◌≡◌, ◌⊎◌, Bool, []};
 ghost use Rattle.http_wire.specs.Messages.{RequestMessage, IsSpelled};
@@ -7,50 +7,62 @@ ghost use Rattle.http_wire.specs.Replies.{no_memory_reply};
 ghost use Rattle.link_service.specs.Replies.{reply_bytes};
 ghost use Rattle.object_ops.specs.Conditions.{IsSoundOp};
 ghost use Rattle.object_ops.specs.Needs.{decided_at};
+ghost use Rattle.bearer_tokens.specs.Bearer.{TokenTable};
 ghost use Rattle.rest_requests.specs.Requests.{said};
-ghost use Rattle.service_core.specs.Steps.{Steps};
-ghost use Rattle.service_core.specs.Worlds.{seen};
-ghost use Rattle.service_core.specs.declared.answers.Answer as answer;
-ghost use Rattle.rest_session.specs.Responses.{IsResponse, refused};
-ghost use Rattle.rest_session.specs.Sessions.{IsServed, Served, said_by};
+ghost use Rattle.rest_session.specs.Responses.{refused};
+ghost use Rattle.rest_session.specs.Sessions.{IsStepped, IsUnkept, Served, acknowledges, is_to_keep};
+ghost use Rattle.rest_session.specs.Sessions.{said_by};
 
 use crate::answers::{answer_reply, no_memory, refusal_reply};
 use access_lists::Caller;
 use answer_trees::bodies_have_no_floats;
+use edge_traits::Disk;
+use flush_journal::Why;
 use http_wire::Message;
+use journal_keeping::Keeping;
 use link_service::{Reply, Service};
-use object_ops::{Refusal, Request, on_text};
+use object_ops::{Op, Refusal, Reply as Outcome, Request, on_text};
 use rest_requests::{RequestFault, RequestParts, Tokens, read_request};
 use route_table::Methods;
-use service_core::World;
+use service_core::{What, World};
 use std::alloc::{AllocError, Global};
 
-/// A world that is lent for one link, and the tokens by which callers are known.
+/// A world and its keeping that are lent for one link, and the tokens by which callers are known.
 #[derive(Drop)]
-pub struct WorldSession<'a> {
+pub struct WorldSession<'a, D: Disk> {
     pub alloc: Global,
     pub tokens: &'a Tokens,
     pub world: &'a mut World,
+    pub keeping: &'a mut Keeping<D>,
 }
 
-impl<'a> Service for WorldSession<'a> {
+impl<'a, D: Disk> Service for WorldSession<'a, D> {
     ghost use base.Fml.{GName};
     ghost use Rattle.bearer_tokens.specs.Bearer.{TokenTable};
-    ghost use Rattle.service_core.specs.Worlds.{seen};
+    ghost use Rattle.rest_session.specs.Sessions.{IsServed, Served};
 
-    ghost World = { Served };
+    ghost World = { Served D.Disk };
 
-    ghost world = { λ s. record { tokens = s.tokens.now; world = seen s.world.now } };
+    ghost world = { λ s. record { tokens = s.tokens.now; world = s.world.now; keeping = s.keeping.now } };
 
     ghost step = { IsServed };
 
-    ghost Fixed = { GName × TokenTable };
+    ghost Fixed = { GName × GName × TokenTable };
 
-    ghost fixed = { λ s. (s.world.ghost_name, s.tokens.now) };
+    ghost fixed = { λ s. (s.world.ghost_name, s.keeping.ghost_name, s.tokens.now) };
 
     fn answer(&mut self, message: &Message<'_>) -> Reply {
         match read_request(self.alloc, &parts_of(message), self.tokens) {
-            Ok((caller, request)) => step(self.alloc, self.world, &caller, &request),
+            Ok((caller, request)) => {
+                step(
+                    self.alloc,
+                    self.tokens,
+                    self.world,
+                    self.keeping,
+                    &caller,
+                    &request,
+                )
+            }
             Err(RequestFault::Refused { refusal, allow }) => refuse(self.alloc, &refusal, allow),
             Err(RequestFault::NoMemory) => no_memory(),
         }
@@ -82,18 +94,70 @@ fn refuse(alloc: Global, refusal: &Refusal, allow: Methods) -> Reply
     }
 }
 
-/// Answers a request by one step of the world. Where no place is left, it says that memory is wanting.
-fn step(alloc: Global, world: &mut World, caller: &Caller, request: &Request) -> Reply
+/// Answers a request by one step of the world, which is kept before its answer acknowledges a change. Where no place is
+/// left, it says that memory is wanting.
+fn step<D: Disk>(
+    alloc: Global,
+    tokens: &Tokens,
+    world: &mut World,
+    keeping: &mut Keeping<D>,
+    caller: &Caller,
+    request: &Request,
+) -> Reply
     requires { IsSoundOp request.now.op }
-    ensures { (close : Bool) → ((answer : answer.Answer)
-        × Steps (seen world.old) caller.now request.now answer (seen world.new)
-        × IsResponse (decided_at request.now) answer.what close (reply_bytes result close))
-        ⊎ ((reply_bytes result close ≡ no_memory_reply close) × (seen world.new ≡ seen world.old)) }
+    ensures { (close : Bool) → IsStepped
+        (record { tokens = tokens.now; world = world.old; keeping = keeping.old })
+        caller.now request.now close (reply_bytes result close)
+        (record { tokens = tokens.now; world = world.new; keeping = keeping.new })
+        ⊎ ((reply_bytes result close ≡ no_memory_reply close)
+        × (world.new ≡ world.old) × (keeping.new ≡ keeping.old)) }
 {
     if !world.has_room() {
         return no_memory();
     }
     bodies_have_no_floats();
     let answer = world.step(caller, request);
-    answer_reply(alloc, on_text(request), &answer)
+    if !acknowledges(&request.op, &answer.what) {
+        return answer_reply(alloc, on_text(request), &answer);
+    }
+    match keeping.keep(world) {
+        Ok(_places) => answer_reply(alloc, on_text(request), &answer),
+        Err(why) => unkept_reply(alloc, why),
+    }
+}
+
+// Whether an answer says that a change of folders, domains or lists was done, or that all is kept.
+fn acknowledges(op: &Op, what: &What) -> bool
+    ensures { result ≡ acknowledges op.now what.now }
+{
+    match what {
+        What::Replied(Outcome::Done { .. }) => is_to_keep(op),
+        _ => false,
+    }
+}
+
+fn is_to_keep(op: &Op) -> bool
+    ensures { result ≡ is_to_keep op.now }
+{
+    match op {
+        Op::Flush | Op::PutNode { .. } | Op::DropNode | Op::PutAcl { .. } => true,
+        _ => false,
+    }
+}
+
+// Says why a change that stands was not kept.
+fn unkept_reply(alloc: Global, why: Why) -> Reply
+    ensures { (close : Bool) → IsUnkept why close (reply_bytes result close) }
+{
+    match why {
+        Why::DiskFault => refuse(alloc, &Refusal::DiskFault, Methods::NONE),
+        Why::JournalFull { end, need, room } => {
+            refuse(
+                alloc,
+                &Refusal::JournalFull { end, need, room },
+                Methods::NONE,
+            )
+        }
+        Why::NotAJournal { .. } | Why::Exists | Why::NoMemory => no_memory(),
+    }
 }

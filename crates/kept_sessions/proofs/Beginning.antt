@@ -1,0 +1,195 @@
+-- How a session begins.
+use Rattle.std.proofs.Common.{◌≡◌, ◌⊎◌, inl, inr, ⊎_elim, ℕ, ◌+◌, ◌<◌, ◌≤◌, List, [], ◌∷◌, ◌++◌, Option, Result, Ok, Err, refl, sym, ap, subst, ◌∙◌, append_assoc, arith}
+use Rattle.link_service.specs.Links.{IsFront, spellings}
+use Rattle.link_service.proofs.Progress.{replays_joined, rose_since}
+use Rattle.http_wire.specs.Messages.{RequestMessage}
+use Rattle.edge_traits.specs.declared.disk.Disk.{Ghosts}
+use Rattle.flush_journal.specs.Batches.{records}
+use Rattle.flush_journal.specs.Files.{Content, content, held}
+use Rattle.flush_journal.specs.Frames.{need_of}
+use Rattle.flush_journal.specs.Moments.{Leaves}
+use Rattle.flush_journal.specs.Records.{Held, Record, put_all, put_record}
+use Rattle.flush_journal.specs.Refusals.{MayRefuse}
+use Rattle.flush_journal.specs.Standing.{HasEither, HoldsEither, IsOwed, IsSettled, disk_of, end_of, pending_of, with_batch}
+use Rattle.flush_journal.specs.Tries.{Tries, Writes}
+use Rattle.flush_journal.specs.Unchanged.{SameBytes, SameDisk}
+use Rattle.flush_journal.specs.declared.journal.Journal.{Journal}
+use Rattle.flush_journal.specs.declared.why.Why.{Why}
+use Rattle.flush_journal.specs.declared.why.Why.TheVariants as why
+use Rattle.flush_journal.proofs.ContentLemmas.{held-content}
+use Rattle.flush_journal.proofs.JournalLemmas.{either_held}
+use Rattle.flush_journal.proofs.Moments.{joined, no_call, weaker}
+use Rattle.journal_keeping.specs.Keepings.{IsBacked, settled}
+use Rattle.journal_keeping.specs.declared.keeping.Keeping.{Keeping}
+use Rattle.kept_journals.specs.Opening.{IsOf}
+use Rattle.lane_owners.specs.Records.{AreStillIn}
+use Rattle.register.specs.Decided.{Door}
+use Rattle.register.specs.Kept.{all_kept, run_kept}
+use Rattle.service_core.specs.Records.{DescribesWorld, IsKept, IsWorldOf, OrNoMemory, WorldSays, as_kept, run_record}
+use Rattle.service_core.specs.Steps.{World}
+use Rattle.service_core.specs.Worlds.{State, seen, with_door}
+use Rattle.rest_session.specs.Sessions.{IsServed, Served, TellsWorld}
+use Rattle.rest_session.specs.Stood.{HoldsStood, IsStretch, StoodSince}
+use Rattle.bearer_tokens.specs.Bearer.{TokenTable}
+use Rattle.kept_sessions.specs.Sessions.{HoldsHeld, IsEnded, IsEndedFrom, IsOpened, IsRecovered, IsUnbegun, LeavesSince, MayRefuseRun, begun}
+use Rattle.kept_sessions.specs.declared.outcome.Outcome.{Outcome}
+use Rattle.kept_sessions.specs.declared.outcome.Outcome.TheVariants as outcome
+
+-- nothing of the world is to be written in its run
+kept_then : {D : Type 0} {met : Ghosts D} (j : Journal D met) (w : State) (c : Content) → IsOpened j w c → IsKept (begun w)
+kept_then j w c is = record {
+  register = subst (λ (d : Door). run_kept d ≡ all_kept (run_kept d)) (sym is.world.register.begins) refl;
+  lanes = is.still;
+}
+
+-- the journal and its keeping, at the begin of a session
+module _ {D : Type 0} {met : Ghosts D} (old new : Journal D met) (w v : State) (c : Content) (is : IsOpened old w c) (k : Keeping D met) (same : v ≡ begun w) where
+  told_first : ((m : Held) → WorldSays w m → WorldSays v (put_record (run_record w.door) m)) → (IsKept v → (m : Held) → WorldSays v m → DescribesWorld m v.door.run (seen v))
+      → TellsWorld (put_record (run_record w.door) c.held) (as_kept v)
+  told_first says described =
+      let d = described (subst IsKept (sym same) (kept_then old w c is)) (put_record (run_record w.door) c.held) (says c.held is.says) in
+      record { register = d.register; objects = d.objects; given = d.given; strays = d.strays }
+
+  pub backed_first : OrNoMemory (Ok tt) (new ≡ old) (Writes old new c (run_record w.door ∷ []) (Ok tt)) → ((m : Held) → WorldSays w m → WorldSays v (put_record (run_record w.door) m))
+      → (IsKept v → (m : Held) → WorldSays v m → DescribesWorld m v.door.run (seen v)) → k.journal ≡ new → records k.building ≡ []
+      → IsBacked TellsWorld k.journal (records k.building) (WorldSays v) (as_kept v ∷ [])
+  backed_first (inl h) says described journal none = let no : ◌≡◌ {A = Result (Unit {0}) Why} (Ok tt) (Err why.NoMemory) = h.0 in absurd (cc)
+  backed_first (inr h) says described journal none =
+      subst (λ (j : Journal D met). IsBacked TellsWorld j (records k.building) (WorldSays v) (as_kept v ∷ [])) (sym journal)
+      (subst (λ (b : List Record). IsBacked TellsWorld new b (WorldSays v) (as_kept v ∷ [])) (sym none)
+      (settled (with_batch c (run_record w.door ∷ [])) h.ok (inl (told_first says described)) (says c.held is.says)))
+
+  -- since the journal was opened, up to the end of the link that was served then
+  module _ (tokens : TokenTable) (final : Served met) (taken : List ℕ) (after : D) where
+    abbrev pub starts : Served met
+    starts = record { tokens = tokens; world = v; keeping = k }
+
+    pub left_since_opened : OrNoMemory (Ok tt) (new ≡ old) (Writes old new c (run_record w.door ∷ []) (Ok tt)) → ((m : Held) → WorldSays w m → WorldSays v (put_record (run_record w.door) m))
+        → (IsKept v → (m : Held) → WorldSays v m → DescribesWorld m v.door.run (seen v)) → k.journal ≡ new → k.kept ≡ 0
+        → IsStretch starts final taken starts final
+        → Leaves met (disk_of k.journal) after (HoldsStood starts final taken k.kept)
+        → Leaves met (disk_of old) after (HoldsHeld c.held starts final taken)
+    left_since_opened (inl h) says described journal none whole later = let no : ◌≡◌ {A = Result (Unit {0}) Why} (Ok tt) (Err why.NoMemory) = h.0 in absurd (cc)
+    left_since_opened (inr h) says described journal none whole later =
+        joined met (disk_of old) (disk_of new) after (HoldsHeld c.held starts final taken)
+        (weaker met (disk_of old) (disk_of new) (HasEither c (with_batch c (run_record w.door ∷ []))) (HoldsHeld c.held starts final taken)
+        (λ file has. at file (either_held c (run_record w.door ∷ []) file has)) h.moments)
+        (subst (λ (j : Journal D met). Leaves met (disk_of j) after (HoldsHeld c.held starts final taken)) journal
+        (weaker met (disk_of k.journal) after (HoldsStood starts final taken k.kept) (HoldsHeld c.held starts final taken)
+        (λ file holds. inr (subst (λ (n : ℕ). HoldsStood starts final taken n file) none holds)) later)) where
+          stood : StoodSince starts final taken 0 (as_kept v)
+          stood = record {
+            at = starts;
+            before = whole.before;
+            after = whole.between ++ whole.after;
+            read = subst (λ (ms : List RequestMessage). IsFront (spellings ms) taken) (append_assoc whole.before whole.between whole.after) whole.read;
+            answers = whole.first_answers;
+            later_answers = whole.answers ++ whole.later_answers;
+            reaches = whole.reaches;
+            follows = replays_joined IsServed starts final final whole.between whole.after whole.answers whole.later_answers whole.passes whole.follows;
+            shown = refl;
+            late = omega arith;
+          }
+
+          at : (file : List ℕ) → HoldsEither c.held (put_record (run_record w.door) c.held) file → HoldsHeld c.held starts final taken file
+          at file (inl was) = inl was
+          at file (inr now) = inr (as_kept v, (put_record (run_record w.door) c.held, now, told_first says described), stood)
+
+-- why a run isn't begun
+refused_by : (w : World) (end room before now : ℕ) (e : Why) → MayRefuse end (need_of (run_record w.door ∷ [])) room before now e → MayRefuseRun w end room before now e
+refused_by w end room before now why.DiskFault h = h
+refused_by w end room before now (why.JournalFull e n r) h = h
+refused_by w end room before now (why.NotAJournal at) h = absurd h
+refused_by w end room before now why.Exists h = absurd h
+refused_by w end room before now why.NoMemory h = tt
+
+module _ {D : Type 0} {met : Ghosts D} (old new : Journal D met) (w : State) (e : Why) where
+  pub run_refused : OrNoMemory (Err e) (new ≡ old) (Tries old new (run_record w.door ∷ []) (Err e))
+      → MayRefuseRun (seen w) (end_of old) (met.most (disk_of old)) (met.faults (disk_of old)) (met.faults (disk_of new)) e
+  run_refused (inl h) = let same : e ≡ why.NoMemory = cc in subst (MayRefuseRun (seen w) (end_of old) (met.most (disk_of old)) (met.faults (disk_of old)) (met.faults (disk_of new))) (sym same) tt
+  run_refused (inr h) = refused_by (seen w) (end_of old) (met.most (disk_of old)) (met.faults (disk_of old)) (met.faults (disk_of new)) e h.cause
+
+  pub run_images : (c : Content) → IsSettled old c → OrNoMemory (Err e) (new ≡ old) (Writes old new c (run_record w.door ∷ []) (Err e)) → (image : List ℕ) → met.images (disk_of new) image
+      → HoldsEither c.held (put_record (run_record w.door) c.held) image
+  run_images c s (inl h) image left = inl (held-content image c (ap content (s.only image (subst (λ (j : Journal D met). met.images (disk_of j) image) h.1 left)) ∙ s.file))
+  run_images c s (inr h) image left = either_held c (run_record w.door ∷ []) image (h.err.each image left)
+
+  pub run_crash : ((disk : D) (file : List ℕ) → met.honest → met.left_since disk (met.moment disk) file → met.images disk file) → met.honest → (c : Content) → IsSettled old c
+      → OrNoMemory (Err e) (new ≡ old) (Writes old new c (run_record w.door ∷ []) (Err e)) → Leaves met (disk_of old) (disk_of new) (HoldsEither c.held (put_record (run_record w.door) c.held))
+  run_crash only_now honest c s (inl h) = subst (λ (j : Journal D met). Leaves met (disk_of old) (disk_of j) (HoldsEither c.held (put_record (run_record w.door) c.held))) (sym h.1)
+      (no_call met (disk_of old) (HoldsEither c.held (put_record (run_record w.door) c.held))
+      (λ file left. inl (held-content file c (ap content (s.only file (only_now (disk_of old) file honest left)) ∙ s.file))))
+  run_crash only_now honest c s (inr h) = weaker met (disk_of old) (disk_of new) (HasEither c (with_batch c (run_record w.door ∷ []))) (HoldsEither c.held (put_record (run_record w.door) c.held))
+      (λ file has. either_held c (run_record w.door ∷ []) file has) h.moments
+
+-- a refusal after a call of before, in which no count fell
+pub later_refusal : (w : World) (end room first before now : ℕ) (e : Why) → first ≤ before → MayRefuseRun w end room before now e → MayRefuseRun w end room first now e
+later_refusal w end room first before now why.DiskFault le h = rose_since first before now le h
+later_refusal w end room first before now (why.JournalFull e n r) le h = h
+later_refusal w end room first before now (why.NotAJournal at) le h = h
+later_refusal w end room first before now why.Exists le h = h
+later_refusal w end room first before now why.NoMemory le h = tt
+
+-- the world that a session opens, and serves in its run
+pub recovered : (held : Held) (lanes : ℕ) (w : State) → IsWorldOf held lanes w → IsRecovered held (seen w)
+recovered held lanes w is = record {
+  kept = is.register.kept;
+  described = is.describes;
+  run = ap (λ (d : Door). d.run) is.register.begins;
+  serial = ap (λ (d : Door). d.serial) is.register.begins;
+  places = ap (λ (d : Door). d.places) is.register.begins;
+}
+
+recovered_begun : (held : Held) (w : State) → IsRecovered held (seen w) → IsRecovered held (seen (begun w))
+recovered_begun held w r = record {
+  kept = r.kept;
+  described = record { register = r.described.register; objects = r.described.objects; given = r.described.given; strays = r.described.strays };
+  run = r.run;
+  serial = r.serial;
+  places = r.places;
+}
+
+-- a run of calls behind one that changed no byte
+since_before : {D : Type 0} (met : Ghosts D) (before mid after : D) (P : List ℕ → Type 0) → ((disk : D) (file : List ℕ) → met.honest → met.left_since disk (met.moment disk) file → met.images disk file)
+    → met.honest → SameBytes met before mid → Leaves met mid after P → LeavesSince met before after P
+since_before met before mid after P only_now honest same l = record {
+  later = omega (arith, same.later, l.later);
+  each = λ file left. ⊎_elim (λ was. inl (only_now before file honest (same.since (met.moment before) (omega arith) file was))) (λ p. inr p) (l.before (met.moment before) file same.later left);
+  before = λ t file le left. ⊎_elim (λ was. inl (same.since t le file was)) (λ p. inr (inr p)) (l.before t file (omega (arith, le, same.later)) left);
+}
+
+module _ {D : Type 0} (met : Ghosts D) (before : D) (j : Journal D met) (w : State) (after : D) (tokens : TokenTable) (lb la hb ha : Option (List ℕ))
+    (opened : met.honest → (c : Content) × (content (met.reads before) ≡ Ok c) × IsOpened j w c) (same : SameDisk met before (disk_of j))
+    (only_now : (disk : D) (file : List ℕ) → met.honest → met.left_since disk (met.moment disk) file → met.images disk file) (bytes : met.honest → SameBytes met before (disk_of j)) where
+  pub ended_from : (o : Outcome) → IsEndedFrom j w after tokens lb la hb ha o → IsEnded met before after tokens lb la hb ha o
+  ended_from (outcome.Unopened why) h = absurd h
+  ended_from (outcome.Unbegun why) h = (
+    record {
+      world = seen w;
+      recovered = λ honest. let o = opened honest in (o.0, o.1, recovered o.0.held o.0.lanes w o.2.world);
+      end = end_of j;
+      behind = λ honest. let o = opened honest in (o.0, o.1, o.2.settled.numbers.end);
+      cause = later_refusal (seen w) (end_of j) (met.most before) (met.faults before) (met.faults (disk_of j)) (met.faults after) why same.faults
+          (subst (λ (room : ℕ). MayRefuseRun (seen w) (end_of j) room (met.faults (disk_of j)) (met.faults after) why) same.most h.0);
+      images = λ honest image left. let o = opened honest in (o.0, o.1, h.1 honest image left o.0 o.2.settled);
+      crash = λ honest. let o = opened honest in (
+        o.0,
+        o.1,
+        since_before met before (disk_of j) after (HoldsEither o.0.held (put_record (run_record w.door) o.0.held)) only_now honest (bytes honest)
+            (h.2 honest o.0 o.2.settled),
+      );
+    },
+    h.3,
+    h.4,
+  )
+  ended_from (outcome.Served closed last) h = (
+    h.0,
+    h.1,
+    (λ honest. let o = opened honest in (
+      o.0,
+      o.1,
+      subst (λ (x : State). IsRecovered o.0.held (seen x)) (sym h.2) (recovered_begun o.0.held w (recovered o.0.held o.0.lanes w o.2.world)),
+    )),
+    h.3,
+    λ honest. let o = opened honest in (o.0, o.1, since_before met before (disk_of j) after (HoldsHeld o.0.held h.0 h.3.final h.3.taken) only_now honest (bytes honest) (h.4 honest o.0 o.2)),
+  )

@@ -1,0 +1,66 @@
+-- What a crash leaves while a link is served.
+--     IsBackedBy s worlds      all that changed is kept, and a crash leaves one of these worlds
+--     StoodSince s t taken kept w      a world that stood between two messages, and no earlier than at the last keeping
+--     AreKept s t taken      what a crash leaves is one of them
+--     HoldsStood s t taken kept file      a file holds one of them
+--     IsStretch s t taken u v      u and then v stood between two messages
+use Rattle.std.specs.Prelude.{◌≡◌, ℕ, ◌≤◌, List, ◌++◌, Some}
+use Rattle.std.specs.List.{AllByRecursion}
+use Rattle.edge_traits.specs.declared.disk.Disk.{Ghosts}
+use Rattle.flush_journal.specs.Batches.{records}
+use Rattle.flush_journal.specs.Files.{held}
+use Rattle.flush_journal.specs.Records.{Held}
+use Rattle.http_wire.specs.Messages.{RequestMessage}
+use Rattle.journal_keeping.specs.Keepings.{IsBacked}
+use Rattle.link_service.specs.Links.{IsFront, Replays, spellings}
+use Rattle.service_core.specs.Records.{WorldSays, as_kept}
+use Rattle.service_core.specs.Steps.{World}
+use Rattle.rest_session.specs.Sessions.{IsServed, Served, TellsWorld}
+
+abbrev pub IsBackedBy : {D : Type 0} {met : Ghosts D} → Served met → List World → Type 0
+IsBackedBy s worlds = IsBacked TellsWorld s.keeping.journal (records s.keeping.building) (WorldSays s.world) worlds
+
+-- of the messages that stand in front of some bytes it stood behind some first ones, once at least `kept` requests were decided
+pub record StoodSince {D : Type 0} {met : Ghosts D} (s t : Served met) (taken : List ℕ) (kept : ℕ) (w : World) : Type 0 where
+  pub at : Served met
+  pub before : List RequestMessage
+  pub after : List RequestMessage
+  pub read : IsFront (spellings (before ++ after)) taken
+  pub answers : List ℕ
+  pub later_answers : List ℕ
+  pub reaches : Replays IsServed s before answers at
+  pub follows : Replays IsServed at after later_answers t
+  pub shown : w ≡ as_kept at.world
+  pub late : kept ≤ at.world.door.places
+
+pub record AreKept {D : Type 0} {met : Ghosts D} (s t : Served met) (taken : List ℕ) : Type 0 where
+  pub worlds : List World
+  pub backed : IsBackedBy t worlds
+  pub each : AllByRecursion (StoodSince s t taken t.keeping.kept) worlds
+  pub within : t.keeping.kept ≤ t.world.door.places
+  pub now : (kept : ℕ) → kept ≤ t.world.door.places → StoodSince s t taken kept (as_kept t.world)
+
+-- ---- what a file holds
+
+-- a file holds a world
+abbrev pub HoldsWorld : World → List ℕ → Type 0
+HoldsWorld w file = (m : Held) × (held file ≡ Some m) × TellsWorld m w
+
+-- one that stood while a link was served, once at least `kept` requests were decided
+abbrev pub HoldsStood : {D : Type 0} {met : Ghosts D} → Served met → Served met → List ℕ → ℕ → List ℕ → Type 0
+HoldsStood s t taken kept file = (w : World) × HoldsWorld w file × StoodSince s t taken kept w
+
+-- ---- within a link
+
+-- of the messages that stand in front of some bytes u stood behind some first ones, and v behind some more
+pub record IsStretch {D : Type 0} {met : Ghosts D} (s t : Served met) (taken : List ℕ) (u v : Served met) : Type 0 where
+  pub before : List RequestMessage
+  pub between : List RequestMessage
+  pub after : List RequestMessage
+  pub read : IsFront (spellings (before ++ between ++ after)) taken
+  pub first_answers : List ℕ
+  pub answers : List ℕ
+  pub later_answers : List ℕ
+  pub reaches : Replays IsServed s before first_answers u
+  pub passes : Replays IsServed u between answers v
+  pub follows : Replays IsServed v after later_answers t
