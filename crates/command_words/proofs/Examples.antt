@@ -1,47 +1,56 @@
 -- The rule, computed on rows that have a place or more options than one.
 use Rattle.std.proofs.Common.{◌≡◌, List, [], ◌∷◌, Some, None, codes, refl}
-use Rattle.command_words.specs.Lines.{Row, Piece}
+use Rattle.command_words.specs.Lines.{Piece}
 use Rattle.command_words.specs.Reading.{pieces_of}
-
-export_row : Row
-export_row = record { name = codes "export"; options = codes "journal" ∷ []; place = Some (codes "path") }
-
-init_row : Row
-init_row = record { name = codes "init"; options = codes "config" ∷ codes "journal" ∷ codes "lanes" ∷ []; place = None }
+use Rattle.command_words.specs.Numbers.{number_between}
+use Rattle.command_words.specs.Commands.{command_of, export, export_row, init_row}
 
 abbrev both : List Piece
 both = (codes "journal", codes "j") ∷ (codes "path", codes "/lab") ∷ []
 
 option_then_place : pieces_of export_row (codes "--journal" ∷ codes "j" ∷ codes "/lab" ∷ []) ≡ Some both
-unfolding export_row
 option_then_place = refl
 
 place_then_option : pieces_of export_row (codes "/lab" ∷ codes "--journal=j" ∷ [])
     ≡ Some ((codes "path", codes "/lab") ∷ (codes "journal", codes "j") ∷ [])
-unfolding export_row
 place_then_option = refl
 
 no_place : pieces_of export_row (codes "--journal" ∷ codes "j" ∷ []) ≡ None
-unfolding export_row
 no_place = refl
 
 two_places : pieces_of export_row (codes "/lab" ∷ codes "/lab" ∷ []) ≡ None
-unfolding export_row
 two_places = refl
 
 a_place_by_its_name : pieces_of export_row (codes "--path" ∷ codes "/lab" ∷ []) ≡ None
-unfolding export_row
 a_place_by_its_name = refl
+
+an_export : command_of (codes "export" ∷ codes "/lab/" ∷ codes "--journal=j" ∷ []) ≡ Some (export (codes "/lab") (codes "j"))
+an_export = refl
+
+no_path : command_of (codes "export" ∷ codes "lab" ∷ []) ≡ None
+no_path = refl
 
 three_options : pieces_of init_row (codes "--lanes=2" ∷ codes "--config" ∷ codes "c" ∷ codes "--journal=j" ∷ [])
     ≡ Some ((codes "lanes", codes "2") ∷ (codes "config", codes "c") ∷ (codes "journal", codes "j") ∷ [])
-unfolding init_row
 three_options = refl
 
 an_option_twice : pieces_of init_row (codes "--lanes=2" ∷ codes "--config=c" ∷ codes "--lanes" ∷ codes "2" ∷ []) ≡ None
-unfolding init_row
 an_option_twice = refl
 
 a_hyphen : pieces_of init_row (codes "--config=-c" ∷ []) ≡ None
-unfolding init_row
 a_hyphen = refl
+
+sixteen : number_between 1 16 (codes "16") ≡ Some 16
+sixteen = refl
+
+ten_digits : number_between 1 16 (codes "0000000004") ≡ Some 4
+ten_digits = refl
+
+eleven_digits : number_between 1 16 (codes "00000000004") ≡ None
+eleven_digits = refl
+
+no_digit : number_between 1 16 (codes "+4") ≡ None
+no_digit = refl
+
+seventeen : number_between 1 16 (codes "17") ≡ None
+seventeen = refl

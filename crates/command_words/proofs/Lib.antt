@@ -3,6 +3,7 @@ mod Turns
 mod Follow
 mod Level
 mod Whole
+mod Numbers
 mod Spelled
 mod Lines
 mod Examples

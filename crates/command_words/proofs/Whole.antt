@@ -1,6 +1,6 @@
 -- The whole command: where words are a command, `clap` takes them and finds its values.
 use Rattle.std.proofs.Common.{◌≡◌, ◌∙◌, ap, sym, subst, Bool, true, false, not, ◌&&◌, List, [], ◌∷◌}
-use Rattle.std.proofs.Common.{fold, Option, Some, None, is_some, option_map, option_and_then, refl}
+use Rattle.std.proofs.Common.{fold, map, Option, Some, None, is_some, option_map, option_and_then, refl}
 use Rattle.std.proofs.Common.{codes}
 use Rattle.std.specs.Prelude.{cond, find}
 use Rattle.std.specs.Option.{option_map_or}
@@ -19,8 +19,9 @@ use Rattle.clap.specs.Takes.{step_passes, takes, turn_passes, walk_passes}
 use Rattle.clap.proofs.OnLiterals.{clap_on_literals}
 use Rattle.command_words.specs.Lines.{Text, Row, Piece}
 use Rattle.command_words.specs.Reading.{pieces_of}
-use Rattle.command_words.specs.Commands.{Command, Verb, command_of, meaning_of, session_row}
-use Rattle.command_words.specs.Commands.{values_of, verb_named, verbs}
+use Rattle.command_words.specs.Commands.{Verb, command_of, export_row, init_row, meaning_of}
+use Rattle.command_words.specs.Commands.{pieces_in, session_row, values_of, verb_named, verbs}
+use Rattle.command_words.specs.Commands.{verify_row}
 use Rattle.command_words.specs.Apps.{command_found, found_values, hsds_app}
 use Rattle.command_words.proofs.Steps.{rows_for, rules_of}
 use Rattle.command_words.proofs.Spelled.{is_option_name}
@@ -41,7 +42,7 @@ top = record (new_shape (codes "hsds")) {
 }
 
 abbrev whole : App
-whole = record { top = top; subs = leaf (codes "session") (rules_of session_row) ∷ [] }
+whole = record { top = top; subs = map (λ v. leaf v.row.name (rules_of v.row)) verbs }
 
 built_is : built hsds_app ≡ whole
 unfolding clap_on_literals
@@ -115,11 +116,20 @@ abbrev AllNamed : List Verb → Type 0
 AllNamed [] = Unit {0}
 AllNamed (verb ∷ verbs) = Named verb.row.name verb.row × AllNamed verbs
 
+init_named : Named init_row.name init_row
+init_named = record { apart = λ n e. cc; options = refl; met = refl; found = refl }
+
 session_named : Named session_row.name session_row
 session_named = record { apart = λ n e. cc; options = refl; met = refl; found = refl }
 
+export_named : Named export_row.name export_row
+export_named = record { apart = λ n e. cc; options = refl; met = refl; found = refl }
+
+verify_named : Named verify_row.name verify_row
+verify_named = record { apart = λ n e. cc; options = refl; met = refl; found = refl }
+
 all_named : AllNamed verbs
-all_named = (session_named, tt)
+all_named = (init_named, (session_named, (export_named, (verify_named, tt))))
 
 -- a verb that a name finds has this name, and is one of them
 named_in : (list : List Verb) (name : Text) (verb : Verb) → AllNamed list
@@ -142,63 +152,61 @@ pub named_of : (name : Text) (verb : Verb) → verb_named name ≡ Some verb
     → (name ≡ verb.row.name) × Named verb.row.name verb.row
 named_of name verb = named_in verbs name verb all_named
 
--- what `clap` makes of words that are a command
-pub record IsRead (words : List Text) (command : Command) : Type 0 where
+-- what `clap` makes of words that are a line of a command's row
+pub record IsRead (words : List Text) : Type 0 where
   pub passes : takes hsds_app words ≡ true
-  pub reads : option_and_then command_found (subcommand_of hsds_app words) ≡ Some command
+  pub reads : option_and_then command_found (subcommand_of hsds_app words) ≡ command_of words
 
-verb_read : (name : Text) (rest : List Text) (command : Command) (verb : Verb) (all : List Piece)
-    → verb_named name ≡ Some verb → pieces_of verb.row rest ≡ Some all
-    → verb.meaning (values_of all) ≡ Some command → IsRead (name ∷ rest) command
-verb_read name rest command verb all at is means =
+verb_read : (name : Text) (rest : List Text) (verb : Verb) (all : List Piece)
+    → verb_named name ≡ Some verb → pieces_of verb.row rest ≡ Some all → IsRead (name ∷ rest)
+verb_read name rest verb all at is =
     let known = named_of name verb at in
-    let read : IsRead (verb.row.name ∷ rest) command = record {
+    let named : verb_named verb.row.name ≡ Some verb = ap verb_named (sym known.0) ∙ at in
+    let read : IsRead (verb.row.name ∷ rest) = record {
       passes = taken verb.row.name verb.row known.1 rest all is;
       reads = ap (option_and_then command_found) (found_is verb.row.name verb.row known.1 rest all is)
-          ∙ ap (option_and_then (λ (v : Verb). v.meaning (found_values (rows_for all)))) (ap verb_named (sym known.0) ∙ at)
-          ∙ ap verb.meaning (λ i n. first_is n all i) ∙ means;
+          ∙ ap (option_and_then (λ (v : Verb). v.meaning (found_values (rows_for all)))) named
+          ∙ ap verb.meaning (λ i n. first_is n all i)
+          ∙ sym (ap (option_and_then (λ (v : Verb). meaning_of v rest)) named
+          ∙ ap (option_and_then (λ (l : List Piece). verb.meaning (values_of l))) is);
     } in
-    subst (λ (n : Text). IsRead (n ∷ rest) command) (sym known.0) read
+    subst (λ (n : Text). IsRead (n ∷ rest)) (sym known.0) read
 
-named_read : (name : Text) (rest : List Text) (command : Command)
-    → command_of (name ∷ rest) ≡ Some command → IsRead (name ∷ rest) command
-named_read name rest command e = found (verb_named name) refl
+named_read : (name : Text) (rest : List Text) → is_some (pieces_in (name ∷ rest)) ≡ true
+    → IsRead (name ∷ rest)
+named_read name rest some = found (verb_named name) refl
   where
-    read : (verb : Verb) → verb_named name ≡ Some verb → meaning_of verb rest ≡ Some command
-        → (o : Option (List Piece)) → pieces_of verb.row rest ≡ o
-        → IsRead (name ∷ rest) command
-    read verb at means None is = let bad : None ≡ Some command = sym (ap (option_and_then (λ (l : List Piece). verb.meaning (values_of l))) is)
-        ∙ means in cc
-    read verb at means (Some all) is =
-        verb_read name rest command verb all at is (sym (ap (option_and_then (λ (l : List Piece). verb.meaning (values_of l))) is) ∙ means)
+    read : (verb : Verb) → verb_named name ≡ Some verb → is_some (pieces_of verb.row rest) ≡ true
+        → (o : Option (List Piece)) → pieces_of verb.row rest ≡ o → IsRead (name ∷ rest)
+    read verb at some None is = let bad : false ≡ true = sym (ap is_some is) ∙ some in cc
+    read verb at some (Some all) is = verb_read name rest verb all at is
 
-    found : (o : Option Verb) → verb_named name ≡ o → IsRead (name ∷ rest) command
-    found None at = let bad : None ≡ Some command = sym (ap (option_and_then (λ (v : Verb). meaning_of v rest)) at)
-        ∙ e in cc
-    found (Some verb) at = read verb at (sym (ap (option_and_then (λ (v : Verb). meaning_of v rest)) at) ∙ e) (pieces_of verb.row rest) refl
+    found : (o : Option Verb) → verb_named name ≡ o → IsRead (name ∷ rest)
+    found None at =
+        let bad : false ≡ true = sym (ap (λ (o : Option Verb). is_some (option_and_then (λ (v : Verb). pieces_of v.row rest) o)) at)
+        ∙ some in cc
+    found (Some verb) at =
+        read verb at (sym (ap (λ (o : Option Verb). is_some (option_and_then (λ (v : Verb). pieces_of v.row rest) o)) at) ∙ some) (pieces_of verb.row rest) refl
 
-pub command_read : (words : List Text) (command : Command) → command_of words ≡ Some command
-    → IsRead words command
-command_read [] command e = cc
-command_read (name ∷ rest) command e = named_read name rest command e
+-- words that are a line of a command's row are taken, and what `clap` finds is the command
+pub line_is_read : (words : List Text) → is_some (pieces_in words) ≡ true → IsRead words
+line_is_read [] some = let bad : false ≡ true = some in cc
+line_is_read (name ∷ rest) some = named_read name rest some
 
--- words that are a command have one
-some_command : (words : List Text) → is_some (command_of words) ≡ true
-    → (command : Command) × (command_of words ≡ Some command)
-some_command words some = go (command_of words) refl
+-- other words are no command
+pub no_line : (words : List Text) → is_some (pieces_in words) ≡ false → command_of words ≡ None
+no_line [] none = refl
+no_line (name ∷ rest) none = found (verb_named name) refl
   where
-    go : (o : Option Command) → command_of words ≡ o
-        → (command : Command) × (command_of words ≡ Some command)
-    go None e = let bad : false ≡ true = sym (ap (λ (x : Option Command). is_some x) e) ∙ some in cc
-    go (Some command) e = (command, e)
+    read : (verb : Verb) → is_some (pieces_of verb.row rest) ≡ false → meaning_of verb rest ≡ None
+    read verb none = by_pieces (pieces_of verb.row rest) none
+      where
+        by_pieces : (o : Option (List Piece)) → is_some o ≡ false
+            → option_and_then (λ (l : List Piece). verb.meaning (values_of l)) o ≡ None
+        by_pieces None none = refl
+        by_pieces (Some all) none = let bad : true ≡ false = none in cc
 
--- words that are a command are taken
-pub some_taken : (words : List Text) → is_some (command_of words) ≡ true
-    → takes hsds_app words ≡ true
-some_taken words some = let got = some_command words some in (command_read words got.0 got.1).passes
-
--- what `clap` finds of words that are a command is the command
-pub reads_command : (words : List Text) → is_some (command_of words) ≡ true
-    → option_and_then command_found (subcommand_of hsds_app words) ≡ command_of words
-reads_command words some = let got = some_command words some in (command_read words got.0 got.1).reads
-    ∙ sym got.1
+    found : (o : Option Verb) → verb_named name ≡ o → command_of (name ∷ rest) ≡ None
+    found None at = ap (option_and_then (λ (v : Verb). meaning_of v rest)) at
+    found (Some verb) at = ap (option_and_then (λ (v : Verb). meaning_of v rest)) at
+        ∙ read verb (sym (ap (λ (o : Option Verb). is_some (option_and_then (λ (v : Verb). pieces_of v.row rest) o)) at) ∙ none)

@@ -1,16 +1,24 @@
 -- The command that `clap` is given, and the values that it finds.
-use Rattle.std.specs.Prelude.{true, List, Option, Some, codes, option_and_then}
+use Rattle.std.specs.Prelude.{true, List, [], ◌∷◌, Option, Some, None, codes, fold, option_and_then}
 use Rattle.clap.specs.Walk.{Row as Found, Rule, first_of}
 use Rattle.clap.specs.Simple.{App, new_rule, with_rule, with_subcommand, new_app, on_top}
-use Rattle.command_words.specs.Lines.{Text}
-use Rattle.command_words.specs.Commands.{Command, Values, verb_named}
+use Rattle.command_words.specs.Lines.{Text, Row}
+use Rattle.command_words.specs.Commands.{Command, Values, export_row, init_row, session_row}
+use Rattle.command_words.specs.Commands.{verb_named, verify_row}
 
 -- an option, as it is given
 abbrev pub given_option : Text → Rule
 given_option name = record (new_rule name) { long = Some name }
 
-abbrev pub session_app : App
-session_app = with_rule (new_app (codes "session")) (given_option (codes "config"))
+-- a command's place, where it has one, as it is given
+abbrev pub with_place : Option Text → App → App
+with_place None app = app
+with_place (Some name) app = with_rule app (new_rule name)
+
+-- a command with its options and its place
+abbrev pub app_for : Row → App
+app_for row =
+    with_place row.place (fold (λ app name. with_rule app (given_option name)) (new_app row.name) row.options)
 
 abbrev pub bare_app : App
 bare_app = on_top (λ s. record s {
@@ -21,7 +29,8 @@ bare_app = on_top (λ s. record s {
 }) (new_app (codes "hsds"))
 
 abbrev pub hsds_app : App
-hsds_app = with_subcommand bare_app session_app.top
+hsds_app = fold (λ app row. with_subcommand app (app_for row).top) bare_app
+    (init_row ∷ session_row ∷ export_row ∷ verify_row ∷ [])
 
 -- the command that a subcommand's name and its rows make
 abbrev pub found_values : List Found → Values

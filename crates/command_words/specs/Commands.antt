@@ -1,17 +1,23 @@
 -- The commands that are served.
 --     Command      a command with its values
 --     verbs      the table: each command's row, and what its values make
+--     pieces_in words      the options behind a command's name, with their values, or None
 --     command_of words      the command that the words are, or None
 --     IsCommand words command      that this is the command, by the parts of its line
-use Rattle.std.specs.Prelude.{◌≡◌, List, [], ◌∷◌, Option, Some, None, codes, find, map, unwrap_or}
-use Rattle.std.specs.Prelude.{option_and_then}
+use Rattle.std.specs.Prelude.{◌≡◌, ℕ, List, [], ◌∷◌, Option, Some, None, codes, find, map, unwrap_or}
+use Rattle.std.specs.Prelude.{option_map, option_and_then}
 use Rattle.std.specs.Str.{bytes_eq}
+use Rattle.object_ids.specs.Paths.{path_of}
 use Rattle.command_words.specs.Lines.{Text, Row, Piece, Part, IsLine, piece_of}
 use Rattle.command_words.specs.Reading.{pieces_of, value_of}
+use Rattle.command_words.specs.Numbers.{number_between}
 
--- `session`, with the configuration's file
+-- the path of a domain, the files of the configuration and of the journal, and the number of lanes
 pub data Command : Type 0 where
-  session : Text → Command
+  init : Text → Text → ℕ → Command
+  session : Text → Text → Command
+  export : Text → Text → Command
+  verify : Text → Command
 
 -- the value of each name, where a line has one
 abbrev pub Values : Type 0
@@ -27,21 +33,81 @@ pub record Verb : Type 0 where
 abbrev pub text_in : Text → Text → Values → Text
 text_in name default values = unwrap_or (values name) default
 
--- `session --config F`; F is `hsds.toml` where no option names it
+-- `--config F`, and `hsds.toml` without it
+abbrev pub config_in : Values → Text
+config_in = text_in (codes "config") (codes "hsds.toml")
+
+-- `--journal F`, and `hsds.journal` without it
+abbrev pub journal_in : Values → Text
+journal_in = text_in (codes "journal") (codes "hsds.journal")
+
+-- `--lanes N` of 1 to 16, and 4 without it
+abbrev pub lanes_of : Option Text → Option ℕ
+lanes_of None = Some 4
+lanes_of (Some text) = number_between 1 16 text
+
+abbrev pub lanes_in : Values → Option ℕ
+lanes_in values = lanes_of (values (codes "lanes"))
+
+-- PATH, which spells a path, as its canonical text
+abbrev pub path_in : Values → Option Text
+path_in values = option_and_then path_of (values (codes "path"))
+
+-- `init --config F --journal F --lanes N`
+abbrev pub init_row : Row
+init_row = record {
+  name = codes "init";
+  options = codes "config" ∷ codes "journal" ∷ codes "lanes" ∷ [];
+  place = None;
+}
+
+abbrev pub init_of : Values → Option Command
+init_of values = option_map (init (config_in values) (journal_in values)) (lanes_in values)
+
+-- `session --config F --journal F`
 abbrev pub session_row : Row
-session_row = record { name = codes "session"; options = codes "config" ∷ []; place = None }
+session_row = record {
+  name = codes "session";
+  options = codes "config" ∷ codes "journal" ∷ [];
+  place = None;
+}
 
-abbrev pub session_of : Values → Command
-session_of values = session (text_in (codes "config") (codes "hsds.toml") values)
+abbrev pub session_of : Values → Option Command
+session_of values = Some (session (config_in values) (journal_in values))
 
-abbrev pub session_verb : Verb
-session_verb = record { row = session_row; meaning = λ values. Some (session_of values) }
+-- `export PATH --journal F`
+abbrev pub export_row : Row
+export_row = record {
+  name = codes "export";
+  options = codes "journal" ∷ [];
+  place = Some (codes "path");
+}
+
+abbrev pub export_of : Values → Option Command
+export_of values = option_map (λ path. export path (journal_in values)) (path_in values)
+
+-- `verify --journal F`
+abbrev pub verify_row : Row
+verify_row = record { name = codes "verify"; options = codes "journal" ∷ []; place = None }
+
+abbrev pub verify_of : Values → Option Command
+verify_of values = Some (verify (journal_in values))
 
 abbrev pub verbs : List Verb
-verbs = session_verb ∷ []
+verbs =
+    record { row = init_row; meaning = init_of }
+    ∷ record { row = session_row; meaning = session_of }
+    ∷ record { row = export_row; meaning = export_of }
+    ∷ record { row = verify_row; meaning = verify_of }
+    ∷ []
 
 abbrev pub verb_named : Text → Option Verb
 verb_named name = find (λ verb. bytes_eq name verb.row.name) verbs
+
+-- the options of a line of the row of the command's name, whatever they say
+abbrev pub pieces_in : List Text → Option (List Piece)
+pieces_in [] = None
+pieces_in (name ∷ rest) = option_and_then (λ verb. pieces_of verb.row rest) (verb_named name)
 
 abbrev pub meaning_of : Verb → List Text → Option Command
 meaning_of verb rest =

@@ -1,5 +1,6 @@
 pub mod Lines
 pub mod Reading
+pub mod Numbers
 pub mod Commands
 pub mod Apps
 pub mod Seen

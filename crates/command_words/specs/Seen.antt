@@ -1,16 +1,41 @@
 -- How contracts see commands, rows and what was read so far.
-use Rattle.std.specs.Prelude.{map, option_map}
+use Rattle.std.specs.Prelude.{◌≡◌, ◌≤◌, ⊤, Option, Some, None, Result, Ok, Err, map, option_map}
 use Rattle.command_words.specs.Lines as line
 use Rattle.command_words.specs.Reading.{State}
-use Rattle.command_words.specs.Commands.{Command, session}
+use Rattle.object_ids.specs.declared.paths.PathFault.{PathFault}
+use Rattle.object_ids.specs.declared.paths.PathFault.TheVariants as path
+use Rattle.command_words.specs.Commands.{Command, init, session, export, verify}
 use Rattle.command_words.specs.declared.command.Wanted.{Wanted}
-use Rattle.command_words.specs.declared.command.Wanted.TheVariants.{Session}
+use Rattle.command_words.specs.declared.command.Wanted.TheVariants.{Init, Session, Export, Verify}
+use Rattle.command_words.specs.declared.command.WordsFault.{WordsFault}
+use Rattle.command_words.specs.declared.command.WordsFault.TheVariants.{Refused, NoMemory}
 use Rattle.command_words.specs.declared.row.Row.{Row}
 use Rattle.command_words.specs.declared.reader.Piece.{Piece}
 use Rattle.command_words.specs.declared.reader.Reader.{Reader}
 
 abbrev pub seen : Wanted → Command
-seen (Session config) = session config.now
+seen (Init config journal lanes) = init config.now journal.now lanes
+seen (Session config journal) = session config.now journal.now
+seen (Export path journal) = export path journal.now
+seen (Verify journal) = verify journal.now
+
+-- the words are this command, or none; or memory ran out
+abbrev pub Answers : Result Wanted WordsFault → Option Command → Type 0
+Answers (Ok wanted) found = found ≡ Some (seen wanted)
+Answers (Err Refused) found = found ≡ None
+Answers (Err NoMemory) found = ⊤
+
+-- why a word at the place isn't read
+abbrev pub of_path : PathFault → WordsFault
+of_path path.BadPath = Refused
+of_path path.NoMemory = NoMemory
+
+-- a new journal's world has 1 to 16 lanes
+abbrev pub HasLanes : Wanted → Type 0
+HasLanes (Init config journal lanes) = (1 ≤ lanes) × (lanes ≤ 16)
+HasLanes (Session config journal) = Unit {0}
+HasLanes (Export path journal) = Unit {0}
+HasLanes (Verify journal) = Unit {0}
 
 abbrev pub row_of : Row → line.Row
 row_of row = record {

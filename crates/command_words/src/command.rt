@@ -1,20 +1,53 @@
 ghost use Rattle.std.specs.Prelude.{◌≡◌};
 
+use object_ids::{DomainPath, PathFault};
 use std::alloc::AllocError;
 
 /// The configuration's file where no option names one.
 pub const DEFAULT_CONFIG: &str = "hsds.toml";
 
+/// The journal's file where no option names one.
+pub const DEFAULT_JOURNAL: &str = "hsds.journal";
+
+/// How many lanes a new journal's world has where no option says it.
+pub const DEFAULT_LANES: u32 = 4;
+
+/// The most lanes that a new journal's world may have.
+pub const MAX_LANES: u32 = 16;
+
 /// A text of the words, which contracts see as its bytes.
 pub type WordText<'a> = &'a str;
 
 /// A command, with the values of its options.
-#[derive(Clone, Copy, Debug)]
+#[derive(Drop)]
 pub enum Wanted<'a> {
+    /// `init`: make a journal of the configured folders and domains.
+    Init {
+        /// The configuration's file.
+        config: WordText<'a>,
+        /// The journal's file.
+        journal: WordText<'a>,
+        /// Over how many lanes the objects are spread, from 1 to 16.
+        lanes: u32,
+    },
     /// `session`: serve the standard input to the standard output.
     Session {
         /// The configuration's file.
         config: WordText<'a>,
+        /// The journal's file.
+        journal: WordText<'a>,
+    },
+    /// `export`: print the document of a domain.
+    Export {
+        /// The domain's path.
+        path: DomainPath,
+        /// The journal's file.
+        journal: WordText<'a>,
+    },
+    /// `verify`: say what the journal holds.
+    Verify {
+        /// The journal's file.
+        journal: WordText<'a>,
     },
 }
 
@@ -34,5 +67,18 @@ impl From<AllocError> for WordsFault {
 
     fn from(_: AllocError) -> WordsFault {
         WordsFault::NoMemory
+    }
+}
+
+impl From<PathFault> for WordsFault {
+    ghost use Rattle.command_words.specs.Seen.{of_path};
+
+    ghost from_gives = { λ fault e. e ≡ of_path fault };
+
+    fn from(fault: PathFault) -> WordsFault {
+        match fault {
+            PathFault::BadPath => WordsFault::Refused,
+            PathFault::NoMemory => WordsFault::NoMemory,
+        }
     }
 }

@@ -4,11 +4,14 @@
 mod app;
 mod command;
 mod long;
+mod number;
 mod reader;
 mod row;
 mod words;
 
-pub use command::{DEFAULT_CONFIG, Wanted, WordText, WordsFault};
+pub use command::{
+    DEFAULT_CONFIG, DEFAULT_JOURNAL, DEFAULT_LANES, MAX_LANES, Wanted, WordText, WordsFault,
+};
 pub use words::wanted;
 
 #[cfg(test)]

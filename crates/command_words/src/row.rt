@@ -1,4 +1,5 @@
-ghost use Rattle.std.specs.Prelude.{◌≡◌};
+ghost use Rattle.std.specs.Prelude.{◌≡◌, option_map};
+ghost use Rattle.command_words.specs.Commands.{verb_named};
 ghost use Rattle.command_words.specs.Lines.{has};
 ghost use Rattle.command_words.specs.Seen.{row_of};
 
@@ -10,12 +11,52 @@ pub struct Row<'a> {
     pub place: Option<&'a str>,
 }
 
+/// `init`
+pub const INIT: Row<'static> = Row {
+    name: "init",
+    options: &["config", "journal", "lanes"],
+    place: None,
+};
+
 /// `session`
 pub const SESSION: Row<'static> = Row {
     name: "session",
-    options: &["config"],
+    options: &["config", "journal"],
     place: None,
 };
+
+/// `export`
+pub const EXPORT: Row<'static> = Row {
+    name: "export",
+    options: &["journal"],
+    place: Some("path"),
+};
+
+/// `verify`
+pub const VERIFY: Row<'static> = Row {
+    name: "verify",
+    options: &["journal"],
+    place: None,
+};
+
+/// The row of the command of this name.
+pub fn row_named(name: &str) -> Option<Row<'static>>
+    ensures { option_map row_of result ≡ option_map (λ v. v.row) (verb_named name.now) }
+{
+    if name == INIT.name {
+        return Some(INIT);
+    }
+    if name == SESSION.name {
+        return Some(SESSION);
+    }
+    if name == EXPORT.name {
+        return Some(EXPORT);
+    }
+    if name == VERIFY.name {
+        return Some(VERIFY);
+    }
+    None
+}
 
 impl<'a> Row<'a> {
     /// Whether it has an option of this name.

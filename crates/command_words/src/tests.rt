@@ -1,4 +1,4 @@
-use crate::{DEFAULT_CONFIG, Wanted, WordsFault, wanted};
+use crate::{DEFAULT_CONFIG, DEFAULT_JOURNAL, Wanted, WordsFault, wanted};
 use std::alloc::{AllocError, Global};
 use std::test::Fail;
 
@@ -11,32 +11,107 @@ fn words_of(alloc: Global, line: &str) -> Result<Vec<String>, AllocError> {
     Ok(words)
 }
 
-/// The configuration's file where the words are `session`, and none where they are refused.
-fn file_in<'a>(alloc: Global, words: &'a [String]) -> Result<Option<&'a str>, AllocError> {
-    match wanted(alloc, words) {
-        Ok(Wanted::Session { config }) => Ok(Some(config)),
+/// What the words are, written out, and none where they are refused.
+fn read(alloc: Global, line: &str) -> Result<Option<String>, AllocError> {
+    let words = words_of(alloc, line)?;
+    match wanted(alloc, words.as_slice()) {
+        Ok(command) => Ok(Some(text_of(alloc, &command)?)),
         Err(WordsFault::Refused) => Ok(None),
         Err(WordsFault::NoMemory) => Err(AllocError),
+    }
+}
+
+fn text_of(alloc: Global, command: &Wanted) -> Result<String, AllocError> {
+    match command {
+        Wanted::Init {
+            config,
+            journal,
+            lanes,
+        } => format!(in alloc; "init {config} {journal} {lanes}"),
+        Wanted::Session { config, journal } => format!(in alloc; "session {config} {journal}"),
+        Wanted::Export { path, journal } => {
+            format!(in alloc; "export {} {journal}", path.text())
+        }
+        Wanted::Verify { journal } => format!(in alloc; "verify {journal}"),
+    }
+}
+
+/// Whether the words of a line are this command, or are refused.
+fn is_read(alloc: Global, line: &str, command: Option<&str>) -> Result<bool, AllocError> {
+    let found = read(alloc, line)?;
+    match (&found, command) {
+        (Some(found), Some(command)) => Ok(found.as_str() == command),
+        (None, None) => Ok(true),
+        _ => Ok(false),
     }
 }
 
 #[test]
 fn commands_are_read(rt: HostRuntime) -> Result<(), Fail> {
     let alloc = rt.alloc();
-    for (line, file) in [
-        ("session", "hsds.toml"),
-        ("session|--config|a.toml", "a.toml"),
-        ("session|--config=a.toml", "a.toml"),
-        ("session|--config|a=b", "a=b"),
-        ("session|--config=a=b", "a=b"),
-        ("session|--config==", "="),
-        ("session|--config|session", "session"),
-        ("session|--config|/a/-b", "/a/-b"),
+    for (line, command) in [
+        ("session", "session hsds.toml hsds.journal"),
+        ("session|--config|a.toml", "session a.toml hsds.journal"),
+        ("session|--journal=j|--config=a=b", "session a=b j"),
+        (
+            "session|--config|session|--journal|/a/-b",
+            "session session /a/-b",
+        ),
+        ("session|--config==", "session = hsds.journal"),
+        ("verify", "verify hsds.journal"),
+        ("verify|--journal|j", "verify j"),
     ] {
-        let words = words_of(alloc, line)?;
-        assert!(rt; file_in(alloc, words.as_slice())? == Some(file), "{line}");
+        assert!(rt; is_read(alloc, line, Some(command))?, "{line}");
     }
     assert_eq!(rt; DEFAULT_CONFIG, "hsds.toml");
+    assert_eq!(rt; DEFAULT_JOURNAL, "hsds.journal");
+    Ok(())
+}
+
+#[test]
+fn lanes_are_one_to_sixteen(rt: HostRuntime) -> Result<(), Fail> {
+    let alloc = rt.alloc();
+    for (line, lanes) in [
+        ("init", "4"),
+        ("init|--lanes|1", "1"),
+        ("init|--lanes=4", "4"),
+        ("init|--lanes|16", "16"),
+        ("init|--lanes|0000000004", "4"),
+    ] {
+        let command = format!(in alloc; "init hsds.toml hsds.journal {lanes}")?;
+        assert!(rt; is_read(alloc, line, Some(command.as_str()))?, "{line}");
+    }
+    assert!(rt;
+        is_read(
+            alloc,
+            "init|--lanes|2|--journal|j|--config=c",
+            Some("init c j 2")
+        )?
+    );
+    for line in LANES_REFUSED.split('\n') {
+        assert!(rt; is_read(alloc, line, None)?, "{line}");
+    }
+    Ok(())
+}
+
+#[test]
+fn a_path_stands_at_its_place(rt: HostRuntime) -> Result<(), Fail> {
+    let alloc = rt.alloc();
+    for (line, command) in [
+        ("export|/home/lab", "export /home/lab hsds.journal"),
+        ("export|/", "export / hsds.journal"),
+        ("export|/lab/|--journal|j", "export /lab j"),
+        ("export|--journal|j|/lab", "export /lab j"),
+        ("export|--journal=j|/lab", "export /lab j"),
+        ("export|/lab|--journal=/lab", "export /lab /lab"),
+        ("export|/export", "export /export hsds.journal"),
+        ("export|/a=b/-c", "export /a=b/-c hsds.journal"),
+    ] {
+        assert!(rt; is_read(alloc, line, Some(command))?, "{line}");
+    }
+    for line in PATHS_REFUSED.split('\n') {
+        assert!(rt; is_read(alloc, line, None)?, "{line}");
+    }
     Ok(())
 }
 
@@ -44,13 +119,54 @@ fn commands_are_read(rt: HostRuntime) -> Result<(), Fail> {
 fn other_words_are_refused(rt: HostRuntime) -> Result<(), Fail> {
     let alloc = rt.alloc();
     let none = Vec::new(alloc);
-    assert!(rt; file_in(alloc, none.as_slice())? == None);
+    assert!(rt; wanted(alloc, none.as_slice()).is_err());
     for line in REFUSED.split('\n') {
-        let words = words_of(alloc, line)?;
-        assert!(rt; file_in(alloc, words.as_slice())? == None, "{line}");
+        assert!(rt; is_read(alloc, line, None)?, "{line}");
     }
     Ok(())
 }
+
+/// A row a line: numbers of lanes that aren't any.
+const LANES_REFUSED: &str = "init|--lanes|0
+init|--lanes|17
+init|--lanes|x
+init|--lanes|4x
+init|--lanes|+4
+init|--lanes|-4
+init|--lanes|4.0
+init|--lanes|
+init|--lanes=
+init|--lanes
+init|--lanes|00000000004
+init|--lanes|4294967300
+init|--lanes|4|--lanes|4
+init|--lanes=4|--lanes=4
+init|4";
+
+/// A row a line: no path, or more than one; and texts that are none.
+const PATHS_REFUSED: &str = "export
+export|--journal|j
+export|--journal
+export|/lab|--journal
+export|/lab|/lab
+export|/lab|b
+export|--journal|j|/lab|--journal|j
+export|/lab|--journal=j|--journal=j
+export|/lab|--config|c
+export|--path|/lab
+export|--path=/lab
+export|--|/lab
+export|/lab|--
+export|-/lab
+export|--/lab
+export|-
+export|
+export|lab
+export|help
+export|/lab//
+export|///
+export|/lab/../b
+export|/.";
 
 /// A row a line. The first is one empty word.
 const REFUSED: &str = "
@@ -82,8 +198,12 @@ session|--configs|a
 session|--Config|a
 session|-config|a
 session|-c|a
+session|-x
 session|--=a
-session|--journal|a
+session|--lanes|4
+verify|--config|a
+verify|a
+init|a
 session|--help
 session|-h
 session|help
@@ -102,9 +222,8 @@ help|session
 Session
 sessions
 sess
-init
 serve
-verify
-export|/home/lab
+exports|/home/lab
+/home/lab|export
 import|/home/lab
 sample|1";

@@ -1,16 +1,24 @@
 ghost use Rattle.std.specs.Prelude.{◌≡◌, ◌↔◌, Some, None, is_some, IfOk, IsErrOf};
 ghost use Rattle.std.specs.Prelude.{map, string_bytes};
-ghost use Rattle.command_words.specs.Commands.{Command, IsCommand, command_of};
-ghost use Rattle.command_words.specs.Seen.{seen};
+ghost use Rattle.command_words.specs.Commands.{Command, IsCommand, command_of, pieces_in};
+ghost use Rattle.command_words.specs.Seen.{Answers, HasLanes, seen};
 
 use crate::app::{chosen, matched};
 use crate::command::{Wanted, WordsFault};
 use crate::reader::is_line;
-use crate::row::SESSION;
+use crate::row::row_named;
 use std::alloc::{AllocError, Global};
 
-/// The command that the words are, with its values: `session`, or `session --config F`, where the
-/// option may also be written `--config=F`. F isn't empty and doesn't begin with `-`.
+/// The command that the words are, with its values:
+///
+/// - `init --config F --journal F --lanes N`, where N is 1 to 16, as 1 to 10 digits;
+/// - `session --config F --journal F`;
+/// - `export PATH --journal F`, where PATH is a path that [`read_path`](object_ids::read_path) reads;
+/// - `verify --journal F`.
+///
+/// The options and PATH stand in any order, each at most once and PATH exactly once; an option is
+/// `--name value` or `--name=value`. A value and PATH aren't empty and don't begin with `-`. Without
+/// its option the configuration's file is `hsds.toml`, the journal's `hsds.journal`, and N is 4.
 ///
 /// # Errors
 ///
@@ -19,6 +27,8 @@ pub fn wanted<'a>(alloc: Global, words: &'a [String]) -> Result<Wanted<'a>, Word
     ensures ok { IfOk result (λ w. command_of (map string_bytes words.entry.now) ≡ Some (seen w)) }
     ensures refused { IsErrOf result WordsFault.Refused
         → command_of (map string_bytes words.entry.now) ≡ None }
+
+    ensures lanes { IfOk result HasLanes }
 
     // The same by the parts of a line.
     ensures parts { (command : Command)
@@ -29,27 +39,27 @@ pub fn wanted<'a>(alloc: Global, words: &'a [String]) -> Result<Wanted<'a>, Word
 }
 
 fn read_words<'a>(alloc: Global, words: &'a [String]) -> Result<Wanted<'a>, WordsFault>
-    ensures ok { IfOk result (λ w. command_of (map string_bytes words.entry.now) ≡ Some (seen w)) }
-    ensures refused { IsErrOf result WordsFault.Refused
-        → command_of (map string_bytes words.entry.now) ≡ None }
+    ensures answer { Answers result (command_of (map string_bytes words.entry.now)) }
+    ensures lanes { IfOk result HasLanes }
 {
-    if !is_command(alloc, words)? {
+    if !is_line_of_a_command(alloc, words)? {
         return Err(WordsFault::Refused);
     }
     let Ok(matches) = matched(alloc, words) else {
         return Err(WordsFault::NoMemory);
     };
-    match chosen(&matches) {
-        Some(command) => Ok(command),
-        None => unreachable!(),
-    }
+    chosen(alloc, &matches)
 }
 
-fn is_command(alloc: Global, words: &[String]) -> Result<bool, AllocError>
-    ensures { IfOk result (λ b. b ≡ is_some (command_of (map string_bytes words.now))) }
+// Whether the words are a command's name and a line of its row, whatever its values.
+fn is_line_of_a_command(alloc: Global, words: &[String]) -> Result<bool, AllocError>
+    ensures { IfOk result (λ b. b ≡ is_some (pieces_in (map string_bytes words.now))) }
 {
-    match words.split_first() {
-        Some((name, rest)) if name.as_str() == SESSION.name => is_line(alloc, SESSION, rest),
-        _ => Ok(false),
+    let Some((name, rest)) = words.split_first() else {
+        return Ok(false);
+    };
+    match row_named(name.as_str()) {
+        Some(row) => is_line(alloc, row, rest),
+        None => Ok(false),
     }
 }
