@@ -29,13 +29,8 @@ pub fn document(alloc: Global, world: &World, path: &DomainPath) -> Result<Value
     ensures none { (result ≡ Err ExportFault.NoDomain) ↔ (doc (seen world.now) path.now ≡ None) }
     ensures large { result ≡ Err ExportFault.TooLarge → IsTooLong (doc (seen world.now) path.now) }
 {
-    match printed(alloc, world, path) {
-        Ok(printed) => {
-            let Printed { tree, .. } = printed;
-            Ok(tree)
-        }
-        Err(fault) => Err(fault),
-    }
+    let Printed { tree, .. } = printed(alloc, world, path)?;
+    Ok(tree)
 }
 
 /// The compact text of that document.
@@ -50,13 +45,8 @@ pub fn document_text(alloc: Global, world: &World, path: &DomainPath) -> Result<
     ensures none { (result ≡ Err ExportFault.NoDomain) ↔ (doc (seen world.now) path.now ≡ None) }
     ensures large { result ≡ Err ExportFault.TooLarge → IsTooLong (doc (seen world.now) path.now) }
 {
-    match printed(alloc, world, path) {
-        Ok(printed) => {
-            let Printed { text, .. } = printed;
-            Ok(text)
-        }
-        Err(fault) => Err(fault),
-    }
+    let Printed { text, .. } = printed(alloc, world, path)?;
+    Ok(text)
 }
 
 // The document at a path with its text, where there is one that isn't too long.
