@@ -1,9 +1,10 @@
 ghost use Rattle.std.specs.Prelude.{◌≡◌};
-ghost use Rattle.hsds_cli.specs.Status.{config_status, number_of, text_status, word_of};
+ghost use Rattle.hsds_cli.specs.Status.{config_status, export_status, number_of, text_status, word_of};
 ghost use Rattle.hsds_cli.specs.declared.status.Status.{Status};
 
 use crate::text::TextFault;
 use configuration::ConfigFault;
+use json_export::ExportFault;
 
 /// How a run of the program ends.
 #[derive(Clone, Copy, Debug, PartialEq, Eq)]
@@ -18,8 +19,18 @@ pub enum Status {
     ReadFault,
     /// The output had a fault.
     WriteFault,
+    /// The disk had a fault.
+    DiskFault,
+    /// No world stands on the disk.
+    NotAJournal,
+    /// No document is given.
+    Refused,
+    /// A journal stands on the disk already.
+    JournalExists,
     /// The input ended inside a request, or at one that ends the link.
     InputCut,
+    /// No run is left, or no room on the disk.
+    UsedUp,
     /// The link made as many requests as it may.
     Budget,
     /// There was no memory to begin with.
@@ -37,7 +48,12 @@ impl Status {
             Status::Configuration => 2,
             Status::ReadFault => 3,
             Status::WriteFault => 4,
+            Status::DiskFault => 5,
+            Status::NotAJournal => 6,
+            Status::Refused => 7,
+            Status::JournalExists => 8,
             Status::InputCut => 10,
+            Status::UsedUp => 11,
             Status::Budget => 12,
             Status::NoMemory => 13,
         }
@@ -67,6 +83,17 @@ impl From<ConfigFault> for Status {
     }
 }
 
+impl From<ExportFault> for Status {
+    ghost from_gives = { λ fault status. status ≡ export_status fault };
+
+    fn from(fault: ExportFault) -> Status {
+        match fault {
+            ExportFault::NoDomain | ExportFault::TooLarge => Status::Refused,
+            ExportFault::NoMemory => Status::NoMemory,
+        }
+    }
+}
+
 /// The word for an exit number, which the program prints to standard error.
 pub fn status_word(number: u8) -> &'static str
     ensures { (status : Status) → number ≡ number_of status → result.now ≡ word_of status }
@@ -77,7 +104,12 @@ pub fn status_word(number: u8) -> &'static str
         2 => "configuration",
         3 => "read-fault",
         4 => "write-fault",
+        5 => "disk-fault",
+        6 => "not-a-journal",
+        7 => "refused",
+        8 => "journal-exists",
         10 => "input-cut",
+        11 => "used-up",
         12 => "budget",
         _ => "no-memory",
     }

@@ -1,9 +1,15 @@
+//! Runs over streams and disks in memory, and what a link is answered in pieces, cut, at its limits and after faults.
+
 ghost use Rattle.std.specs.Prelude.{◌<◌};
 
 use crate::run::run;
-use edge_traits::{MemDoor, MemSink, MemSource, NoDisk};
+use edge_traits::{MemDisk, MemDoor, MemSink, MemSource};
+use kept_sessions::Closed;
 use std::alloc::{AllocError, Global};
 use std::test::Fail;
+
+/// The room of a disk.
+pub const ROOM: u64 = 1 << 24;
 
 /// A configuration with a folder and a domain.
 pub const LAB: &str = "[tokens]
@@ -103,24 +109,68 @@ const ONLY_GET: &str =
 const CREATED: &str =
     "HTTP/1.1 201 Created\r\nContent-Type: application/json\r\nContent-Length: 2\r\n\r\n{}";
 
-/// One `session` over streams in memory.
-fn session(
-    alloc: Global,
-    config: &[u8],
-    input: &[u8],
-    piece: usize,
-    failing: (&[u64], &[u64]),
-) -> Result<(u8, MemSink), AllocError>
-    requires { 0 < piece }
+/// What a run is given beside its words and its disk: the configuration, the input with how many of its bytes one read gives,
+/// and the numbers of the reads and writes that fail.
+#[derive(Clone, Copy)]
+pub struct Streams<'a> {
+    pub config: &'a [u8],
+    pub input: &'a [u8],
+    pub piece: usize,
+    pub reads: &'a [u64],
+    pub writes: &'a [u64],
+}
+
+/// A configuration, and an input without faults.
+pub fn plain<'a>(config: &'a str, input: &'a str) -> Streams<'a>
+    ensures { 0 < result.piece }
 {
-    let words = [String::from_str(alloc, "session")?];
-    let mut config = MemSource::new(Vec::from_slice(alloc, config)?, 4096, Vec::new(alloc));
+    Streams {
+        config: config.as_bytes(),
+        input: input.as_bytes(),
+        piece: 100_000,
+        reads: &[],
+        writes: &[],
+    }
+}
+
+/// What a run came to.
+#[derive(Drop)]
+pub struct Ran {
+    pub status: u8,
+    pub out: MemSink,
+    pub disk: MemDisk,
+    pub closed: Option<Closed>,
+}
+
+/// A disk that holds these bytes.
+pub fn disk_of(alloc: Global, bytes: &[u8], room: u64, failing: Vec<u64>) -> Result<MemDisk, Fail> {
+    if bytes.len() as u64 > room {
+        return Err(Fail::from("no room"));
+    }
+    Ok(MemDisk::new(alloc, bytes.to_vec(alloc)?, room, failing)?)
+}
+
+/// The words of a line, between its spaces.
+fn words_of(alloc: Global, line: &str) -> Result<Vec<String>, AllocError> {
+    let mut words = Vec::new(alloc);
+    for word in line.split(' ') {
+        words.push(String::from_str(alloc, word)?)?;
+    }
+    Ok(words)
+}
+
+/// One run of the words of a line on a disk.
+pub fn run_line(alloc: Global, line: &str, streams: Streams<'_>, disk: MemDisk) -> Result<Ran, Fail>
+    requires { 0 < streams.piece }
+{
+    let words = words_of(alloc, line)?;
+    let mut config = MemSource::new(streams.config.to_vec(alloc)?, 4096, Vec::new(alloc));
     let mut input = MemSource::new(
-        Vec::from_slice(alloc, input)?,
-        piece,
-        Vec::from_slice(alloc, failing.0)?,
+        streams.input.to_vec(alloc)?,
+        streams.piece,
+        streams.reads.to_vec(alloc)?,
     );
-    let mut out = MemSink::new(alloc, Vec::from_slice(alloc, failing.1)?);
+    let mut out = MemSink::new(alloc, streams.writes.to_vec(alloc)?);
     let doors: Vec<MemDoor> = Vec::new(alloc);
     let finished = run(
         alloc,
@@ -128,10 +178,52 @@ fn session(
         &mut config,
         &mut input,
         &mut out,
-        NoDisk::new(),
+        disk,
         doors,
     );
-    Ok((finished.status, out))
+    match finished.disk {
+        Some(disk) => Ok(Ran {
+            status: finished.status,
+            out,
+            disk,
+            closed: finished.closed,
+        }),
+        None => Err(Fail::from("no disk")),
+    }
+}
+
+/// A disk with the journal that `init` makes of a configuration for two lanes.
+pub fn made(alloc: Global, config: &str) -> Result<MemDisk, Fail> {
+    let disk = disk_of(alloc, b"", ROOM, Vec::new(alloc))?;
+    let done = run_line(alloc, "init --lanes 2", plain(config, ""), disk)?;
+    if done.status == 0 {
+        Ok(done.disk)
+    } else {
+        Err(Fail::from("no journal was made"))
+    }
+}
+
+/// The first `session` on a new journal of the laboratory.
+pub fn session(alloc: Global, streams: Streams<'_>) -> Result<Ran, Fail>
+    requires { 0 < streams.piece }
+{
+    run_line(alloc, "session", streams, made(alloc, LAB)?)
+}
+
+/// The same of one request after another, in pieces of so many bytes.
+fn in_pieces(alloc: Global, input: &[u8], piece: usize) -> Result<Ran, Fail>
+    requires { 0 < piece }
+{
+    session(
+        alloc,
+        Streams {
+            config: LAB.as_bytes(),
+            input,
+            piece,
+            reads: &[],
+            writes: &[],
+        },
+    )
 }
 
 #[test]
@@ -165,15 +257,9 @@ fn each_request_has_its_answer(rt: HostRuntime) -> Result<(), Fail> {
         ),
     ];
     for (request, status, answer) in cases {
-        let (got, out) = session(
-            rt.alloc(),
-            LAB.as_bytes(),
-            request.as_bytes(),
-            1000,
-            (&[], &[]),
-        )?;
-        assert_eq!(rt; got, status, "{request}");
-        assert!(rt; out.bytes() == answer.as_bytes(), "{request}");
+        let done = in_pieces(rt.alloc(), request.as_bytes(), 1000)?;
+        assert_eq!(rt; done.status, status, "{request}");
+        assert!(rt; done.out.bytes() == answer.as_bytes(), "{request}");
     }
     Ok(())
 }
@@ -195,39 +281,27 @@ fn a_link_ends_where_a_message_closes_it_or_is_none(rt: HostRuntime) -> Result<(
         ),
     ];
     for (request, status, answer) in cases {
-        let (got, out) = session(
-            rt.alloc(),
-            LAB.as_bytes(),
-            request.as_bytes(),
-            1000,
-            (&[], &[]),
-        )?;
-        assert_eq!(rt; got, status, "{request}");
-        assert!(rt; out.bytes() == answer.as_bytes(), "{request}");
+        let done = in_pieces(rt.alloc(), request.as_bytes(), 1000)?;
+        assert_eq!(rt; done.status, status, "{request}");
+        assert!(rt; done.out.bytes() == answer.as_bytes(), "{request}");
     }
     Ok(())
 }
+
+/// 64 blanks.
+const BLANKS: &str = "                                                                ";
+
+/// 62 of them.
+const FEWER: &str = "                                                              ";
 
 #[test]
 fn a_body_ends_at_its_limit(rt: HostRuntime) -> Result<(), Fail> {
     let front = "PUT /acls/bob HTTP/1.1\r\nAuthorization: Bearer ta\r\nX-Hdf-domain: /home/lab\r\n\
          Content-Length: 16777216\r\n\r\n{}";
-    let text = repeated(
-        rt.alloc(),
-        front,
-        "                ",
-        1_048_575,
-        "              ",
-    )?;
-    let (status, out) = session(
-        rt.alloc(),
-        LAB.as_bytes(),
-        text.as_bytes(),
-        1_000_000,
-        (&[], &[]),
-    )?;
-    assert_eq!(rt; status, 0);
-    assert!(rt; out.bytes() == CREATED.as_bytes());
+    let text = repeated(rt.alloc(), front, BLANKS, 262_143, FEWER)?;
+    let done = in_pieces(rt.alloc(), text.as_bytes(), 1_000_000)?;
+    assert_eq!(rt; done.status, 0);
+    assert!(rt; done.out.bytes() == CREATED.as_bytes());
     Ok(())
 }
 
@@ -244,15 +318,9 @@ fn a_stream_has_its_answers_in_whatever_pieces_it_comes(rt: HostRuntime) -> Resu
     )?;
     for piece in [1usize, 2, 61, 62, 100_000] {
         if piece > 0 {
-            let (status, out) = session(
-                rt.alloc(),
-                LAB.as_bytes(),
-                requests.as_bytes(),
-                piece,
-                (&[], &[]),
-            )?;
-            assert_eq!(rt; status, 0, "{piece}");
-            assert!(rt; out.bytes() == answers.as_bytes(), "{piece}");
+            let done = in_pieces(rt.alloc(), requests.as_bytes(), piece)?;
+            assert_eq!(rt; done.status, 0, "{piece}");
+            assert!(rt; done.out.bytes() == answers.as_bytes(), "{piece}");
         }
     }
     Ok(())
@@ -287,15 +355,9 @@ fn a_head_past_a_limit_is_refused(rt: HostRuntime) -> Result<(), Fail> {
         ("", "a", 8192, "", 10, HEAD_TOO_LONG),
     ] {
         let text = repeated(rt.alloc(), front, piece, count, end)?;
-        let (got, out) = session(
-            rt.alloc(),
-            LAB.as_bytes(),
-            text.as_bytes(),
-            100_000,
-            (&[], &[]),
-        )?;
-        assert_eq!(rt; got, status, "{piece} {count}");
-        assert!(rt; out.bytes() == answer.as_bytes(), "{piece} {count}");
+        let done = in_pieces(rt.alloc(), text.as_bytes(), 100_000)?;
+        assert_eq!(rt; done.status, status, "{piece} {count}");
+        assert!(rt; done.out.bytes() == answer.as_bytes(), "{piece} {count}");
     }
     Ok(())
 }
@@ -304,43 +366,38 @@ fn a_head_past_a_limit_is_refused(rt: HostRuntime) -> Result<(), Fail> {
 fn a_cut_request_has_no_answer(rt: HostRuntime) -> Result<(), Fail> {
     let request = BOB_READS.as_bytes();
     for length in 1..request.len() {
-        let (status, out) = session(
-            rt.alloc(),
-            LAB.as_bytes(),
-            &request[..length],
-            1000,
-            (&[], &[]),
-        )?;
-        assert_eq!(rt; status, 10, "{length}");
-        assert!(rt; out.bytes().is_empty(), "{length}");
+        let done = in_pieces(rt.alloc(), &request[..length], 1000)?;
+        assert_eq!(rt; done.status, 10, "{length}");
+        assert!(rt; done.out.bytes().is_empty(), "{length}");
     }
     Ok(())
+}
+
+/// Bob's request in pieces of ten bytes, with these reads and writes that fail.
+fn bob_reads<'a>(reads: &'a [u64], writes: &'a [u64]) -> Streams<'a>
+    ensures { 0 < result.piece }
+{
+    Streams {
+        config: LAB.as_bytes(),
+        input: BOB_READS.as_bytes(),
+        piece: 10,
+        reads,
+        writes,
+    }
 }
 
 #[test]
 fn a_fault_of_each_call_ends_the_session(rt: HostRuntime) -> Result<(), Fail> {
     // The request comes in seven pieces of ten bytes, and the eighth read finds the end.
     for call in 0..8u64 {
-        let (status, out) = session(
-            rt.alloc(),
-            LAB.as_bytes(),
-            BOB_READS.as_bytes(),
-            10,
-            (&[call], &[]),
-        )?;
-        assert_eq!(rt; status, 3, "read {call}");
+        let done = session(rt.alloc(), bob_reads(&[call], &[]))?;
+        assert_eq!(rt; done.status, 3, "read {call}");
         let answer = if call < 7 { "" } else { LAB_NODE };
-        assert!(rt; out.bytes() == answer.as_bytes(), "read {call}");
+        assert!(rt; done.out.bytes() == answer.as_bytes(), "read {call}");
     }
-    let (status, out) = session(
-        rt.alloc(),
-        LAB.as_bytes(),
-        BOB_READS.as_bytes(),
-        10,
-        (&[], &[0]),
-    )?;
-    assert_eq!(rt; status, 4);
-    assert!(rt; out.bytes().is_empty());
+    let done = session(rt.alloc(), bob_reads(&[], &[0]))?;
+    assert_eq!(rt; done.status, 4);
+    assert!(rt; done.out.bytes().is_empty());
     Ok(())
 }
 
@@ -353,15 +410,26 @@ fn empty_lines(alloc: Global, count: usize) -> Result<Vec<u8>, AllocError> {
     Ok(text)
 }
 
+/// The status of an `init` on an empty disk, and of a `session` on a new journal of the laboratory, by a configuration.
+fn statuses(alloc: Global, config: &[u8]) -> Result<(u8, u8), Fail> {
+    let given = Streams {
+        config,
+        input: &[],
+        piece: 10,
+        reads: &[],
+        writes: &[],
+    };
+    let disk = disk_of(alloc, b"", ROOM, Vec::new(alloc))?;
+    let init = run_line(alloc, "init", given, disk)?;
+    Ok((init.status, session(alloc, given)?.status))
+}
+
 #[test]
 fn a_configuration_ends_at_its_limit(rt: HostRuntime) -> Result<(), Fail> {
     let longest = empty_lines(rt.alloc(), 1 << 20)?;
-    let (status, _) = session(rt.alloc(), longest.as_slice(), b"", 10, (&[], &[]))?;
-    assert_eq!(rt; status, 0);
+    assert!(rt; statuses(rt.alloc(), longest.as_slice())? == (0, 0));
     let longer = empty_lines(rt.alloc(), (1 << 20) + 1)?;
-    let (status, _) = session(rt.alloc(), longer.as_slice(), b"", 10, (&[], &[]))?;
-    assert_eq!(rt; status, 2);
-    let (status, _) = session(rt.alloc(), b"x = 1", b"", 10, (&[], &[]))?;
-    assert_eq!(rt; status, 2);
+    assert!(rt; statuses(rt.alloc(), longer.as_slice())? == (2, 2));
+    assert!(rt; statuses(rt.alloc(), b"x = 1")? == (2, 2));
     Ok(())
 }

@@ -1,24 +1,24 @@
-use Rattle.std.proofs.Common.{◌≡◌, ◌⊎◌, ℕ, List, map, string_bytes, Global, subst, sym}
-use Rattle.hsds_cli.specs.Runs.{Sides}
-use Rattle.hsds_cli.proofs.RunLemmas.{complete}
+use Rattle.std.proofs.Common.{◌≡◌, ◌⊎◌, ◌∙◌, ℕ, Option, map, string_bytes, Global, sym, subst}
+use Rattle.command_words.specs.Commands.{Command, command_of}
+use Rattle.hsds_cli.specs.Completeness.{IsUndisturbed}
+use Rattle.hsds_cli.specs.Runs.{IsCommanded, MayBeUnkept}
+use Rattle.hsds_cli.specs.Sides.{Sides, sides_of}
+use Rattle.hsds_cli.proofs.ClosedLemmas.{kept_or_refused}
+use Rattle.hsds_cli.proofs.CompleteLemmas.{complete, ends}
 use Rattle.hsds_cli.proofs.run.run.Goals as goal
 
 pub returns-clause-complete : goal.returns-clause-complete
-returns-clause-complete g c = λ text made messages w t spelled l all few no_config no_input no_out.
-    let words : List (List ℕ) = map (string_bytes {Z = Global}) c.args.words.now in
-    let sides : Sides = record {
-      text = g.C.Source.left c.args.config.now;
-      left_before = g.S.Source.left c.args.input.now;
-      left_after = g.S.Source.left c.serve-status.new.input;
-      held_before = g.K.Sink.held c.args.out.now;
-      held_after = g.K.Sink.held c.serve-status.new.out;
-      config_before = g.C.Source.faults c.args.config.now;
-      config_after = g.C.Source.faults c.serve-status.new.config;
-      input_before = g.S.Source.faults c.args.input.now;
-      input_after = g.S.Source.faults c.serve-status.new.input;
-      out_before = g.K.Sink.faults c.args.out.now;
-      out_after = g.K.Sink.faults c.serve-status.new.out;
-    } in
-    let P : ℕ → Type 0 = λ n. (n ≡ 0) ⊎ (n ≡ 13) in
-    subst P (sym c.number.ensures)
-    (complete words sides c.serve-status.result text made messages c.serve-status.ensures.run w t spelled l all few no_config no_input no_out)
+returns-clause-complete g c = λ command after honest words is undisturbed.
+    let sides : Sides = sides_of g.C.Source g.S.Source g.K.Sink c.args.config.now c.obey-status.new.config c.args.input.now c.obey-status.new.input c.args.out.now c.obey-status.new.out in
+    let ran = subst (λ (o : Option Command). IsCommanded g.D.Disk o sides c.args.disk c.obey-status.result.disk c.obey-status.result.closed c.obey-status.result.status) words c.obey-status.ensures.run in
+    let back : after ≡ c.obey-status.result.disk = cc in
+    subst (λ (n : ℕ). (n ≡ 0) ⊎ (n ≡ 13)) (sym c.number.ensures)
+    (ends c.obey-status.result.status (complete g.D.Disk honest sides c.args.disk c.obey-status.result.disk c.obey-status.result.closed command c.obey-status.result.status ran
+    (subst (λ (disk : g.row.D.Denot). IsUndisturbed g.D.Disk command sides c.args.disk disk c.obey-status.result.closed) back undisturbed)))
+
+pub returns-clause-kept : goal.returns-clause-kept
+returns-clause-kept g c = λ closed is.
+    let sides : Sides = sides_of g.C.Source g.S.Source g.K.Sink c.args.config.now c.obey-status.new.config c.args.input.now c.obey-status.new.input c.args.out.now c.obey-status.new.out in
+    subst (λ (n : ℕ). (closed.kept ≡ closed.front) ⊎ MayBeUnkept n) (sym c.number.ensures)
+    (kept_or_refused g.D.Disk sides c.args.disk c.obey-status.result.disk c.obey-status.result.closed closed is (command_of (map (string_bytes {Z = Global}) c.args.words.now)) c.obey-status.result.status
+    c.obey-status.ensures.run)

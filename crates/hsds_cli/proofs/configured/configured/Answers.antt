@@ -1,8 +1,8 @@
 use Rattle.std.proofs.Common.{ap, sym, ◌∙◌}
 use Rattle.std.specs.Prelude.{option_and_then}
 use Rattle.configuration.specs.Configured.{config_of, document_in}
-use Rattle.hsds_cli.proofs.RunLemmas.{spells}
-use Rattle.hsds_cli.proofs.run.configured.Goals as goal
+use Rattle.hsds_cli.proofs.Configurations.{spells}
+use Rattle.hsds_cli.proofs.configured.configured.Goals as goal
 
 pub returns-clause-ok : goal.returns-clause-ok
 returns-clause-ok g c =

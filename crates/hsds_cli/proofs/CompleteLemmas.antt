@@ -1,0 +1,148 @@
+-- A command that finds what it needs ends as it should, or for want of memory.
+use Rattle.std.proofs.Common.{◌≡◌, ◌≢◌, ◌⊎◌, inl, inr, ℕ, ◌++◌, ◌∙◌, List, Option, Some, None, Result, Ok, Err, refl, sym, ap}
+use Rattle.std.specs.Io.KnownBytes.{Consumes}
+use Rattle.edge_traits.specs.declared.disk.Disk.{Ghosts}
+use Rattle.command_words.specs.Commands.{Command, export, init, session, verify}
+use Rattle.flush_journal.specs.declared.why.Why.{Why}
+use Rattle.flush_journal.specs.declared.why.Why.TheVariants as why
+use Rattle.link_service.specs.Links.{IsPeaceful, IsTranscript, spellings}
+use Rattle.link_service.specs.declared.end.LinkEnd.{LinkEnd}
+use Rattle.link_service.specs.declared.end.LinkEnd.TheVariants as end
+use Rattle.link_service.proofs.Readings.{peaceful}
+use Rattle.rest_session.specs.Sessions.{IsServed}
+use Rattle.kept_sessions.specs.declared.outcome.Closed.{Closed}
+use Rattle.hsds_cli.specs.declared.status.Status.{Status}
+use Rattle.hsds_cli.specs.declared.status.Status.TheVariants.{Done, Words, Configuration, ReadFault, WriteFault, DiskFault, NotAJournal, Refused, JournalExists, InputCut, UsedUp, Budget, NoMemory}
+use Rattle.hsds_cli.specs.Completeness.{IsConfigured, IsUndisturbed, IsWholeInput}
+use Rattle.hsds_cli.specs.Exports.{IsExported}
+use Rattle.hsds_cli.specs.Makings.{IsInit}
+use Rattle.hsds_cli.specs.Openings.{IsSession, IsVerified, Serves, status_after}
+use Rattle.hsds_cli.specs.Runs.{IsCommanded}
+use Rattle.hsds_cli.specs.Sides.{Sides, SpellsNone, configured}
+use Rattle.hsds_cli.specs.Status.{number_of}
+
+abbrev pub IsEnd : Status → Type 0
+IsEnd status = (status ≡ Done) ⊎ (status ≡ NoMemory)
+
+pub ends : (status : Status) → IsEnd status → (number_of status ≡ 0) ⊎ (number_of status ≡ 13)
+ends status (inl is) = inl (ap number_of is)
+ends status (inr is) = inr (ap number_of is)
+
+-- a text that spells a configuration spells some
+spelled : (text : Option (List ℕ)) → IsConfigured text → SpellsNone text → ⊥
+spelled text is none = by text is.told none where
+  by : (text : Option (List ℕ)) → text ≡ Some is.bytes → SpellsNone text → ⊥
+  by None told none = let no : None ≡ Some is.bytes = told in cc
+  by (Some x) told none =
+      let same : x ≡ is.bytes = cc in
+      let no : None ≡ Some is.config = sym none ∙ ap configured same ∙ is.spelled in cc
+
+-- a peaceful end is no cut, and none of the budget
+peaceful_status : (e : LinkEnd) (last : Result ℕ Why) → IsPeaceful e → (status_after e last ≢ InputCut) × (status_after e last ≢ Budget)
+peaceful_status e (Err why.DiskFault) peace = (λ is. let no : DiskFault ≡ InputCut = is in cc, λ is. let no : DiskFault ≡ Budget = is in cc)
+peaceful_status e (Err (why.JournalFull end need room)) peace = (λ is. let no : UsedUp ≡ InputCut = is in cc, λ is. let no : UsedUp ≡ Budget = is in cc)
+peaceful_status e (Err (why.NotAJournal at)) peace = (λ is. let no : NoMemory ≡ InputCut = is in cc, λ is. let no : NoMemory ≡ Budget = is in cc)
+peaceful_status e (Err why.Exists) peace = (λ is. let no : NoMemory ≡ InputCut = is in cc, λ is. let no : NoMemory ≡ Budget = is in cc)
+peaceful_status e (Err why.NoMemory) peace = (λ is. let no : NoMemory ≡ InputCut = is in cc, λ is. let no : NoMemory ≡ Budget = is in cc)
+peaceful_status end.Closed (Ok n) peace = (λ is. let no : Done ≡ InputCut = is in cc, λ is. let no : Done ≡ Budget = is in cc)
+peaceful_status (end.Cut unread) (Ok n) peace = absurd peace
+peaceful_status (end.Ended fault) (Ok n) peace = absurd peace
+peaceful_status end.ReadFault (Ok n) peace = (λ is. let no : ReadFault ≡ InputCut = is in cc, λ is. let no : ReadFault ≡ Budget = is in cc)
+peaceful_status end.WriteFault (Ok n) peace = (λ is. let no : WriteFault ≡ InputCut = is in cc, λ is. let no : WriteFault ≡ Budget = is in cc)
+peaceful_status end.Budget (Ok n) peace = absurd peace
+peaceful_status end.NoMemory (Ok n) peace = (λ is. let no : NoMemory ≡ InputCut = is in cc, λ is. let no : NoMemory ≡ Budget = is in cc)
+
+-- no room is left only where the last keeping found none
+full : (e : LinkEnd) (last : Result ℕ Why) → status_after e last ≡ UsedUp → (end : ℕ) × (need : ℕ) × (room : ℕ) × (last ≡ Err (why.JournalFull end need room))
+full e (Err why.DiskFault) is = absurd (let no : DiskFault ≡ UsedUp = is in cc)
+full e (Err (why.JournalFull end need room)) is = (end, need, room, refl)
+full e (Err (why.NotAJournal at)) is = absurd (let no : NoMemory ≡ UsedUp = is in cc)
+full e (Err why.Exists) is = absurd (let no : NoMemory ≡ UsedUp = is in cc)
+full e (Err why.NoMemory) is = absurd (let no : NoMemory ≡ UsedUp = is in cc)
+full end.Closed (Ok n) is = absurd (let no : Done ≡ UsedUp = is in cc)
+full (end.Cut unread) (Ok n) is = absurd (let no : InputCut ≡ UsedUp = is in cc)
+full (end.Ended fault) (Ok n) is = absurd (let no : InputCut ≡ UsedUp = is in cc)
+full end.ReadFault (Ok n) is = absurd (let no : ReadFault ≡ UsedUp = is in cc)
+full end.WriteFault (Ok n) is = absurd (let no : WriteFault ≡ UsedUp = is in cc)
+full end.Budget (Ok n) is = absurd (let no : Budget ≡ UsedUp = is in cc)
+full end.NoMemory (Ok n) is = absurd (let no : NoMemory ≡ UsedUp = is in cc)
+
+module _ {D : Type 0} (met : Ghosts D) (honest : met.honest) (sides : Sides) (before after : D) (closed : Option Closed) where
+  -- a link that was served over whole messages ended in peace
+  peace : (status : Status) (s : Serves met sides before after closed status) → IsWholeInput sides.left_before → IsPeaceful s.link_closed.end
+  peace status s whole = by_left sides.left_before sides.left_after whole.told s.served.consumed s.served.transcript where
+    by_left : (from to : Option (List ℕ)) → from ≡ Some (spellings whole.messages) → Consumes from to s.served.taken
+        → IsTranscript IsServed s.first s.served.taken s.served.sent to s.served.final s.link_closed.end → IsPeaceful s.link_closed.end
+    by_left None to told consumed t = absurd (let no : None ≡ Some (spellings whole.messages) = told in cc)
+    by_left (Some x) None told consumed t = absurd consumed
+    by_left (Some x) (Some y) told consumed t =
+        let same : x ≡ spellings whole.messages = cc in
+        peaceful IsServed s.first s.served.final whole.messages s.served.taken s.served.sent y s.link_closed.end whole.spelled whole.few (sym same ∙ consumed) t
+
+  of_init : (lanes : ℕ) (config journal : List ℕ) (status : Status) → IsInit met lanes sides before after status → IsUndisturbed met (init config journal lanes) sides before after closed → IsEnd status
+  of_init lanes config journal Done h u = inl refl
+  of_init lanes config journal NoMemory h u = inr refl
+  of_init lanes config journal Configuration h u = absurd (spelled sides.text u.finds.0 h.0)
+  of_init lanes config journal ReadFault h u = absurd (u.calm.config h.0)
+  of_init lanes config journal WriteFault h u = absurd (u.calm.out h.0)
+  of_init lanes config journal DiskFault h u = absurd (u.calm.disk h.0)
+  of_init lanes config journal JournalExists h u = absurd (u.finds.1 (h.0 honest))
+  of_init lanes config journal UsedUp h u = absurd (u.room h)
+  of_init lanes config journal Words h u = absurd h
+  of_init lanes config journal NotAJournal h u = absurd h
+  of_init lanes config journal Refused h u = absurd h
+  of_init lanes config journal InputCut h u = absurd h
+  of_init lanes config journal Budget h u = absurd h
+
+  of_verify : (journal : List ℕ) (status : Status) → IsVerified met sides before after status → IsUndisturbed met (verify journal) sides before after closed → IsEnd status
+  of_verify journal Done h u = inl refl
+  of_verify journal NoMemory h u = inr refl
+  of_verify journal WriteFault h u = absurd (u.calm.out h.0)
+  of_verify journal DiskFault h u = absurd (u.calm.disk h.0)
+  of_verify journal NotAJournal h u = absurd (u.finds.world (h.0 honest))
+  of_verify journal UsedUp h u = absurd (u.finds.run (h.0 honest))
+  of_verify journal Words h u = absurd h
+  of_verify journal Configuration h u = absurd h
+  of_verify journal ReadFault h u = absurd h
+  of_verify journal Refused h u = absurd h
+  of_verify journal JournalExists h u = absurd h
+  of_verify journal InputCut h u = absurd h
+  of_verify journal Budget h u = absurd h
+
+  of_export : (path journal : List ℕ) (status : Status) → IsExported met path sides before after status → IsUndisturbed met (export path journal) sides before after closed → IsEnd status
+  of_export path journal Done h u = inl refl
+  of_export path journal NoMemory h u = inr refl
+  of_export path journal WriteFault h u = absurd (u.calm.out h.0)
+  of_export path journal DiskFault h u = absurd (u.calm.disk h.0)
+  of_export path journal NotAJournal h u = absurd (u.finds.0.world (h.0 honest))
+  of_export path journal UsedUp h u = absurd (u.finds.0.run (h.0 honest))
+  of_export path journal Refused h u = absurd (u.finds.1 h.world (h.recovered honest) h.withheld)
+  of_export path journal Words h u = absurd h
+  of_export path journal Configuration h u = absurd h
+  of_export path journal ReadFault h u = absurd h
+  of_export path journal JournalExists h u = absurd h
+  of_export path journal InputCut h u = absurd h
+  of_export path journal Budget h u = absurd h
+
+  of_session : (config journal : List ℕ) (status : Status) → IsSession met sides before after closed status → IsUndisturbed met (session config journal) sides before after closed → IsEnd status
+  of_session config journal Done h u = inl refl
+  of_session config journal NoMemory h u = inr refl
+  of_session config journal Configuration h u = absurd (spelled sides.text u.finds.0 h.0)
+  of_session config journal ReadFault h u = absurd (elim h [ inl x ↦ u.calm.config x.0 | inr x ↦ u.calm.input x.0 ])
+  of_session config journal WriteFault h u = absurd (u.calm.out h.0)
+  of_session config journal DiskFault h u = absurd (u.calm.disk h.0)
+  of_session config journal NotAJournal h u = absurd (u.finds.1.world (h.2 honest))
+  of_session config journal InputCut h u = absurd ((peaceful_status h.link_closed.end h.last (peace InputCut h u.finds.2)).0 h.ended)
+  of_session config journal Budget h u = absurd ((peaceful_status h.link_closed.end h.last (peace Budget h u.finds.2)).1 h.ended)
+  of_session config journal UsedUp (inl (some, unserved, inl (none, same))) u = absurd (u.finds.1.run (none honest))
+  of_session config journal UsedUp (inl (some, unserved, inr unbegun)) u = absurd (u.room (inl unbegun))
+  of_session config journal UsedUp (inr s) u = let f = full s.link_closed.end s.last s.ended in absurd (u.room (inr (s, f.0, f.1, f.2, f.3)))
+  of_session config journal Words h u = absurd h
+  of_session config journal Refused h u = absurd h
+  of_session config journal JournalExists h u = absurd h
+
+  pub complete : (command : Command) (status : Status) → IsCommanded met (Some command) sides before after closed status → IsUndisturbed met command sides before after closed → IsEnd status
+  complete (init config journal lanes) status h u = of_init lanes config journal status h.0 u
+  complete (session config journal) status h u = of_session config journal status h u
+  complete (export path journal) status h u = of_export path journal status h.0 u
+  complete (verify journal) status h u = of_verify journal status h.0 u

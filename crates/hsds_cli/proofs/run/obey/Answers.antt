@@ -1,0 +1,67 @@
+use Rattle.std.proofs.Common.{◌≡◌, Option, Some, ap, sym, subst, ◌∙◌}
+use Rattle.command_words.specs.Commands.{Command, export, init, verify}
+use Rattle.command_words.specs.Seen.{seen}
+use Rattle.command_words.specs.declared.command.Wanted.{Wanted}
+use Rattle.hsds_cli.specs.Runs.{IsCommanded}
+use Rattle.hsds_cli.specs.Sides.{Sides}
+use Rattle.hsds_cli.proofs.run.obey.Goals as goal
+
+pub returns-in-Ok-Init-clause-run : goal.returns-in-Ok-Init-clause-run
+returns-in-Ok-Init-clause-run g c =
+    let sides : Sides = record {
+      text = g.C.Source.left c.args.config.now;
+      left_before = g.S.Source.left c.args.input.now;
+      left_after = g.S.Source.left c.args.input.now;
+      held_before = g.K.Sink.held c.args.out.now;
+      held_after = g.K.Sink.held c.init.new.out;
+      config_before = g.C.Source.faults c.args.config.now;
+      config_after = g.C.Source.faults c.init.new.config;
+      input_before = g.S.Source.faults c.args.input.now;
+      input_after = g.S.Source.faults c.args.input.now;
+      out_before = g.K.Sink.faults c.args.out.now;
+      out_after = g.K.Sink.faults c.init.new.out;
+    } in
+    subst (λ (o : Option Command). IsCommanded g.D.Disk o sides c.args.disk c.init.result.disk c.init.result.closed c.init.result.status) (sym (c.in-Ok-Init.ensures.ok ∙ ap (λ (w : Wanted). Some (seen w)) c.in-Ok-Init.field-0-is))
+    (c.init.ensures.init (g.S.Source.left c.args.input.now) (g.S.Source.faults c.args.input.now), c.init.ensures.closed)
+
+pub returns-in-Ok-Export-clause-run : goal.returns-in-Ok-Export-clause-run
+returns-in-Ok-Export-clause-run g c =
+    let sides : Sides = record {
+      text = g.C.Source.left c.args.config.now;
+      left_before = g.S.Source.left c.args.input.now;
+      left_after = g.S.Source.left c.args.input.now;
+      held_before = g.K.Sink.held c.args.out.now;
+      held_after = g.K.Sink.held c.export.new.out;
+      config_before = g.C.Source.faults c.args.config.now;
+      config_after = g.C.Source.faults c.args.config.now;
+      input_before = g.S.Source.faults c.args.input.now;
+      input_after = g.S.Source.faults c.args.input.now;
+      out_before = g.K.Sink.faults c.args.out.now;
+      out_after = g.K.Sink.faults c.export.new.out;
+    } in
+    subst (λ (o : Option Command). IsCommanded g.D.Disk o sides c.args.disk c.export.result.disk c.export.result.closed c.export.result.status) (sym (c.in-Ok-Export.ensures.ok ∙ ap (λ (w : Wanted). Some (seen w)) c.in-Ok-Export.field-0-is)) (
+      c.export.ensures.exported (g.C.Source.left c.args.config.now) (g.S.Source.left c.args.input.now) (g.C.Source.faults c.args.config.now) (g.S.Source.faults c.args.input.now),
+      c.export.ensures.bytes,
+      c.export.ensures.closed,
+    )
+
+pub returns-in-Ok-Verify-clause-run : goal.returns-in-Ok-Verify-clause-run
+returns-in-Ok-Verify-clause-run g c =
+    let sides : Sides = record {
+      text = g.C.Source.left c.args.config.now;
+      left_before = g.S.Source.left c.args.input.now;
+      left_after = g.S.Source.left c.args.input.now;
+      held_before = g.K.Sink.held c.args.out.now;
+      held_after = g.K.Sink.held c.verify.new.out;
+      config_before = g.C.Source.faults c.args.config.now;
+      config_after = g.C.Source.faults c.args.config.now;
+      input_before = g.S.Source.faults c.args.input.now;
+      input_after = g.S.Source.faults c.args.input.now;
+      out_before = g.K.Sink.faults c.args.out.now;
+      out_after = g.K.Sink.faults c.verify.new.out;
+    } in
+    subst (λ (o : Option Command). IsCommanded g.D.Disk o sides c.args.disk c.verify.result.disk c.verify.result.closed c.verify.result.status) (sym (c.in-Ok-Verify.ensures.ok ∙ ap (λ (w : Wanted). Some (seen w)) c.in-Ok-Verify.field-0-is)) (
+      c.verify.ensures.verified (g.C.Source.left c.args.config.now) (g.S.Source.left c.args.input.now) (g.C.Source.faults c.args.config.now) (g.S.Source.faults c.args.input.now),
+      c.verify.ensures.bytes,
+      c.verify.ensures.closed,
+    )

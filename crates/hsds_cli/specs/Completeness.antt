@@ -1,0 +1,74 @@
+-- When a command can end only as it should, or for want of memory.
+--     Finds met command sides before      what the command needs stands there
+--     IsCalm met sides before after      no count of faults rose
+--     MeetsRoom met command sides before after closed      a keeping was refused for want of room
+use Rattle.std.specs.Prelude.{◌≡◌, ◌≢◌, ◌⊎◌, ℕ, ◌<◌, List, take, length, Option, Some, Err}
+use Rattle.edge_traits.specs.Causes.{Rose}
+use Rattle.edge_traits.specs.declared.disk.Disk.{Ghosts}
+use Rattle.command_words.specs.Commands.{Command, export, init, session, verify}
+use Rattle.configuration.specs.declared.config.Config.{Config}
+use Rattle.flush_journal.specs.Files.{magic}
+use Rattle.flush_journal.specs.declared.why.Why.TheVariants as why
+use Rattle.http_wire.specs.Messages.{RequestMessage}
+use Rattle.json_export.specs.Documents.{doc}
+use Rattle.kept_journals.specs.Opening.{IsOf}
+use Rattle.kept_sessions.specs.Sessions.{IsRecovered, IsUnbegun}
+use Rattle.kept_sessions.specs.declared.outcome.Closed.{Closed}
+use Rattle.link_service.specs.Links.{AllSpelled, spellings}
+use Rattle.link_service.specs.declared.end.TheConstants.{BUDGET}
+use Rattle.hsds_cli.specs.declared.status.Status.TheVariants.{UsedUp}
+use Rattle.service_core.specs.Steps.{World}
+use Rattle.hsds_cli.specs.Exports.{IsWithheld}
+use Rattle.hsds_cli.specs.Makings.{MakesNone}
+use Rattle.hsds_cli.specs.Openings.{HasNoRun, HasNoWorld, Serves}
+use Rattle.hsds_cli.specs.Sides.{ConfigFailed, InputFailed, OutFailed, Sides, configured}
+
+-- the text is told, and spells a configuration
+pub record IsConfigured (text : Option (List ℕ)) : Type 0 where
+  pub bytes : List ℕ
+  pub told : text ≡ Some bytes
+  pub config : Config
+  pub spelled : configured bytes ≡ Some config
+
+-- the input is told, and is whole messages, fewer than a link may make
+pub record IsWholeInput (left : Option (List ℕ)) : Type 0 where
+  pub messages : List RequestMessage
+  pub told : left ≡ Some (spellings messages)
+  pub spelled : AllSpelled messages
+  pub few : length messages < BUDGET
+
+-- the bytes are a journal that keeps a world, and a run is left
+pub record IsOpenable (file : List ℕ) : Type 0 where
+  pub world : HasNoWorld file → ⊥
+  pub run : HasNoRun file → ⊥
+
+-- the world that the journal keeps has a document at the path that may be given
+abbrev pub HasDocument : List ℕ → List ℕ → Type 0
+HasDocument file path = (w : World) → IsOf file (λ c. IsRecovered c.held w) → IsWithheld (doc w path) → ⊥
+
+abbrev pub Finds : {D : Type 0} (met : Ghosts D) → Command → Sides → D → Type 0
+Finds met (init config journal lanes) sides before = IsConfigured sides.text × (take 8 (met.reads before) ≢ magic)
+Finds met (session config journal) sides before = IsConfigured sides.text × IsOpenable (met.reads before) × IsWholeInput sides.left_before
+Finds met (export path journal) sides before = IsOpenable (met.reads before) × HasDocument (met.reads before) path
+Finds met (verify journal) sides before = IsOpenable (met.reads before)
+
+pub record IsCalm {D : Type 0} (met : Ghosts D) (sides : Sides) (before after : D) : Type 0 where
+  pub config : ConfigFailed sides → ⊥
+  pub input : InputFailed sides → ⊥
+  pub out : OutFailed sides → ⊥
+  pub disk : Rose (met.faults before) (met.faults after) → ⊥
+
+abbrev pub MeetsRoom : {D : Type 0} (met : Ghosts D) → Command → Sides → D → D → Option Closed → Type 0
+MeetsRoom met (init config journal lanes) sides before after closed =
+    (end : ℕ) × (need : ℕ) × (room : ℕ) × MakesNone met sides before after (why.JournalFull end need room)
+MeetsRoom met (session config journal) sides before after closed =
+    ((end : ℕ) × (need : ℕ) × (room : ℕ) × IsUnbegun met before after (why.JournalFull end need room))
+    ⊎ ((s : Serves met sides before after closed UsedUp) × (end : ℕ) × (need : ℕ) × (room : ℕ) × (s.last ≡ Err (why.JournalFull end need room)))
+MeetsRoom met (export path journal) sides before after closed = ⊥
+MeetsRoom met (verify journal) sides before after closed = ⊥
+
+-- the command finds what it needs, nothing fails, and each keeping has room
+pub record IsUndisturbed {D : Type 0} (met : Ghosts D) (command : Command) (sides : Sides) (before after : D) (closed : Option Closed) : Type 0 where
+  pub finds : Finds met command sides before
+  pub calm : IsCalm met sides before after
+  pub room : MeetsRoom met command sides before after closed → ⊥
