@@ -1,0 +1,16 @@
+use Rattle.std.proofs.Common.{ap, ◌∙◌}
+use Rattle.std.specs.FinMap.{get}
+use Rattle.service_core.specs.Worlds.{seen}
+use Rattle.fresh_objects.proofs.LawLemmas.{others_stay}
+use Rattle.domain_imports.specs.Adopted.{root_at}
+use Rattle.domain_imports.proofs.DomainLemmas.{domain_there}
+use Rattle.domain_imports.proofs.adoption.adopt.Goals as goal
+
+pub returns-clause-domain : goal.returns-clause-domain
+returns-clause-domain c =
+    domain_there c.args.world.now.door c.make_domain.new.world.door c.args.path.now c.args.owner.now c.args.loaded c.in_ok-make_domain.ensures.door
+
+pub returns-clause-others : goal.returns-clause-others
+returns-clause-others c = λ q other.
+    let old = c.args.world.now in
+    ap (λ m. get m q) c.in_ok-make_domain.ensures.objects ∙ others_stay c.args.loaded (root_at old.door) (seen old).objects q other

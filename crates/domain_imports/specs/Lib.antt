@@ -1,0 +1,3 @@
+pub mod Adopted
+pub mod Faults
+pub mod Placing

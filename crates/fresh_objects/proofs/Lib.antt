@@ -1,0 +1,7 @@
+pub mod LawLemmas
+pub mod LoadedLemmas
+pub mod NameLemmas
+pub mod ObjectLemmas
+pub mod PutLemmas
+pub mod StandingLemmas
+pub mod TakingLemmas

@@ -1,0 +1,10 @@
+use Rattle.std.proofs.Common.{◌≡◌, OnOk, string_bytes, subst, sym}
+use Rattle.fresh_objects.specs.Names.{name_each}
+use Rattle.fresh_objects.proofs.NameLemmas.{keys_keyed}
+use Rattle.fresh_objects.proofs.names.name_each.Goals as goal
+
+pub returns : goal.returns
+returns g c =
+    subst (λ texts. OnOk c.name_tree.result (c.name_tree.new.naming ≡ name_each c.args.kind c.args.naming.now texts))
+    (sym (keys_keyed string_bytes c.args.objects.now c.as_tree.result.now.entries c.as_tree.ensures))
+    c.name_tree.ensures

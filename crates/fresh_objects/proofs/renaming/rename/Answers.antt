@@ -1,0 +1,28 @@
+use Rattle.std.proofs.Common.{◌≡◌, ◌+◌, option_map, ap, ◌∙◌}
+use Rattle.std.specs.FinMap.{get, keys, len, remove}
+use Rattle.object_ids.specs.declared.ids.Kind.TheVariants as kind
+use Rattle.fresh_objects.specs.Names.{name_each, names_of, root_named}
+use Rattle.fresh_objects.specs.Renamed.{group_object}
+use Rattle.fresh_objects.proofs.ObjectLemmas.{under_count}
+use Rattle.fresh_objects.proofs.renaming.rename.Goals as goal
+
+pub returns-clause-root : goal.returns-clause-root
+returns-clause-root c =
+    let l = c.args.loaded in
+    let rest = c.remove-top.ensures.rest ∙ ap (remove l.groups) c.text-2.ensures in
+    let top = c.remove-top.ensures.value ∙ ap (get l.groups) c.text-2.ensures in
+    let names : c.in_ok-ids.ids.names ≡ names_of l c.args.root =
+    c.in_ok-ids.ensures.names
+    ∙ (λ i. (name_each kind.Datatype
+    (name_each kind.Dataset
+    (name_each kind.Group (root_named (c.text-3.ensures i) c.args.root) (keys (rest i)))
+    (keys l.datasets))
+    (keys l.datatypes)).names) in
+    c.in_ok-root.ensures ∙ (λ i. option_map (group_object (names i) (c.in_ok-ids.ensures.root i)) (top i))
+
+pub returns-clause-many : goal.returns-clause-many
+returns-clause-many c =
+    let l = c.args.loaded in
+    let rest = c.remove-top.ensures.rest ∙ ap (remove l.groups) c.text-2.ensures in
+    under_count c.in_ok-ids.ids.names c.in_ok-ids.ids.root c.remove-top.new.self l.datasets l.datatypes
+    ∙ ap (λ g. len g + (len l.datasets + len l.datatypes)) rest
