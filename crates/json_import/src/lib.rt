@@ -7,13 +7,21 @@
 #![tactic(auto)]
 
 mod collections;
+#[cfg(test)]
+mod fault_tests;
 mod laws;
 mod loaded;
+#[cfg(test)]
+mod loaded_tests;
 mod objects;
+#[cfg(test)]
+mod order_tests;
 mod parsing;
 mod reading;
 #[cfg(test)]
 mod tests;
+#[cfg(test)]
+mod trials;
 
 pub use document_parts::{
     DocCause, DocFault, DocPath, FreshArray, IdText, SoundType, Target, Targets,

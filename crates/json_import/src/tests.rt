@@ -1,23 +1,8 @@
 use super::*;
+use crate::trials::{DATASET, GROUP, Row, WHOLE, is_told, joined, repeated, tell};
 use std::alloc::{AllocError, Global};
 
-// A document, the path of its fault, and the cause; none where it is read.
-type Row = (&'static str, &'static str, Option<DocCause>);
-
-fn is_told(alloc: Global, document: &str, path: &str, cause: Option<DocCause>) -> bool {
-    match read_document(alloc, document.as_bytes()) {
-        Ok(_) => cause.is_none(),
-        Err(DocFault::NoMemory) => false,
-        Err(
-            DocFault::Refused {
-                path: at,
-                cause: told,
-            },
-        ) => cause == Some(told) && at.text() == path,
-    }
-}
-
-const WHOLE: [Row; 10] = [
+const DOCUMENTS: [Row; 10] = [
     ("{\"groups\":{\"g\":{}},\"root\":\"g\"}", "", None),
     (
         "{\"apiVersion\":\"9\",\"alias\":[\"/x\"],\"datasets\":{},\"datatypes\":{},\"groups\":{\"g\":{\"alias\":[\"/\"],\"id\":1}},\"id\":3,\"root\":\"g\"}",
@@ -49,13 +34,6 @@ const WHOLE: [Row; 10] = [
         Some(DocCause::NotADocument),
     ),
 ];
-
-#[test]
-fn whole_documents(rt: HostRuntime) {
-    for (document, path, cause) in WHOLE.iter() {
-        assert!(rt; is_told(rt.alloc(), document, path, *cause), "{document}");
-    }
-}
 
 const COLLECTIONS: [Row; 10] = [
     (
@@ -111,28 +89,9 @@ const COLLECTIONS: [Row; 10] = [
 ];
 
 #[test]
-fn collections_and_ids(rt: HostRuntime) {
-    for (document, path, cause) in COLLECTIONS.iter() {
-        assert!(rt; is_told(rt.alloc(), document, path, *cause), "{document}");
-    }
-}
-
-// The document of one group.
-fn is_group_told(alloc: Global, group: &str, path: &str, cause: Option<DocCause>) -> bool {
-    let Ok(document) = group_document(alloc, group) else {
-        return false;
-    };
-    is_told(alloc, document.as_str(), path, cause)
-}
-
-fn group_document(alloc: Global, group: &str) -> Result<String, AllocError> {
-    let mut text = String::from_str(
-        alloc,
-        "{\"datasets\":{\"d\":{\"type\":\"H5T_STD_I8LE\"}},\"groups\":{\"g\":",
-    )?;
-    text.push_str(group)?;
-    text.push_str("},\"root\":\"g\"}")?;
-    Ok(text)
+fn documents_and_collections(rt: HostRuntime) -> Result<(), AllocError> {
+    tell(&rt, &WHOLE, &DOCUMENTS)?;
+    tell(&rt, &WHOLE, &COLLECTIONS)
 }
 
 const ATTRIBUTES: [Row; 10] = [
@@ -143,57 +102,50 @@ const ATTRIBUTES: [Row; 10] = [
     ),
     (
         "{\"attributes\":{},\"links\":7}",
-        "groups/g/attributes",
+        "/attributes",
         Some(DocCause::NotADocument),
     ),
     (
         "{\"attributes\":[null]}",
-        "groups/g/attributes/0",
+        "/attributes/0",
         Some(DocCause::NotADocument),
     ),
     (
         "{\"attributes\":[{\"type\":\"x\"}]}",
-        "groups/g/attributes/0/name",
+        "/attributes/0/name",
         Some(DocCause::BadName),
     ),
     (
         "{\"attributes\":[{\"name\":\"a\",\"type\":\"H5T_STD_I8LE\",\"value\":1},{\"name\":\"a\",\"type\":\"x\"}]}",
-        "groups/g/attributes/1/name",
+        "/attributes/1/name",
         Some(DocCause::BadName),
     ),
     (
         "{\"attributes\":[{\"name\":\"a\",\"shape\":\"x\"}]}",
-        "groups/g/attributes/0/type",
+        "/attributes/0/type",
         Some(DocCause::BadType),
     ),
     (
         "{\"attributes\":[{\"name\":\"a\",\"type\":\"H5T_STD_I8LE\",\"shape\":\"x\"}]}",
-        "groups/g/attributes/0/shape",
+        "/attributes/0/shape",
         Some(DocCause::BadShape),
     ),
     (
         "{\"attributes\":[{\"name\":\"a\",\"type\":\"H5T_STD_I8LE\",\"shape\":[65537],\"value\":7}]}",
-        "groups/g/attributes/0/value",
+        "/attributes/0/value",
         Some(DocCause::Limit),
     ),
     (
         "{\"attributes\":[{\"name\":\"a\",\"type\":\"H5T_STD_I8LE\"}]}",
-        "groups/g/attributes/0/value",
+        "/attributes/0/value",
         Some(DocCause::BadValue),
     ),
     (
         "{\"attributes\":[{\"name\":\"a\",\"type\":\"H5T_STD_I8LE\",\"value\":128}]}",
-        "groups/g/attributes/0/value",
+        "/attributes/0/value",
         Some(DocCause::BadValue),
     ),
 ];
-
-#[test]
-fn attributes_in_order(rt: HostRuntime) {
-    for (group, path, cause) in ATTRIBUTES.iter() {
-        assert!(rt; is_group_told(rt.alloc(), group, path, *cause), "{group}");
-    }
-}
 
 const LINKS: [Row; 10] = [
     (
@@ -201,141 +153,109 @@ const LINKS: [Row; 10] = [
         "",
         None,
     ),
-    (
-        "{\"links\":7}",
-        "groups/g/links",
-        Some(DocCause::NotADocument),
-    ),
-    (
-        "{\"links\":[[]]}",
-        "groups/g/links/0",
-        Some(DocCause::NotADocument),
-    ),
+    ("{\"links\":7}", "/links", Some(DocCause::NotADocument)),
+    ("{\"links\":[[]]}", "/links/0", Some(DocCause::NotADocument)),
     (
         "{\"links\":[{\"id\":\"g\"}]}",
-        "groups/g/links/0/title",
+        "/links/0/title",
         Some(DocCause::BadName),
     ),
     (
         "{\"links\":[{\"title\":\"a/b\"}]}",
-        "groups/g/links/0/title",
+        "/links/0/title",
         Some(DocCause::BadName),
     ),
     (
         "{\"links\":[{\"title\":\"a\",\"id\":\"g\"},{\"title\":\"a\",\"id\":\"h\"}]}",
-        "groups/g/links/1/title",
+        "/links/1/title",
         Some(DocCause::BadName),
     ),
     (
         "{\"links\":[{\"title\":\"a\",\"id\":\"h\"}]}",
-        "groups/g/links/0",
+        "/links/0",
         Some(DocCause::BadLink),
     ),
     (
         "{\"links\":[{\"title\":\"a\",\"id\":1,\"h5path\":\"/x\"}]}",
-        "groups/g/links/0",
+        "/links/0",
         Some(DocCause::BadLink),
     ),
     (
         "{\"links\":[{\"title\":\"a\",\"h5path\":\"\"}]}",
-        "groups/g/links/0",
+        "/links/0",
         Some(DocCause::BadLink),
     ),
     (
         "{\"links\":[{\"title\":\"a\",\"h5path\":\"/x\",\"file\":\"\"}]}",
-        "groups/g/links/0",
+        "/links/0",
         Some(DocCause::BadLink),
     ),
 ];
 
 #[test]
-fn links_in_order(rt: HostRuntime) {
-    for (group, path, cause) in LINKS.iter() {
-        assert!(rt; is_group_told(rt.alloc(), group, path, *cause), "{group}");
-    }
-}
-
-// The document of one dataset.
-fn is_dataset_told(alloc: Global, dataset: &str, path: &str, cause: Option<DocCause>) -> bool {
-    let Ok(document) = dataset_document(alloc, dataset) else {
-        return false;
-    };
-    is_told(alloc, document.as_str(), path, cause)
-}
-
-fn dataset_document(alloc: Global, dataset: &str) -> Result<String, AllocError> {
-    let mut text = String::from_str(alloc, "{\"datasets\":{\"d\":")?;
-    text.push_str(dataset)?;
-    text.push_str("},\"groups\":{\"g\":{}},\"root\":\"g\"}")?;
-    Ok(text)
+fn groups_are_told(rt: HostRuntime) -> Result<(), AllocError> {
+    tell(&rt, &GROUP, &ATTRIBUTES)?;
+    tell(&rt, &GROUP, &LINKS)
 }
 
 const DATASETS: [Row; 10] = [
     (
         "{\"attributes\":7}",
-        "datasets/d/attributes",
+        "/attributes",
         Some(DocCause::NotADocument),
     ),
-    (
-        "{\"shape\":\"x\"}",
-        "datasets/d/type",
-        Some(DocCause::BadType),
-    ),
+    ("{\"shape\":\"x\"}", "/type", Some(DocCause::BadType)),
     (
         "{\"type\":\"H5T_STD_I24LE\",\"shape\":\"x\"}",
-        "datasets/d/type",
+        "/type",
         Some(DocCause::BadType),
     ),
     (
         "{\"type\":\"H5T_STD_I8LE\",\"shape\":[],\"creationProperties\":7}",
-        "datasets/d/shape",
+        "/shape",
         Some(DocCause::BadShape),
     ),
     (
         "{\"type\":\"H5T_STD_I8LE\",\"shape\":[2],\"creationProperties\":7,\"value\":7}",
-        "datasets/d/creationProperties",
+        "/creationProperties",
         Some(DocCause::BadLayout),
     ),
     (
         "{\"type\":\"H5T_STD_I8LE\",\"shape\":[2],\"creationProperties\":{\"layout\":{\"class\":\"x\"},\"filters\":7}}",
-        "datasets/d/creationProperties/layout",
+        "/creationProperties/layout",
         Some(DocCause::BadLayout),
     ),
     (
         "{\"type\":\"H5T_STD_I8LE\",\"creationProperties\":{\"filters\":[1],\"fillValue\":\"x\"}}",
-        "datasets/d/creationProperties/filters",
+        "/creationProperties/filters",
         Some(DocCause::BadLayout),
     ),
     (
         "{\"type\":\"H5T_STD_I8LE\",\"creationProperties\":{\"filters\":[],\"fillValue\":\"x\"},\"value\":\"x\"}",
-        "datasets/d/creationProperties/fillValue",
+        "/creationProperties/fillValue",
         Some(DocCause::BadLayout),
     ),
     (
         "{\"type\":\"H5T_STD_I8LE\",\"shape\":[2],\"value\":[1]}",
-        "datasets/d/value",
+        "/value",
         Some(DocCause::BadValue),
     ),
     (
         "{\"type\":\"H5T_STD_I8LE\",\"shape\":\"H5S_NULL\",\"value\":0}",
-        "datasets/d/value",
+        "/value",
         Some(DocCause::BadValue),
     ),
 ];
 
 #[test]
-fn datasets_in_order(rt: HostRuntime) {
-    for (dataset, path, cause) in DATASETS.iter() {
-        assert!(rt;
-            is_dataset_told(rt.alloc(), dataset, path, *cause),
-            "{dataset}"
-        );
-    }
+fn datasets_are_told(rt: HostRuntime) -> Result<(), AllocError> {
+    tell(&rt, &DATASET, &DATASETS)
 }
 
 // The bytes of the first cells of the dataset `d`, where the document is read.
 fn cells(alloc: Global, dataset: &str, many: u64) -> Option<Vec<u8>> {
-    let document = dataset_document(alloc, dataset).ok()?;
+    let (front, behind, _) = DATASET;
+    let document = joined(alloc, front, dataset, behind).ok()?;
     let loaded = read_document(alloc, document.as_str().as_bytes()).ok()?;
     let array = loaded.datasets.get("d")?.array.array();
     array.is_whole();
@@ -383,22 +303,6 @@ fn values_stand_in_the_cells(rt: HostRuntime) {
             assert!(rt; found.as_slice() == *bytes, "{dataset}");
         }
     }
-}
-
-// A text with a piece in its middle, so many times.
-fn repeated(
-    alloc: Global,
-    front: &str,
-    piece: &str,
-    times: usize,
-    behind: &str,
-) -> Result<String, AllocError> {
-    let mut text = String::from_str(alloc, front)?;
-    for _ in 0..times {
-        text.push_str(piece)?;
-    }
-    text.push_str(behind)?;
-    Ok(text)
 }
 
 // How long the path of a document's fault is, and the cause.
@@ -492,5 +396,169 @@ fn limits_are_told(rt: HostRuntime) -> Result<(), AllocError> {
         assert!(rt; why == Some(*cause), "{front}");
         assert_eq!(rt; told, *length, "{front}");
     }
+    Ok(())
+}
+
+const LONGER: [(&str, &str, usize, &str, usize, DocCause); 15] = [
+    (
+        r#"{"datasets":{""#,
+        "a",
+        256,
+        r#"":{}}}"#,
+        265,
+        DocCause::NotADocument,
+    ),
+    (
+        r#"{"datatypes":{""#,
+        "a",
+        256,
+        r#"":{}}}"#,
+        266,
+        DocCause::NotADocument,
+    ),
+    (
+        r#"{"groups":{""#,
+        "\u{e9}",
+        128,
+        r#"":{}}}"#,
+        263,
+        DocCause::NotADocument,
+    ),
+    (
+        r#"{"datasets":{""#,
+        "a",
+        255,
+        r#"":{}}}"#,
+        269,
+        DocCause::BadType,
+    ),
+    (
+        r#"{"datatypes":{""#,
+        "a",
+        255,
+        r#"":{}}}"#,
+        270,
+        DocCause::BadType,
+    ),
+    (
+        r#"{"datasets":{""#,
+        "\u{1f600}",
+        600,
+        r#"":{}}}"#,
+        1021,
+        DocCause::NotADocument,
+    ),
+    (
+        r#"{"groups":{"g":{"attributes":[{"type":"H5T_STD_I8LE","value":1,"name":""#,
+        "a",
+        256,
+        r#""}]}},"root":7}"#,
+        26,
+        DocCause::BadName,
+    ),
+    (
+        r#"{"groups":{"g":{"attributes":[{"type":"H5T_STD_I8LE","value":1,"name":""#,
+        "a",
+        255,
+        r#""}]}},"root":7}"#,
+        4,
+        DocCause::NotADocument,
+    ),
+    (
+        r#"{"groups":{"g":{"links":[{"h5path":"/","title":""#,
+        "a",
+        255,
+        r#""}]}},"root":7}"#,
+        4,
+        DocCause::NotADocument,
+    ),
+    (
+        r#"{"groups":{"g":{"links":[{"title":"a","h5path":""#,
+        "a",
+        1024,
+        r#""}]}},"root":7}"#,
+        4,
+        DocCause::NotADocument,
+    ),
+    (
+        r#"{"groups":{"g":{"links":[{"title":"a","h5path":"/","file":""#,
+        "a",
+        1025,
+        r#""}]}},"root":7}"#,
+        16,
+        DocCause::BadLink,
+    ),
+    (
+        r#"{"groups":{"g":{"links":[{"title":"a","h5path":"/","file":""#,
+        "a",
+        1024,
+        r#""}]}},"root":7}"#,
+        4,
+        DocCause::NotADocument,
+    ),
+    (
+        r#"{"groups":{"g":{"attributes":[{"name":"a","type":"H5T_STD_I8LE","shape":[65536],"value":["#,
+        "0,",
+        65535,
+        r#"0]}]}},"root":7}"#,
+        4,
+        DocCause::NotADocument,
+    ),
+    (
+        r#"{"datasets":{"d":{"attributes":["#,
+        "0,",
+        1024,
+        r#"0]}}}"#,
+        21,
+        DocCause::Limit,
+    ),
+    (
+        r#"{"datatypes":{"t":{"attributes":["#,
+        "0,",
+        1024,
+        r#"0]}}}"#,
+        22,
+        DocCause::Limit,
+    ),
+];
+
+#[test]
+fn more_limits_are_told(rt: HostRuntime) -> Result<(), AllocError> {
+    for (front, piece, times, behind, length, cause) in LONGER.iter() {
+        let document = repeated(rt.alloc(), front, piece, *times, behind)?;
+        let (told, why) = fault_of(rt.alloc(), document.as_str());
+        assert!(rt; why == Some(*cause), "{front}");
+        assert_eq!(rt; told, *length, "{front}");
+    }
+    Ok(())
+}
+
+// A document whose ignored key has lists, one in the other.
+fn nested(alloc: Global, lists: usize) -> Result<String, AllocError> {
+    let open = repeated(
+        alloc,
+        r#"{"groups":{"g":{}},"root":"g","alias":"#,
+        "[",
+        lists,
+        "",
+    )?;
+    repeated(alloc, open.as_str(), "]", lists, "}")
+}
+
+#[test]
+fn trees_nest_127_times(rt: HostRuntime) -> Result<(), AllocError> {
+    let deep = nested(rt.alloc(), 126)?;
+    assert!(rt; is_told(rt.alloc(), deep.as_str(), "", None));
+    let deeper = nested(rt.alloc(), 127)?;
+    assert!(rt; is_told(rt.alloc(), deeper.as_str(), "", Some(DocCause::BadJson)));
+    let id = repeated(rt.alloc(), "", "i", 255, "")?;
+    let longest = joined(
+        rt.alloc(),
+        r#"{"groups":{""#,
+        id.as_str(),
+        r#"":{}},"root":""#,
+    )?;
+    let longest = joined(rt.alloc(), longest.as_str(), id.as_str(), r#""}"#)?;
+    assert!(rt; is_told(rt.alloc(), longest.as_str(), "", None));
     Ok(())
 }

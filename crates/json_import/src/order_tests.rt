@@ -1,0 +1,364 @@
+//! Documents with two faults, of which the earlier is told, in whatever order the text has them.
+
+use super::*;
+use crate::trials::{DATASET, DATATYPE, GROUP, Row, WHOLE, tell};
+use std::alloc::AllocError;
+
+const PARTS: [Row; 14] = [
+    (r#"{"groups":7,"root":"g""#, "", Some(DocCause::BadJson)),
+    (
+        r#"{"apiVersion":7,"datasets":{"d":7}}"#,
+        "apiVersion",
+        Some(DocCause::NotADocument),
+    ),
+    (
+        r#"{"datasets":7,"apiVersion":7}"#,
+        "apiVersion",
+        Some(DocCause::NotADocument),
+    ),
+    (
+        r#"{"root":7,"groups":{"g":{"links":7}},"apiVersion":7}"#,
+        "apiVersion",
+        Some(DocCause::NotADocument),
+    ),
+    (
+        r#"{"datasets":{"d":{}},"datatypes":7}"#,
+        "datasets/d/type",
+        Some(DocCause::BadType),
+    ),
+    (
+        r#"{"datatypes":7,"datasets":{"d":{"type":"H5T_STD_I8LE","value":"x"}}}"#,
+        "datasets/d/value",
+        Some(DocCause::BadValue),
+    ),
+    (
+        r#"{"datatypes":{"t":{}},"groups":{"g":7}}"#,
+        "datatypes/t/type",
+        Some(DocCause::BadType),
+    ),
+    (
+        r#"{"groups":7,"datatypes":{"t":{"attributes":[7]}}}"#,
+        "datatypes/t/attributes/0",
+        Some(DocCause::NotADocument),
+    ),
+    (
+        r#"{"groups":{"g":{"links":[{"title":"a","id":"h"}]}},"root":7}"#,
+        "groups/g/links/0",
+        Some(DocCause::BadLink),
+    ),
+    (
+        r#"{"root":"h","groups":{"g":{"links":[{"title":"","id":"g"}]}}}"#,
+        "groups/g/links/0/title",
+        Some(DocCause::BadName),
+    ),
+    (
+        r#"{"datasets":7,"root":"h","groups":{"g":{}}}"#,
+        "datasets",
+        Some(DocCause::NotADocument),
+    ),
+    (
+        r#"{"root":7,"datasets":{"d":{"type":"x"}}}"#,
+        "datasets/d/type",
+        Some(DocCause::BadType),
+    ),
+    (r#"{"root":7}"#, "groups", Some(DocCause::NotADocument)),
+    (
+        r#"{"datatypes":7}"#,
+        "datatypes",
+        Some(DocCause::NotADocument),
+    ),
+];
+
+const OBJECTS: [Row; 14] = [
+    (
+        r#"{"datasets":{"a":{"type":"H5T_STD_I8LE","value":"x"},"b":7}}"#,
+        "datasets/a/value",
+        Some(DocCause::BadValue),
+    ),
+    (
+        r#"{"datasets":{"b":7,"a":{"type":"H5T_STD_I8LE","value":"x"}}}"#,
+        "datasets/a/value",
+        Some(DocCause::BadValue),
+    ),
+    (
+        r#"{"datatypes":{"a":{},"b":{"attributes":7}}}"#,
+        "datatypes/a/type",
+        Some(DocCause::BadType),
+    ),
+    (
+        r#"{"datatypes":{"b":{"attributes":7},"a":{}}}"#,
+        "datatypes/a/type",
+        Some(DocCause::BadType),
+    ),
+    (
+        r#"{"groups":{"a":{"links":7},"b":7}}"#,
+        "groups/a/links",
+        Some(DocCause::NotADocument),
+    ),
+    (
+        r#"{"groups":{"b":7,"a":{"links":[{}]}}}"#,
+        "groups/a/links/0/title",
+        Some(DocCause::BadName),
+    ),
+    (
+        r#"{"groups":{"a":7,"B":7}}"#,
+        "groups/B",
+        Some(DocCause::NotADocument),
+    ),
+    (
+        r#"{"groups":{"9":7,"10":7}}"#,
+        "groups/10",
+        Some(DocCause::NotADocument),
+    ),
+    (
+        r#"{"groups":{"a/":7,"a":7,"a\u0000":7}}"#,
+        "groups/a",
+        Some(DocCause::NotADocument),
+    ),
+    (
+        r#"{"groups":{"\u00e9":7,"z":7}}"#,
+        "groups/z",
+        Some(DocCause::NotADocument),
+    ),
+    (
+        r#"{"groups":{"\ud83d\ude00":7,"\uffff":7}}"#,
+        "groups/\u{ffff}",
+        Some(DocCause::NotADocument),
+    ),
+    (
+        r#"{"datasets":{"":{"attributes":7}}}"#,
+        "datasets/",
+        Some(DocCause::NotADocument),
+    ),
+    (
+        r#"{"datasets":{"x":{"type":"H5T_STD_I8LE"}},"datatypes":{"x":{"attributes":7},"y":7}}"#,
+        "datatypes/x",
+        Some(DocCause::NotADocument),
+    ),
+    (
+        r#"{"datatypes":{"x":{"type":"H5T_STD_I8LE"}},"groups":{"x":{"attributes":[{}]}}}"#,
+        "groups/x",
+        Some(DocCause::NotADocument),
+    ),
+];
+
+#[test]
+fn parts_and_objects_in_order(rt: HostRuntime) -> Result<(), AllocError> {
+    tell(&rt, &WHOLE, &PARTS)?;
+    tell(&rt, &WHOLE, &OBJECTS)
+}
+
+const DATASETS: [Row; 14] = [
+    (
+        r#"{"attributes":[{"name":"a","type":"H5T_STD_I8LE"}],"type":"x"}"#,
+        "/attributes/0/value",
+        Some(DocCause::BadValue),
+    ),
+    (
+        r#"{"type":"x","attributes":[{}]}"#,
+        "/attributes/0/name",
+        Some(DocCause::BadName),
+    ),
+    (
+        r#"{"type":"x","shape":"x"}"#,
+        "/type",
+        Some(DocCause::BadType),
+    ),
+    (
+        r#"{"shape":"x","value":"x"}"#,
+        "/type",
+        Some(DocCause::BadType),
+    ),
+    (
+        r#"{"type":"H5T_STD_I8LE","shape":"x","creationProperties":{"filters":7}}"#,
+        "/shape",
+        Some(DocCause::BadShape),
+    ),
+    (
+        r#"{"creationProperties":7,"shape":"x","type":"H5T_STD_I8LE"}"#,
+        "/shape",
+        Some(DocCause::BadShape),
+    ),
+    (
+        r#"{"type":"H5T_STD_I8LE","creationProperties":{"fillValue":"x"},"value":"x"}"#,
+        "/creationProperties/fillValue",
+        Some(DocCause::BadLayout),
+    ),
+    (
+        r#"{"value":"x","creationProperties":7,"type":"H5T_STD_I8LE"}"#,
+        "/creationProperties",
+        Some(DocCause::BadLayout),
+    ),
+    (
+        r#"{"type":"H5T_STD_I8LE","creationProperties":{"layout":7,"filters":7}}"#,
+        "/creationProperties/layout",
+        Some(DocCause::BadLayout),
+    ),
+    (
+        r#"{"type":"H5T_STD_I8LE","creationProperties":{"filters":7,"layout":{"class":"H5D_CHUNKED","dims":[1]}}}"#,
+        "/creationProperties/layout",
+        Some(DocCause::BadLayout),
+    ),
+    (
+        r#"{"type":"H5T_STD_I8LE","creationProperties":{"filters":null,"fillValue":null}}"#,
+        "/creationProperties/filters",
+        Some(DocCause::BadLayout),
+    ),
+    (
+        r#"{"type":"H5T_STD_I8LE","creationProperties":{"fillValue":null,"filters":null}}"#,
+        "/creationProperties/filters",
+        Some(DocCause::BadLayout),
+    ),
+    (
+        r#"{"value":"x","attributes":7,"type":"H5T_STD_I8LE"}"#,
+        "/attributes",
+        Some(DocCause::NotADocument),
+    ),
+    (r#"{"type":"H5T_STD_I8LE","value":1,"links":7}"#, "", None),
+];
+
+const DATATYPES: [Row; 3] = [
+    (
+        r#"{"attributes":[{"name":"a"}],"type":"x"}"#,
+        "/attributes/0/type",
+        Some(DocCause::BadType),
+    ),
+    (
+        r#"{"type":"x","attributes":7}"#,
+        "/attributes",
+        Some(DocCause::NotADocument),
+    ),
+    (
+        r#"{"type":"H5T_STD_I8LE","shape":"x","creationProperties":7,"value":"x","links":7}"#,
+        "",
+        None,
+    ),
+];
+
+#[test]
+fn datasets_and_datatypes_in_order(rt: HostRuntime) -> Result<(), AllocError> {
+    tell(&rt, &DATASET, &DATASETS)?;
+    tell(&rt, &DATATYPE, &DATATYPES)
+}
+
+const ATTRIBUTES: [Row; 14] = [
+    (
+        r#"{"attributes":[{"name":"","type":"x"}]}"#,
+        "/attributes/0/name",
+        Some(DocCause::BadName),
+    ),
+    (
+        r#"{"attributes":[{"type":"x","name":7}]}"#,
+        "/attributes/0/name",
+        Some(DocCause::BadName),
+    ),
+    (
+        r#"{"attributes":[{"name":"a","type":"x","shape":"x"}]}"#,
+        "/attributes/0/type",
+        Some(DocCause::BadType),
+    ),
+    (
+        r#"{"attributes":[{"shape":[],"name":"a","type":"H5T_IEEE_F32LE"}]}"#,
+        "/attributes/0/type",
+        Some(DocCause::BadType),
+    ),
+    (
+        r#"{"attributes":[{"name":"a","type":"H5T_STD_I8LE","shape":[],"value":"x"}]}"#,
+        "/attributes/0/shape",
+        Some(DocCause::BadShape),
+    ),
+    (
+        r#"{"attributes":[{"value":"x","shape":"x","type":"H5T_STD_I8LE","name":"a"}]}"#,
+        "/attributes/0/shape",
+        Some(DocCause::BadShape),
+    ),
+    (
+        r#"{"attributes":[{"name":"a","type":"H5T_STD_I16LE","shape":[32769]}]}"#,
+        "/attributes/0/value",
+        Some(DocCause::Limit),
+    ),
+    (
+        r#"{"attributes":[{"value":null,"shape":[2,32769],"type":"H5T_STD_I8LE","name":"a"}]}"#,
+        "/attributes/0/value",
+        Some(DocCause::Limit),
+    ),
+    (
+        r#"{"attributes":[{"name":"a","type":"H5T_STD_I8LE","value":"x"},7]}"#,
+        "/attributes/0/value",
+        Some(DocCause::BadValue),
+    ),
+    (
+        r#"{"attributes":[7,{"name":""}]}"#,
+        "/attributes/0",
+        Some(DocCause::NotADocument),
+    ),
+    (
+        r#"{"attributes":[{"name":"b","type":"H5T_STD_I8LE","value":1},{"name":"a"},{"name":"b"}]}"#,
+        "/attributes/1/type",
+        Some(DocCause::BadType),
+    ),
+    (
+        r#"{"attributes":[{"name":"a"}],"links":7}"#,
+        "/attributes/0/type",
+        Some(DocCause::BadType),
+    ),
+    (
+        r#"{"links":[{"title":""}],"attributes":7}"#,
+        "/attributes",
+        Some(DocCause::NotADocument),
+    ),
+    (
+        r#"{"type":7,"shape":7,"value":7,"creationProperties":7,"links":7}"#,
+        "/links",
+        Some(DocCause::NotADocument),
+    ),
+];
+
+const LINKS: [Row; 8] = [
+    (
+        r#"{"links":[{"title":"a/b","id":"h"}]}"#,
+        "/links/0/title",
+        Some(DocCause::BadName),
+    ),
+    (
+        r#"{"links":[{"id":"h","title":7}]}"#,
+        "/links/0/title",
+        Some(DocCause::BadName),
+    ),
+    (
+        r#"{"links":[{"title":"a","id":"g"},{"h5path":"","title":"a"}]}"#,
+        "/links/1/title",
+        Some(DocCause::BadName),
+    ),
+    (
+        r#"{"links":[{"title":"a","id":"h"},{"title":"b/"}]}"#,
+        "/links/0",
+        Some(DocCause::BadLink),
+    ),
+    (
+        r#"{"links":[{"title":"b/"},{"title":"a","id":"h"}]}"#,
+        "/links/0/title",
+        Some(DocCause::BadName),
+    ),
+    (
+        r#"{"links":[{"title":"a","h5path":""},7]}"#,
+        "/links/0",
+        Some(DocCause::BadLink),
+    ),
+    (
+        r#"{"links":[7,{"title":"a"}]}"#,
+        "/links/0",
+        Some(DocCause::NotADocument),
+    ),
+    (
+        r#"{"links":[{"title":"b","id":"g"},{"title":"a","id":"h"},{"title":"b","id":"g"}]}"#,
+        "/links/1",
+        Some(DocCause::BadLink),
+    ),
+];
+
+#[test]
+fn members_of_lists_in_order(rt: HostRuntime) -> Result<(), AllocError> {
+    tell(&rt, &GROUP, &ATTRIBUTES)?;
+    tell(&rt, &GROUP, &LINKS)
+}
