@@ -116,7 +116,7 @@ module _ {D : Type 0} (met : Ghosts D) (honest : met.honest) (sides : Sides) (be
   of_export path journal DiskFault h u = absurd (u.calm.disk h.0)
   of_export path journal NotAJournal h u = absurd (u.finds.0.world (h.0 honest))
   of_export path journal UsedUp h u = absurd (u.finds.0.run (h.0 honest))
-  of_export path journal Refused h u = absurd (u.finds.1 h.world (h.recovered honest) h.withheld)
+  of_export path journal Refused h u = absurd (u.finds.1 h.world (h.recovered honest) h.whole h.withheld)
   of_export path journal Words h u = absurd h
   of_export path journal Configuration h u = absurd h
   of_export path journal ReadFault h u = absurd h

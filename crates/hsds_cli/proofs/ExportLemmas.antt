@@ -2,6 +2,7 @@
 use Rattle.std.proofs.Common.{◌≡◌, ◌↔◌, inl, inr, ℕ, ◌≤◌, ◌^◌, List, [], ◌∷◌, ◌++◌, length, Option, Some, None, refl, ap, subst, ◌∙◌, arith}
 use Rattle.std.specs.Io.KnownBytes.{Keeps}
 use Rattle.serde_json.specs.Data.{Data}
+use Rattle.described_worlds.specs.Told.{AreWhole}
 use Rattle.edge_traits.specs.declared.disk.Disk.{Ghosts}
 use Rattle.json_export.specs.Documents.{IsTextOf, doc}
 use Rattle.json_export.specs.declared.faults.ExportFault.TheVariants as export
@@ -32,13 +33,14 @@ module _ {D : Type 0} (met : Ghosts D) (path : List ℕ) (sides : Sides) (before
   export_not_opened fault.RunsUsed h still = (h, still)
   export_not_opened fault.NoMemory h still = still
 
-  module _ (world : World) (recovered : met.honest → IsOf (met.reads before) (λ c. IsRecovered c.held world)) (left : Keeps sides.left_before sides.left_after) where
+  module _ (world : World) (recovered : met.honest → IsOf (met.reads before) (λ c. IsRecovered c.held world)) (whole : AreWhole world.objects) (left : Keeps sides.left_before sides.left_after) where
     -- a document was printed, or refused
     pub exported : (status : Status) → IsDocumentTold (doc world path) sides.held_before sides.held_after sides.out_before sides.out_after status → IsExported met path sides before after status
     exported Done h = (
       record {
         world = world;
         recovered = recovered;
+        whole = whole;
         tree = h.0;
         given = h.1;
         printed = length (document_line h.0);
@@ -47,8 +49,8 @@ module _ {D : Type 0} (met : Ghosts D) (path : List ℕ) (sides : Sides) (before
       },
       omega arith,
     )
-    exported WriteFault h = (h.2.3, record { world = world; recovered = recovered; tree = h.0; given = h.1; printed = h.2.0; left = left; appended = h.2.2 })
-    exported Refused h = record { world = world; recovered = recovered; withheld = h.0; untouched = record { left = left; held = h.1 } }
+    exported WriteFault h = (h.2.3, record { world = world; recovered = recovered; whole = whole; tree = h.0; given = h.1; printed = h.2.0; left = left; appended = h.2.2 })
+    exported Refused h = record { world = world; recovered = recovered; whole = whole; withheld = h.0; untouched = record { left = left; held = h.1 } }
     exported NoMemory h = record { left = left; held = h }
     exported Words h = absurd h.2
     exported Configuration h = absurd h.2

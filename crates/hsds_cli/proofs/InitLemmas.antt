@@ -1,12 +1,11 @@
 -- The making of a journal by its status.
-use Rattle.std.proofs.Common.{◌≡◌, ◌⊎◌, ℕ, ◌≤◌, List, length, take, sym, subst, ◌∙◌, arith}
+use Rattle.std.proofs.Common.{◌≡◌, ◌⊎◌, ℕ, ◌≤◌, List, length, take, refl, ◌∙◌, arith}
 use Rattle.std.specs.Io.KnownBytes.{Keeps}
 use Rattle.edge_traits.specs.declared.disk.Disk.{Ghosts}
 use Rattle.configuration.specs.declared.config.Config.{Config}
 use Rattle.flush_journal.specs.Files.{magic}
 use Rattle.flush_journal.specs.Refusals.{NoMagic}
 use Rattle.flush_journal.specs.Unchanged.{SameBytes}
-use Rattle.flush_journal.proofs.Unchanged.{bytes_here}
 use Rattle.flush_journal.specs.declared.why.Why.{Why}
 use Rattle.flush_journal.specs.declared.why.Why.TheVariants as why
 use Rattle.kept_journals.specs.FirstJournals.{IsFirstJournal, MayRefuseMaking}
@@ -23,7 +22,7 @@ module _ {D : Type 0} (met : Ghosts D) (lanes : ℕ) (sides : Sides) (before aft
   pub init_refused : (status : Status) → IsRefusal sides.text sides.config_before sides.config_after status → IsUntouched sides → after ≡ before → IsInit met lanes sides before after status
   init_refused Configuration h still same = (h, (still, same))
   init_refused ReadFault h still same = (h, (still, same))
-  init_refused NoMemory h still same = (still, λ honest found. subst (λ (d : D). SameBytes met before d) (sym same) (bytes_here met before))
+  init_refused NoMemory h still same = (still, same)
   init_refused Done h still same = absurd h
   init_refused Words h still same = absurd h
   init_refused WriteFault h still same = absurd h
@@ -66,9 +65,9 @@ module _ {D : Type 0} (met : Ghosts D) (lanes : ℕ) (sides : Sides) (before aft
 
     -- none was made
     pub init_not_made : (refusal : Why) → MayRefuseMaking config.catalogue met.honest (met.reads before) (met.most before) (met.faults before) (met.faults after) refusal → IsUntouched sides
-        → (met.honest → take 8 (met.reads before) ≡ magic → SameBytes met before after) → IsInit met lanes sides before after (making_status refusal)
-    init_not_made why.DiskFault h still found = (h.2, record { config = config; spelled = spelled; cause = h; untouched = still; found = found })
-    init_not_made (why.JournalFull end need room) h still found = (end, need, room, record { config = config; spelled = spelled; cause = h; untouched = still; found = found })
-    init_not_made why.Exists h still found = (h.2, record { config = config; spelled = spelled; cause = h; untouched = still; found = found })
-    init_not_made (why.NotAJournal at) h still found = (still, found)
-    init_not_made why.NoMemory h still found = (still, found)
+        → (met.honest → take 8 (met.reads before) ≡ magic → SameBytes met before after) → (refusal ≡ why.NoMemory → after ≡ before) → IsInit met lanes sides before after (making_status refusal)
+    init_not_made why.DiskFault h still found same = (h.2, record { config = config; spelled = spelled; cause = h; untouched = still; found = found })
+    init_not_made (why.JournalFull end need room) h still found same = (end, need, room, record { config = config; spelled = spelled; cause = h; untouched = still; found = found })
+    init_not_made why.Exists h still found same = (h.2, record { config = config; spelled = spelled; cause = h; untouched = still; found = found })
+    init_not_made (why.NotAJournal at) h still found same = absurd h.2
+    init_not_made why.NoMemory h still found same = (still, same refl)

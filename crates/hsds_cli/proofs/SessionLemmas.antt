@@ -85,6 +85,7 @@ module _ {D : Type 0} (met : Ghosts D) (sides : Sides) (before after : D) where
     last = last;
     served = e.3;
     crash = e.4;
+    causes = h;
     ended = refl;
   }) h f
 

@@ -3,6 +3,7 @@
 --     IsCalm met sides before after      no count of faults rose
 --     MeetsRoom met command sides before after closed      a keeping was refused for want of room
 use Rattle.std.specs.Prelude.{◌≡◌, ◌≢◌, ◌⊎◌, ℕ, ◌<◌, List, take, length, Option, Some, Err}
+use Rattle.described_worlds.specs.Told.{AreWhole}
 use Rattle.edge_traits.specs.Causes.{Rose}
 use Rattle.edge_traits.specs.declared.disk.Disk.{Ghosts}
 use Rattle.command_words.specs.Commands.{Command, export, init, session, verify}
@@ -44,7 +45,7 @@ pub record IsOpenable (file : List ℕ) : Type 0 where
 
 -- the world that the journal keeps has a document at the path that may be given
 abbrev pub HasDocument : List ℕ → List ℕ → Type 0
-HasDocument file path = (w : World) → IsOf file (λ c. IsRecovered c.held w) → IsWithheld (doc w path) → ⊥
+HasDocument file path = (w : World) → IsOf file (λ c. IsRecovered c.held w) → AreWhole w.objects → IsWithheld (doc w path) → ⊥
 
 abbrev pub Finds : {D : Type 0} (met : Ghosts D) → Command → Sides → D → Type 0
 Finds met (init config journal lanes) sides before = IsConfigured sides.text × (take 8 (met.reads before) ≢ magic)

@@ -7,6 +7,7 @@ use Rattle.std.specs.Prelude.{◌≡◌, ◌⊎◌, ◌^◌, ◌≤◌, ⊤, ℕ
 use Rattle.std.specs.Io.KnownBytes.{Appends, Keeps}
 use Rattle.serde_json.specs.Data.{Data}
 use Rattle.serde_json.specs.Written.{compact_text}
+use Rattle.described_worlds.specs.Told.{AreWhole}
 use Rattle.edge_traits.specs.Causes.{Rose}
 use Rattle.edge_traits.specs.declared.disk.Disk.{Ghosts}
 use Rattle.json_export.specs.Documents.{IsTooLong, doc}
@@ -35,6 +36,7 @@ IsWithheld found = (found ≡ None) ⊎ IsTooLong found
 pub record Exports {D : Type 0} (met : Ghosts D) (path : List ℕ) (sides : Sides) (before : D) : Type 0 where
   pub world : World
   pub recovered : met.honest → IsOf (met.reads before) (λ c. IsRecovered c.held world)
+  pub whole : AreWhole world.objects
   pub tree : Data
   pub given : IsGiven (doc world path) tree
   pub printed : ℕ
@@ -45,6 +47,7 @@ pub record Exports {D : Type 0} (met : Ghosts D) (path : List ℕ) (sides : Side
 pub record ExportsNone {D : Type 0} (met : Ghosts D) (path : List ℕ) (sides : Sides) (before : D) : Type 0 where
   pub world : World
   pub recovered : met.honest → IsOf (met.reads before) (λ c. IsRecovered c.held world)
+  pub whole : AreWhole world.objects
   pub withheld : IsWithheld (doc world path)
   pub untouched : IsUntouched sides
 

@@ -16,6 +16,7 @@ use Rattle.kept_sessions.specs.Sessions.{HoldsHeld, IsLinkKept, IsRecovered, IsU
 use Rattle.kept_sessions.specs.declared.outcome.Closed.{Closed}
 use Rattle.kept_sessions.specs.declared.outcome.Outcome.{Outcome}
 use Rattle.kept_sessions.specs.declared.outcome.Outcome.TheVariants as outcome
+use Rattle.link_service.specs.Links.{HasCauses}
 use Rattle.link_service.specs.declared.end.LinkEnd.{LinkEnd}
 use Rattle.link_service.specs.declared.end.LinkEnd.TheVariants as end
 use Rattle.register.specs.Kept.{IsUsedUp}
@@ -129,6 +130,7 @@ pub record Serves {D : Type 0} (met : Ghosts D) (sides : Sides) (before after : 
   pub last : Result ℕ Why
   pub served : IsLinkKept first after sides.left_before sides.left_after sides.held_before sides.held_after link_closed last
   pub crash : met.honest → IsOf (met.reads before) (λ c. LeavesSince met before after (HoldsHeld c.held first served.final served.taken))
+  pub causes : HasCauses sides.input_before sides.input_after sides.out_before sides.out_after link_closed.end
   pub ended : status_after link_closed.end last ≡ status
 
 -- nothing was taken from the input or written to the output, and nothing is closed

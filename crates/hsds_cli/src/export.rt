@@ -9,6 +9,7 @@ ghost use Rattle.hsds_cli.specs.Exports.{IsDocumentTold, IsExported, IsLineOf, I
 use crate::command_end::CommandEnd;
 use crate::operate::{opening_status, print};
 use crate::status::Status;
+use described_worlds::objects_are_whole;
 use edge_traits::{Disk, Sink};
 use json_export::document_text;
 use kept_journals::{OpenRefused, Opened, open_world};
@@ -50,6 +51,7 @@ pub fn export<K: Sink, D: Disk>(
             closed: None,
         },
     };
+    objects_are_whole(&world);
     let status = tell(alloc, &world, path, out);
     CommandEnd {
         status,

@@ -43,4 +43,4 @@ returns-clause-exported g c = λ text left config input.
     } in
     exported g.D.Disk c.args.path.now sides c.args.disk c.into_disk.result (seen c.in-Ok.field-0.world)
     (λ honest. let o = c.in-Ok.ensures.opened honest in (o.0, o.1, recovered o.0.held o.0.lanes c.in-Ok.field-0.world o.3))
-    (keeps left left refl) c.tell-status.result c.tell-status.ensures.told
+    c.objects_are_whole.ensures (keeps left left refl) c.tell-status.result c.tell-status.ensures.told
