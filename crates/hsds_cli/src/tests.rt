@@ -2,7 +2,7 @@
 
 ghost use Rattle.std.specs.Prelude.{◌<◌};
 
-use crate::run::run;
+use crate::run::{Finished, run};
 use edge_traits::{MemDisk, MemDoor, MemSink, MemSource};
 use kept_sessions::Closed;
 use std::alloc::{AllocError, Global};
@@ -172,7 +172,12 @@ pub fn run_line(alloc: Global, line: &str, streams: Streams<'_>, disk: MemDisk) 
     );
     let mut out = MemSink::new(alloc, streams.writes.to_vec(alloc)?);
     let doors: Vec<MemDoor> = Vec::new(alloc);
-    let finished = run(
+    let Finished {
+        status,
+        disk,
+        closed,
+        ..
+    } = run(
         alloc,
         words.as_slice(),
         &mut config,
@@ -181,12 +186,12 @@ pub fn run_line(alloc: Global, line: &str, streams: Streams<'_>, disk: MemDisk) 
         disk,
         doors,
     );
-    match finished.disk {
+    match disk {
         Some(disk) => Ok(Ran {
-            status: finished.status,
+            status,
             out,
             disk,
-            closed: finished.closed,
+            closed,
         }),
         None => Err(Fail::from("no disk")),
     }
