@@ -281,7 +281,7 @@ fn a_fault_of_each_call_of_the_disk_is_told(rt: HostRuntime) -> Result<(), Fail>
     Ok(())
 }
 
-const D0: &str =
+const FIRST_DATASET: &str =
     "{\"attributeCount\":0,\"creationProperties\":{\"layout\":{\"class\":\"H5D_CHUNKED\",\
      \"dims\":[2]}},\"id\":\"d~0\",\"root\":\"g#\",\"shape\":{\"class\":\"H5S_SIMPLE\",\
      \"dims\":[2],\"maxdims\":[2]},\"type\":{\"base\":\"H5T_STD_I32LE\",\
@@ -293,7 +293,7 @@ pub const WRITTEN: [Row; 4] = [
         "POST /datasets",
         "{\"type\":\"H5T_STD_I32LE\",\"shape\":[2],\"link\":{\"id\":\"g#\",\"name\":\"x\"}}",
         CREATED,
-        D0,
+        FIRST_DATASET,
     ),
     ("PUT /datasets/d~0/value", "{\"value\":[1,2]}", OK, "{}"),
     ("PUT /?flush=1", "", NO_CONTENT, ""),
