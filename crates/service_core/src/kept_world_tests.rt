@@ -1,6 +1,6 @@
 //! Lists of requests on a world that is written to a journal, and read from it again.
 
-ghost use Rattle.std.specs.Prelude.{◌≡◌, ◌<◌, ◌≤◌, length, IfOk, IsTrue};
+ghost use Rattle.std.specs.Prelude.{◌≡◌, ◌<◌, ◌≤◌, length, IsTrue};
 ghost use Rattle.domains.specs.Contents.{HasRoot};
 ghost use Rattle.groups_links.specs.Titles.{IsGoodTitle};
 ghost use Rattle.hdf_types.specs.Types.{IsSoundType};
@@ -28,7 +28,6 @@ use object_ops::{LinkPlace, Make, Op, Part, Reply, Request};
 use object_records::object_text;
 use serde_json::Value;
 use shapes::{Dims, read_dims, read_shape};
-use std::alloc::{AllocError, Global};
 use std::process::Abort;
 use std::test::Fail;
 
@@ -43,61 +42,63 @@ fn has_root(class: NodeClass) -> bool
     }
 }
 
-fn add_line(text: &mut String, name: &str, body: &str) -> Result<(), AllocError> {
-    text.push_str(name)?;
-    text.push_str(" ")?;
-    text.push_str(body)?;
-    text.push_str("\n")
+fn add_line(rt: &impl Abort, text: &mut String, name: &str, body: &str) {
+    for part in [name, " ", body, "\n"] {
+        text.push_str(part).expect(rt, "a text");
+    }
 }
 
-fn add_node(
-    rt: &(impl Abort + AllocGlobal),
-    text: &mut String,
-    path: &str,
-    node: &Node,
-) -> Result<(), AllocError> {
+fn add_node(rt: &(impl Abort + AllocGlobal), text: &mut String, path: &str, node: &Node) {
     assert!(rt; has_root(node.class));
-    let body = node_text(rt.alloc(), node)?;
-    add_line(text, path, body.as_str())
+    let body = node_text(rt.alloc(), node).expect(rt, "a text");
+    add_line(rt, text, path, body.as_str());
 }
 
-fn add_object(
-    alloc: Global,
-    text: &mut String,
-    id: ObjectId,
-    object: &Object,
-) -> Result<(), AllocError>
+/// The value of an object, where it has one.
+fn add_value(rt: &(impl Abort + AllocGlobal), text: &mut String, id: ObjectId, object: &Object)
     requires { IsSoundBody object.now.body }
 {
-    let name = id_text(alloc, &id)?;
-    let body = object_text(alloc, object)?;
-    add_line(text, name.as_str(), body.as_str())?;
     let value = Op::GetValue { id, select: None };
-    match reply(alloc, object, &value, &id)? {
-        Reply::Done { body, .. } => add_line(text, "", body.value().to_string(alloc)?.as_str()),
-        Reply::Refused(_) => Ok(()),
+    if let Reply::Done { body, .. } = reply(rt.alloc(), object, &value, &id).expect(rt, "a reply") {
+        let value = body.value().to_string(rt.alloc()).expect(rt, "a text");
+        add_line(rt, text, "", value.as_str());
     }
 }
 
-/// All that a journal keeps of a world: the next number, its nodes, and its objects with the values of datasets.
-fn picture(rt: &(impl Abort + AllocGlobal), world: &World) -> Result<String, AllocError> {
-    let next = world.catalogue().next_number();
-    let mut text = format!(in rt.alloc(); "{next}\n")?;
-    for (path, node) in world.catalogue().as_map().as_tree() {
-        add_node(rt, &mut text, path.as_str(), node)?;
-    }
+fn add_object(rt: &(impl Abort + AllocGlobal), text: &mut String, id: ObjectId, object: &Object)
+    requires { IsSoundBody object.now.body }
+{
+    let name = id_text(rt.alloc(), &id).expect(rt, "a text");
+    let body = object_text(rt.alloc(), object).expect(rt, "a text");
+    add_line(rt, text, name.as_str(), body.as_str());
+    add_value(rt, text, id, object);
+}
+
+fn add_objects(rt: &(impl Abort + AllocGlobal), text: &mut String, world: &World) {
     let mut at = world.next_id(None);
     for _ in 0..1000u16 {
         let Some(id) = at else {
-            return Ok(text);
+            return;
         };
         let Some(object) = world.object(&id) else {
             panic!(rt; "no object at an id");
         };
-        add_object(rt.alloc(), &mut text, id, object)?;
+        add_object(rt, text, id, object);
         at = world.next_id(Some(&id));
     }
     panic!(rt; "more objects than that")
+}
+
+/// All that a journal keeps of a world: the next number, its nodes, and its objects with the values of datasets.
+fn picture(rt: &(impl Abort + AllocGlobal), world: &World) -> String {
+    let next = world.catalogue().next_number();
+    let text = format!(in rt.alloc(); "{next}\n");
+    let mut text = text.expect(rt, "a text");
+    for (path, node) in world.catalogue().as_map().as_tree() {
+        add_node(rt, &mut text, path.as_str(), node);
+    }
+    add_objects(rt, &mut text, world);
+    text
 }
 
 // ---- requests
@@ -111,7 +112,7 @@ const READ: Rights = Rights {
     update_acl: false,
 };
 
-const PLACES: [&str; 8] = [
+static PLACES: [&str; 8] = [
     "/home",
     "/home/lab",
     "/home/old",
@@ -122,16 +123,16 @@ const PLACES: [&str; 8] = [
     "/site/b/c",
 ];
 
-const NAMES: [&str; 4] = ["unit", "a", "b", "g:lab"];
+static NAMES: [&str; 4] = ["unit", "a", "b", "g:lab"];
 
-const ATTRIBUTES: [&str; 4] = [
+static ATTRIBUTES: [&str; 4] = [
     r#"{"type":{"class":"H5T_STRING","length":3},"value":"mm"}"#,
     r#"{"shape":[2,2],"type":"H5T_STD_I64BE","value":[[1,-2],[3,4]]}"#,
     r#"{"shape":"H5S_NULL","type":"H5T_STD_U8LE","value":null}"#,
     r#"{"type":{"class":"H5T_COMPOUND","fields":[{"name":"day","type":"H5T_STD_I16LE"},{"name":"note","type":{"charSet":"H5T_CSET_UTF8","class":"H5T_STRING","length":8}}]},"value":[7,"é"]}"#,
 ];
 
-const LINKS: [&str; 4] = [
+static LINKS: [&str; 4] = [
     r#"{"h5path":"/a/b"}"#,
     r#"{"h5domain":"/home/lab","h5path":"x"}"#,
     r#"{"id":"g-00000000-0001-8000-8000-010000000000"}"#,
@@ -141,7 +142,7 @@ const LINKS: [&str; 4] = [
 /// A type, a shape and creation properties.
 type Made = (&'static str, &'static str, &'static str);
 
-const MADE: [Made; 5] = [
+static MADE: [Made; 5] = [
     (
         r#""H5T_STD_I16LE""#,
         "[5]",
@@ -161,12 +162,12 @@ const MADE: [Made; 5] = [
     (r#""H5T_STD_I32LE""#, r#""H5S_NULL""#, "{}"),
 ];
 
-const DIMS: [&str; 6] = ["[3]", "[9]", "[0]", "[2,4]", "[5,6]", "[0,1]"];
+static DIMS: [&str; 6] = ["[3]", "[9]", "[0]", "[2,4]", "[5,6]", "[0,1]"];
 
 /// The start, the stop and the elements of a part; or points and their elements.
 type Written = (Option<&'static str>, &'static str, &'static str);
 
-const WRITTEN: [Written; 9] = [
+static WRITTEN: [Written; 9] = [
     (Some("[0]"), "[2]", "[7,8]"),
     (Some("[1]"), "[4]", "[1,-2,3]"),
     (Some("[4]"), "[5]", "[300]"),
@@ -389,22 +390,27 @@ fn path_of(world: &World, number: u64) -> &str {
     "/"
 }
 
+fn request(rt: &(impl Abort + AllocGlobal), path: &str, op: Op) -> Request
+    ensures { result.op ≡ op }
+{
+    Request {
+        path: read_path(rt.alloc(), path).expect(rt, "a path"),
+        op,
+    }
+}
+
 /// A request on one of the world's objects, or at any path.
-fn drawn(rt: &(impl Abort + AllocGlobal), dice: &mut Dice, world: &World) -> Result<Request, Fail>
-    ensures { IfOk result (λ request. IsSoundOp request.op) }
+fn drawn(rt: &(impl Abort + AllocGlobal), dice: &mut Dice, world: &World) -> Request
+    ensures { IsSoundOp result.op }
 {
     if dice.roll(4) > 0 {
         if let Some(id) = drawn_id(dice, world) {
-            return Ok(Request {
-                path: read_path(rt.alloc(), path_of(world, id.domain))?,
-                op: object_op(rt, dice, id),
-            });
+            let op = object_op(rt, dice, id);
+            return request(rt, path_of(world, id.domain), op);
         }
     }
-    Ok(Request {
-        path: read_path(rt.alloc(), dice.pick(&PLACES))?,
-        op: node_op(rt, dice),
-    })
+    let path = dice.pick(&PLACES);
+    request(rt, path, node_op(rt, dice))
 }
 
 /// Whether a request of alice is done.
@@ -419,34 +425,40 @@ fn is_done(rt: &impl Abort, world: &mut World, alice: &Caller, request: &Request
     }
 }
 
-fn put_node(alloc: Global, path: &str, folder: bool) -> Result<Request, Fail>
-    ensures { IfOk result (λ request. IsSoundOp request.op) }
+/// A request of alice is done.
+fn step(rt: &impl Abort, world: &mut World, alice: &Caller, request: &Request)
+    requires { IsSoundOp request.now.op }
 {
-    Ok(Request {
-        path: read_path(alloc, path)?,
-        op: Op::PutNode { folder },
-    })
+    assert!(rt; is_done(rt, world, alice, request));
+}
+
+fn put_node(rt: &(impl Abort + AllocGlobal), path: &str, folder: bool) -> Request
+    ensures { IsSoundOp result.op }
+{
+    request(rt, path, Op::PutNode { folder })
 }
 
 // ---- lists of requests
 
-/// A folder, a domain and a dataset.
-fn begin(rt: &(impl Abort + AllocGlobal), world: &mut World, alice: &Caller) -> Result<(), Fail> {
-    let alloc = rt.alloc();
-    assert!(rt; is_done(rt, world, alice, &put_node(alloc, "/home", true)?));
-    assert!(rt; is_done(rt, world, alice, &put_node(alloc, "/home/lab", false)?));
+/// A dataset in the root of the domain 1.
+fn first_made(rt: &(impl Abort + AllocGlobal)) -> Request
+    ensures { IsSoundOp result.op }
+{
     let root = ObjectId {
         kind: Kind::Group,
         domain: 1,
         run: 1,
         serial: 0,
     };
-    let request = Request {
-        path: read_path(alloc, "/home/lab")?,
-        op: make_op(dataset(rt, MADE[0]), root, title(rt, "a")),
-    };
-    assert!(rt; is_done(rt, world, alice, &request));
-    Ok(())
+    let op = make_op(dataset(rt, MADE[0]), root, title(rt, "a"));
+    request(rt, "/home/lab", op)
+}
+
+/// A folder, a domain and a dataset.
+fn begin(rt: &(impl Abort + AllocGlobal), world: &mut World, alice: &Caller) {
+    step(rt, world, alice, &put_node(rt, "/home", true));
+    step(rt, world, alice, &put_node(rt, "/home/lab", false));
+    step(rt, world, alice, &first_made(rt));
 }
 
 /// The world that a journal of two lanes holds, in the next run.
@@ -458,24 +470,27 @@ fn found_on(rt: &(impl Abort + AllocGlobal), disk: MemDisk) -> (Journal<MemDisk>
     }
 }
 
+fn assert_same(rt: &impl Abort, got: &str, wanted: &str) {
+    assert!(rt; got == wanted, "{got} in place of {wanted}");
+}
+
 /// What changed of a world is written, and what is found then is the world once more.
 fn kept_again(
     rt: &(impl Abort + AllocGlobal),
     world: &mut World,
     mut journal: Journal<MemDisk>,
-) -> Result<(Journal<MemDisk>, World), Fail> {
+) -> (Journal<MemDisk>, World) {
     keep(rt, world, &mut journal);
     let (journal, again) = found_on(rt, journal.into_disk());
     assert_eq!(rt; again.run(), world.run().saturating_add(1));
     assert_eq!(rt; again.serials_left(), 1_099_511_627_776);
     assert_eq!(rt; again.places(), 0);
-    let wanted = picture(rt, world)?;
-    let got = picture(rt, &again)?;
-    assert!(rt;
-        got.as_str() == wanted.as_str(),
-        "{got} in place of {wanted}"
+    assert_same(
+        rt,
+        picture(rt, &again).as_str(),
+        picture(rt, world).as_str(),
     );
-    Ok((journal, again))
+    (journal, again)
 }
 
 /// Drawn requests up to the first that is done, of at most four; whether one was.
@@ -484,35 +499,38 @@ fn try_some(
     dice: &mut Dice,
     world: &mut World,
     alice: &Caller,
-) -> Result<bool, Fail> {
+) -> bool {
     for _ in 0..4u8 {
-        let request = drawn(rt, dice, world)?;
+        let request = drawn(rt, dice, world);
         if is_done(rt, world, alice, &request) {
-            return Ok(true);
+            return true;
         }
     }
-    Ok(false)
+    false
+}
+
+fn begin_run(rt: &impl Abort, world: &mut World, journal: &mut Journal<MemDisk>) {
+    assert!(rt; !journal.pending());
+    assert!(rt; world.begin_run(journal).is_ok());
 }
 
 /// A list of drawn requests, in two runs; how often one of some was done.
 fn try_list(rt: &(impl Abort + AllocGlobal), list: u64) -> Result<u64, Fail> {
-    let alloc = rt.alloc();
     let mut dice = Dice { state: list };
-    let alice = caller(alloc, "alice")?;
-    let mut world = opened(alloc)?;
-    let mut journal = new_journal(rt, 2, Vec::new(alloc));
-    begin(rt, &mut world, &alice)?;
+    let mut world = opened(rt.alloc())?;
+    let alice = caller(rt, "alice");
+    let mut journal = new_journal(rt, 2, Vec::new(rt.alloc()));
+    begin(rt, &mut world, &alice);
     let mut done = 0u64;
     for at in 0..14u8 {
-        if try_some(rt, &mut dice, &mut world, &alice)? {
+        if try_some(rt, &mut dice, &mut world, &alice) {
             done = done.saturating_add(1);
         }
-        let (left, again) = kept_again(rt, &mut world, journal)?;
+        let (left, again) = kept_again(rt, &mut world, journal);
         journal = left;
         if at == 6 {
             world = again;
-            assert!(rt; !journal.pending());
-            assert!(rt; world.begin_run(&mut journal).is_ok());
+            begin_run(rt, &mut world, &mut journal);
         }
     }
     Ok(done)
@@ -542,14 +560,10 @@ fn first_dataset() -> ObjectId
     }
 }
 
-/// Three elements are written, which are in two chunks.
-fn write(rt: &(impl Abort + AllocGlobal), world: &mut World, alice: &Caller) -> Result<(), Fail> {
-    let request = Request {
-        path: read_path(rt.alloc(), "/home/lab")?,
-        op: put_value(rt, first_dataset(), WRITTEN[1]),
-    };
-    assert!(rt; is_done(rt, world, alice, &request));
-    Ok(())
+/// Elements of it are written.
+fn write(rt: &(impl Abort + AllocGlobal), world: &mut World, alice: &Caller, written: Written) {
+    let op = put_value(rt, first_dataset(), written);
+    step(rt, world, alice, &request(rt, "/home/lab", op));
 }
 
 /// A journal whose second batch is pending since a call of its disk failed, and what it holds without and with it.
@@ -560,35 +574,52 @@ struct Stopped {
     new: String,
 }
 
-fn stopped_at(rt: &(impl Abort + AllocGlobal), call: u64) -> Result<Stopped, Fail> {
-    let alloc = rt.alloc();
-    let alice = caller(alloc, "alice")?;
-    let mut failing = Vec::new(alloc);
-    failing.push(call)?;
-    let mut journal = new_journal(rt, 2, failing);
-    let mut world = opened(alloc)?;
-    begin(rt, &mut world, &alice)?;
-    keep(rt, &mut world, &mut journal);
-    let old = picture(rt, &world)?;
-    write(rt, &mut world, &alice)?;
-    assert!(rt;
-        is_done(
-            rt,
-            &mut world,
-            &alice,
-            &put_node(alloc, "/home/new", false)?
-        )
-    );
-    let new = picture(rt, &world)?;
-    let mut batch = Batch::new(alloc);
+/// A call of the disk at which a cut isn't appended.
+fn append_fails(
+    rt: &(impl Abort + AllocGlobal),
+    world: &mut World,
+    journal: &mut Journal<MemDisk>,
+) {
+    let mut batch = Batch::new(rt.alloc());
     assert!(rt; world.cut(&mut batch).is_ok());
     assert!(rt; !journal.pending());
     assert!(rt; journal.append(batch).is_err());
+}
+
+fn failing_journal(rt: &(impl Abort + AllocGlobal), call: u64) -> Journal<MemDisk> {
+    let mut failing = Vec::new(rt.alloc());
+    failing.push(call).expect(rt, "a call");
+    new_journal(rt, 2, failing)
+}
+
+/// Three elements are written, which are in two chunks, and a domain is made.
+fn change(rt: &(impl Abort + AllocGlobal), world: &mut World, alice: &Caller) {
+    write(rt, world, alice, WRITTEN[1]);
+    step(rt, world, alice, &put_node(rt, "/home/new", false));
+}
+
+fn stopped_at(rt: &(impl Abort + AllocGlobal), call: u64) -> Result<Stopped, Fail> {
+    let mut world = opened(rt.alloc())?;
+    let alice = caller(rt, "alice");
+    let mut journal = failing_journal(rt, call);
+    begin(rt, &mut world, &alice);
+    keep(rt, &mut world, &mut journal);
+    let old = picture(rt, &world);
+    change(rt, &mut world, &alice);
+    let new = picture(rt, &world);
+    append_fails(rt, &mut world, &mut journal);
     Ok(Stopped { journal, old, new })
 }
 
 /// The calls of a creation are a read, a write and a sync; an append then writes, syncs, writes and syncs.
 const FIRST_CALL: u64 = 7;
+
+/// What is found on a disk after a crash.
+fn found_after(rt: &(impl Abort + AllocGlobal), disk: &MemDisk, seed: u64) -> String {
+    let disk = disk.crash(seed).expect(rt, "a disk");
+    let (_, world) = found_on(rt, disk);
+    picture(rt, &world)
+}
 
 #[test]
 fn a_stop_at_each_call_leaves_the_world_before_or_after(rt: HostRuntime) -> Result<(), Fail> {
@@ -598,8 +629,7 @@ fn a_stop_at_each_call_leaves_the_world_before_or_after(rt: HostRuntime) -> Resu
         let stopped = stopped_at(&rt, call)?;
         let disk = stopped.journal.into_disk();
         for step in 0..50u64 {
-            let (_, world) = found_on(&rt, disk.crash(step * 17)?);
-            let text = picture(&rt, &world)?;
+            let text = found_after(&rt, &disk, step * 17);
             if text.as_str() == stopped.old.as_str() {
                 olds = olds.saturating_add(1);
             } else {
@@ -618,8 +648,7 @@ fn a_world_settles_after_each_failing_call(rt: HostRuntime) -> Result<(), Fail> 
         let mut stopped = stopped_at(&rt, call)?;
         assert!(rt; stopped.journal.settle().is_ok());
         let (_, world) = found_on(&rt, stopped.journal.into_disk());
-        let text = picture(&rt, &world)?;
-        assert!(rt; text.as_str() == stopped.new.as_str());
+        assert_same(&rt, picture(&rt, &world).as_str(), stopped.new.as_str());
     }
     Ok(())
 }
@@ -627,49 +656,27 @@ fn a_world_settles_after_each_failing_call(rt: HostRuntime) -> Result<(), Fail> 
 // ---- many objects
 
 /// Groups are made in the first domain.
-fn make_groups(
-    rt: &(impl Abort + AllocGlobal),
-    world: &mut World,
-    alice: &Caller,
-) -> Result<(), Fail> {
-    let request = Request {
-        path: read_path(rt.alloc(), "/home/lab")?,
-        op: Op::MakeObject {
-            make: Make::Group,
-            link: None,
-        },
+fn make_groups(rt: &(impl Abort + AllocGlobal), world: &mut World, alice: &Caller) {
+    let op = Op::MakeObject {
+        make: Make::Group,
+        link: None,
     };
+    let request = request(rt, "/home/lab", op);
     for _ in 0..10_000u16 {
-        assert!(rt; is_done(rt, world, alice, &request));
+        step(rt, world, alice, &request);
     }
-    Ok(())
-}
-
-/// One element is written.
-fn write_one(
-    rt: &(impl Abort + AllocGlobal),
-    world: &mut World,
-    alice: &Caller,
-) -> Result<(), Fail> {
-    let request = Request {
-        path: read_path(rt.alloc(), "/home/lab")?,
-        op: put_value(rt, first_dataset(), WRITTEN[2]),
-    };
-    assert!(rt; is_done(rt, world, alice, &request));
-    Ok(())
 }
 
 #[test]
 fn one_changed_element_is_one_record(rt: HostRuntime) -> Result<(), Fail> {
-    let alloc = rt.alloc();
-    let alice = caller(alloc, "alice")?;
-    let mut world = opened(alloc)?;
-    let mut journal = new_journal(&rt, 2, Vec::new(alloc));
-    begin(&rt, &mut world, &alice)?;
-    make_groups(&rt, &mut world, &alice)?;
+    let mut world = opened(rt.alloc())?;
+    let alice = caller(&rt, "alice");
+    let mut journal = new_journal(&rt, 2, Vec::new(rt.alloc()));
+    begin(&rt, &mut world, &alice);
+    make_groups(&rt, &mut world, &alice);
     keep(&rt, &mut world, &mut journal);
     let before = journal.report().end;
-    write_one(&rt, &mut world, &alice)?;
+    write(&rt, &mut world, &alice, WRITTEN[2]);
     keep(&rt, &mut world, &mut journal);
     // A record with a key of 21 bytes and a body of 4, in a batch.
     assert_eq!(rt; journal.report().end.saturating_sub(before), 9 + 8 + 21 + 4);

@@ -14,14 +14,14 @@ use hdf_types::read_type;
 use hdf_values::read_attribute;
 use json_trees::Tree;
 use object_acts::Object;
-use object_ids::{Kind, Name, ObjectId, read_path};
+use object_ids::{DomainPath, Kind, Name, ObjectId, read_path};
 use object_ops::{
     LinkPlace, Make, Op, Part, Refusal, Reply, Request, SelectText, on_text, refusal_json,
 };
 use register::Register;
 use serde_json::Value;
 use shapes::{read_dims, read_shape};
-use std::alloc::{AllocError, Global};
+use std::alloc::Global;
 use std::process::Abort;
 use std::test::Fail;
 
@@ -99,20 +99,28 @@ pub(crate) fn title(rt: &(impl Abort + AllocGlobal), text: &str) -> Name
     title
 }
 
+fn path(rt: &(impl Abort + AllocGlobal), text: &str) -> DomainPath {
+    read_path(rt.alloc(), text).expect(rt, "a path")
+}
+
+fn groups(rt: &(impl Abort + AllocGlobal), is_ops: bool) -> Names {
+    let mut groups = Names::new(rt.alloc());
+    groups.push(name(rt, "lab")).expect(rt, "a group");
+    if is_ops {
+        groups.push(name(rt, "ops")).expect(rt, "a group");
+    }
+    groups
+}
+
 /// A user of the group `lab`, or nobody; bob is also of `ops`.
-pub(crate) fn caller(alloc: Global, user: &str) -> Result<Caller, Fail> {
+pub(crate) fn caller(rt: &(impl Abort + AllocGlobal), user: &str) -> Caller {
     if user.is_empty() {
-        return Ok(Caller::anonymous(alloc));
+        return Caller::anonymous(rt.alloc());
     }
-    let mut groups = Names::new(alloc);
-    groups.push(Name::read(alloc, "lab", 255)?)?;
-    if user == "bob" {
-        groups.push(Name::read(alloc, "ops", 255)?)?;
+    Caller {
+        user: Some(name(rt, user)),
+        groups: groups(rt, user == "bob"),
     }
-    Ok(Caller {
-        user: Some(Name::read(alloc, user, 255)?),
-        groups,
-    })
 }
 
 /// A world of two lanes in run 1 over the folder `/`, where everybody has all rights.
@@ -256,22 +264,24 @@ fn unit(rt: &(impl Abort + AllocGlobal), id: ObjectId) -> Op
     }
 }
 
+fn add_hour(rt: &(impl Abort + AllocGlobal), text: &mut String, before: &str, hour: u32) {
+    let number = format!(in rt.alloc(); "{before}{hour}").expect(rt, "a text");
+    text.push_str(number.as_str()).expect(rt, "a text");
+}
+
 /// The hours of each day of a year, counted from the first.
-fn year(alloc: Global) -> Result<String, AllocError> {
-    let mut text = String::new(alloc);
-    let mut hour = 0u32;
-    let mut before = "[[";
-    for _ in 0..365u16 {
-        for _ in 0..24u8 {
-            let number = format!(in alloc; "{before}{hour}")?;
-            text.push_str(number.as_str())?;
-            before = ",";
-            hour = hour.saturating_add(1);
-        }
-        before = "],[";
+fn year(rt: &(impl Abort + AllocGlobal)) -> String {
+    let mut text = String::new(rt.alloc());
+    for hour in 0..8760u32 {
+        let before = match hour {
+            0 => "[[",
+            _ if hour % 24 == 0 => "],[",
+            _ => ",",
+        };
+        add_hour(rt, &mut text, before, hour);
     }
-    text.push_str("]]")?;
-    Ok(text)
+    text.push_str("]]").expect(rt, "a text");
+    text
 }
 
 /// The hours of a year as a value.
@@ -279,7 +289,7 @@ fn write_year(rt: &(impl Abort + AllocGlobal), id: ObjectId) -> Op
     requires { id.kind ≡ Dataset }
     ensures { IsSoundOp result }
 {
-    let text = year(rt.alloc()).expect(rt, "a text");
+    let text = year(rt);
     write(rt, id, text.as_str())
 }
 
@@ -318,28 +328,24 @@ fn op(rt: &(impl Abort + AllocGlobal), ask: Ask) -> Op
     }
 }
 
-fn refused(alloc: Global, path: &str, refusal: &Refusal) -> Result<String, AllocError> {
-    let status = refusal.status();
-    let text = refusal_json(alloc, path, refusal)?.to_string(alloc)?;
-    format!(in alloc; "{status} {text}")
+fn with_status(rt: &(impl Abort + AllocGlobal), status: u16, body: &Value) -> String {
+    let text = body.to_string(rt.alloc()).expect(rt, "a text");
+    let told = format!(in rt.alloc(); "{status} {text}");
+    told.expect(rt, "a text")
 }
 
-fn replied(alloc: Global, path: &str, reply: &Reply) -> Result<String, AllocError> {
-    match reply {
-        Reply::Done { status, body } => {
-            let text = body.value().to_string(alloc)?;
-            format!(in alloc; "{status} {text}")
-        }
-        Reply::Refused(refusal) => refused(alloc, path, refusal),
-    }
+fn refused(rt: &(impl Abort + AllocGlobal), path: &str, refusal: &Refusal) -> String {
+    let tree = refusal_json(rt.alloc(), path, refusal).expect(rt, "a tree");
+    with_status(rt, refusal.status(), &tree)
 }
 
 /// The status and the body of an answer.
-fn told(alloc: Global, path: &str, what: &What) -> Result<String, AllocError> {
+fn told(rt: &(impl Abort + AllocGlobal), path: &str, what: &What) -> String {
     match what {
-        What::Replied(reply) => replied(alloc, path, reply),
-        What::Denied { right } => refused(alloc, path, &Refusal::Forbidden { right: *right }),
-        What::NoMemory => String::from_str(alloc, "no memory"),
+        What::Replied(Reply::Done { status, body }) => with_status(rt, *status, body.value()),
+        What::Replied(Reply::Refused(refusal)) => refused(rt, path, refusal),
+        What::Denied { right } => refused(rt, path, &Refusal::Forbidden { right: *right }),
+        What::NoMemory => panic!(rt; "no memory"),
     }
 }
 
@@ -351,310 +357,334 @@ fn step(
     world: &mut World,
     caller: &Caller,
     request: &Request,
-) -> Result<String, AllocError>
+) -> String
     requires { IsSoundOp request.now.op }
 {
     assert!(rt; world.has_room());
     let answer = world.step(caller, request);
-    told(rt.alloc(), on_text(request), &answer.what)
+    told(rt, on_text(request), &answer.what)
 }
 
-fn try_rows(rt: &(impl Abort + AllocGlobal), world: &mut World, rows: &[Row]) -> Result<(), Fail> {
+/// What a user is answered who asks something at a path.
+fn asked(
+    rt: &(impl Abort + AllocGlobal),
+    world: &mut World,
+    user: &str,
+    at: &str,
+    ask: Ask,
+) -> String {
+    let request = Request {
+        path: path(rt, at),
+        op: op(rt, ask),
+    };
+    step(rt, world, &caller(rt, user), &request)
+}
+
+fn try_rows(rt: &(impl Abort + AllocGlobal), world: &mut World, rows: &[Row]) {
     for (user, path, ask, wanted) in rows {
-        let caller = caller(rt.alloc(), user)?;
-        let request = Request {
-            path: read_path(rt.alloc(), path)?,
-            op: op(rt, *ask),
-        };
-        let text = step(rt, world, &caller, &request)?;
+        let text = asked(rt, world, user, path, *ask);
         assert!(rt; text.as_str() == *wanted, "{text} in place of {wanted}");
     }
-    Ok(())
 }
+
+const LAB: &str = "/home/lab";
+
+const DENIED: &str = r#"403 {"domain":"/home/lab","reason":"forbidden","right":"read"}"#;
+
+static LISTS: [Row; 16] = [
+    (
+        "alice",
+        "/home",
+        Ask::Folder,
+        r#"201 {"class":"folder","owner":"alice"}"#,
+    ),
+    (
+        "alice",
+        LAB,
+        Ask::Domain,
+        r#"201 {"class":"domain","owner":"alice","root":"g-00000000-0001-8000-8000-010000000000"}"#,
+    ),
+    ("alice", LAB, Ask::Entry("carol", NONE), "201 {}"),
+    ("alice", LAB, Ask::Entry("g:lab", READ), "201 {}"),
+    ("alice", LAB, Ask::Entry("g:ops", UPDATE), "201 {}"),
+    ("carol", LAB, Ask::Node, DENIED),
+    ("", LAB, Ask::Node, DENIED),
+    (
+        "bob",
+        LAB,
+        Ask::Node,
+        r#"200 {"class":"domain","owner":"alice","root":"g-00000000-0001-8000-8000-010000000000"}"#,
+    ),
+    (
+        "bob",
+        LAB,
+        Ask::Resize(1, 1),
+        r#"404 {"id":"d-00000000-0001-8000-8000-010000000001","reason":"no-object"}"#,
+    ),
+    (
+        "bob",
+        LAB,
+        Ask::DropDataset(1, 1),
+        r#"403 {"domain":"/home/lab","reason":"forbidden","right":"delete"}"#,
+    ),
+    ("alice", LAB, Ask::Entry("alice", NO_UPDATE), "201 {}"),
+    (
+        "alice",
+        LAB,
+        Ask::Write(1, 1),
+        r#"403 {"domain":"/home/lab","reason":"forbidden","right":"update"}"#,
+    ),
+    (
+        "alice",
+        LAB,
+        Ask::Domain,
+        r#"409 {"name":"/home/lab","reason":"taken"}"#,
+    ),
+    (
+        "alice",
+        "/home",
+        Ask::DropNode,
+        r#"409 {"domain":"/home","reason":"not-empty"}"#,
+    ),
+    (
+        "alice",
+        LAB,
+        Ask::DropGroup(1, 0),
+        r#"409 {"reason":"root"}"#,
+    ),
+    (
+        "alice",
+        "/home/none",
+        Ask::Node,
+        r#"404 {"domain":"/home/none","reason":"no-domain"}"#,
+    ),
+];
 
 #[test]
 fn the_list_in_force_decides(rt: HostRuntime) -> Result<(), Fail> {
     let mut world = opened(rt.alloc())?;
-    let lab = "/home/lab";
-    let denied = r#"403 {"domain":"/home/lab","reason":"forbidden","right":"read"}"#;
-    let rows: [Row; 16] = [
-        (
-            "alice",
-            "/home",
-            Ask::Folder,
-            r#"201 {"class":"folder","owner":"alice"}"#,
-        ),
-        (
-            "alice",
-            lab,
-            Ask::Domain,
-            r#"201 {"class":"domain","owner":"alice","root":"g-00000000-0001-8000-8000-010000000000"}"#,
-        ),
-        ("alice", lab, Ask::Entry("carol", NONE), "201 {}"),
-        ("alice", lab, Ask::Entry("g:lab", READ), "201 {}"),
-        ("alice", lab, Ask::Entry("g:ops", UPDATE), "201 {}"),
-        ("carol", lab, Ask::Node, denied),
-        ("", lab, Ask::Node, denied),
-        (
-            "bob",
-            lab,
-            Ask::Node,
-            r#"200 {"class":"domain","owner":"alice","root":"g-00000000-0001-8000-8000-010000000000"}"#,
-        ),
-        (
-            "bob",
-            lab,
-            Ask::Resize(1, 1),
-            r#"404 {"id":"d-00000000-0001-8000-8000-010000000001","reason":"no-object"}"#,
-        ),
-        (
-            "bob",
-            lab,
-            Ask::DropDataset(1, 1),
-            r#"403 {"domain":"/home/lab","reason":"forbidden","right":"delete"}"#,
-        ),
-        ("alice", lab, Ask::Entry("alice", NO_UPDATE), "201 {}"),
-        (
-            "alice",
-            lab,
-            Ask::Write(1, 1),
-            r#"403 {"domain":"/home/lab","reason":"forbidden","right":"update"}"#,
-        ),
-        (
-            "alice",
-            lab,
-            Ask::Domain,
-            r#"409 {"name":"/home/lab","reason":"taken"}"#,
-        ),
-        (
-            "alice",
-            "/home",
-            Ask::DropNode,
-            r#"409 {"domain":"/home","reason":"not-empty"}"#,
-        ),
-        (
-            "alice",
-            lab,
-            Ask::DropGroup(1, 0),
-            r#"409 {"reason":"root"}"#,
-        ),
-        (
-            "alice",
-            "/home/none",
-            Ask::Node,
-            r#"404 {"domain":"/home/none","reason":"no-domain"}"#,
-        ),
-    ];
-    try_rows(&rt, &mut world, rows.as_slice())?;
+    try_rows(&rt, &mut world, &LISTS);
     assert_eq!(rt; world.places(), 16);
     assert_eq!(rt; world.run(), 1);
     assert_eq!(rt; world.serials_left(), 1_099_511_627_775);
-    assert!(rt; world.node(&read_path(rt.alloc(), lab)?).is_some());
+    assert!(rt; world.node(&path(&rt, LAB)).is_some());
     assert_eq!(rt; world.catalogue().domains(), 1);
     Ok(())
 }
 
+static OBJECTS: [Row; 10] = [
+    (
+        "alice",
+        "/home",
+        Ask::Folder,
+        r#"201 {"class":"folder","owner":"alice"}"#,
+    ),
+    (
+        "alice",
+        LAB,
+        Ask::Domain,
+        r#"201 {"class":"domain","owner":"alice","root":"g-00000000-0001-8000-8000-010000000000"}"#,
+    ),
+    (
+        "alice",
+        LAB,
+        Ask::Linked("a"),
+        r#"201 {"attributeCount":0,"id":"g-00000000-0001-8000-8000-010000000001","linkCount":0,"root":"g-00000000-0001-8000-8000-010000000000"}"#,
+    ),
+    (
+        "alice",
+        LAB,
+        Ask::Linked("a"),
+        r#"409 {"name":"a","reason":"taken"}"#,
+    ),
+    (
+        "alice",
+        LAB,
+        Ask::Group,
+        r#"201 {"attributeCount":0,"id":"g-00000000-0001-8000-8000-010000000003","linkCount":0,"root":"g-00000000-0001-8000-8000-010000000000"}"#,
+    ),
+    (
+        "alice",
+        LAB,
+        Ask::GetGroup(1, 2),
+        r#"410 {"id":"g-00000000-0001-8000-8000-010000000002","reason":"gone"}"#,
+    ),
+    (
+        "alice",
+        LAB,
+        Ask::GetGroup(1, 4),
+        r#"404 {"id":"g-00000000-0001-8000-8000-010000000004","reason":"no-object"}"#,
+    ),
+    (
+        "alice",
+        LAB,
+        Ask::GetGroup(1, 0),
+        r#"200 {"attributeCount":0,"id":"g-00000000-0001-8000-8000-010000000000","linkCount":1,"root":"g-00000000-0001-8000-8000-010000000000"}"#,
+    ),
+    (
+        "alice",
+        "/home/two",
+        Ask::Domain,
+        r#"201 {"class":"domain","owner":"alice","root":"g-00000000-0002-8000-8000-010000000004"}"#,
+    ),
+    (
+        "alice",
+        "/home/two",
+        Ask::GetGroup(1, 1),
+        r#"404 {"id":"g-00000000-0001-8000-8000-010000000001","reason":"no-object"}"#,
+    ),
+];
+
+const GONE: &str = r#"404 {"domain":"/home/lab","reason":"no-domain"}"#;
+
+static REMOVED: [Row; 2] = [
+    ("alice", LAB, Ask::DropNode, "200 {}"),
+    ("alice", LAB, Ask::GetGroup(1, 1), GONE),
+];
+
 #[test]
 fn objects_take_serials(rt: HostRuntime) -> Result<(), Fail> {
     let mut world = opened(rt.alloc())?;
-    let lab = "/home/lab";
-    let gone = r#"404 {"domain":"/home/lab","reason":"no-domain"}"#;
-    let rows: [Row; 10] = [
-        (
-            "alice",
-            "/home",
-            Ask::Folder,
-            r#"201 {"class":"folder","owner":"alice"}"#,
-        ),
-        (
-            "alice",
-            lab,
-            Ask::Domain,
-            r#"201 {"class":"domain","owner":"alice","root":"g-00000000-0001-8000-8000-010000000000"}"#,
-        ),
-        (
-            "alice",
-            lab,
-            Ask::Linked("a"),
-            r#"201 {"attributeCount":0,"id":"g-00000000-0001-8000-8000-010000000001","linkCount":0,"root":"g-00000000-0001-8000-8000-010000000000"}"#,
-        ),
-        (
-            "alice",
-            lab,
-            Ask::Linked("a"),
-            r#"409 {"name":"a","reason":"taken"}"#,
-        ),
-        (
-            "alice",
-            lab,
-            Ask::Group,
-            r#"201 {"attributeCount":0,"id":"g-00000000-0001-8000-8000-010000000003","linkCount":0,"root":"g-00000000-0001-8000-8000-010000000000"}"#,
-        ),
-        (
-            "alice",
-            lab,
-            Ask::GetGroup(1, 2),
-            r#"410 {"id":"g-00000000-0001-8000-8000-010000000002","reason":"gone"}"#,
-        ),
-        (
-            "alice",
-            lab,
-            Ask::GetGroup(1, 4),
-            r#"404 {"id":"g-00000000-0001-8000-8000-010000000004","reason":"no-object"}"#,
-        ),
-        (
-            "alice",
-            lab,
-            Ask::GetGroup(1, 0),
-            r#"200 {"attributeCount":0,"id":"g-00000000-0001-8000-8000-010000000000","linkCount":1,"root":"g-00000000-0001-8000-8000-010000000000"}"#,
-        ),
-        (
-            "alice",
-            "/home/two",
-            Ask::Domain,
-            r#"201 {"class":"domain","owner":"alice","root":"g-00000000-0002-8000-8000-010000000004"}"#,
-        ),
-        (
-            "alice",
-            "/home/two",
-            Ask::GetGroup(1, 1),
-            r#"404 {"id":"g-00000000-0001-8000-8000-010000000001","reason":"no-object"}"#,
-        ),
-    ];
-    try_rows(&rt, &mut world, rows.as_slice())?;
+    try_rows(&rt, &mut world, &OBJECTS);
     let first = id(Kind::Group, 1, 1);
     assert!(rt; world.object(&first).is_some());
     assert_eq!(rt; world.next_id(Some(&first)), Some(id(Kind::Group, 1, 3)));
-    let rows: [Row; 2] = [
-        ("alice", lab, Ask::DropNode, "200 {}"),
-        ("alice", lab, Ask::GetGroup(1, 1), gone),
-    ];
-    try_rows(&rt, &mut world, rows.as_slice())?;
+    try_rows(&rt, &mut world, &REMOVED);
     assert!(rt; world.object(&first).is_none());
     assert!(rt; world.next_id(None).is_none());
     Ok(())
 }
 
-#[test]
-fn objects_are_put_without_a_request(rt: HostRuntime) -> Result<(), Fail> {
-    let alloc = rt.alloc();
-    let mut world = opened(alloc)?;
-    let path = read_path(alloc, "/lab")?;
-    let Ok(root) = world.make_domain(&path, &name(&rt, "alice")) else {
-        return Err(Fail::from("a domain"));
+/// A domain is made at `/lab`, and in it a group.
+fn put_group(rt: &(impl Abort + AllocGlobal), world: &mut World) {
+    let Ok(root) = world.make_domain(&path(rt, "/lab"), &name(rt, "alice")) else {
+        panic!(rt; "a domain");
     };
     let Some(fresh) = world.fresh(Kind::Group, root.domain) else {
-        return Err(Fail::from("a serial"));
+        panic!(rt; "a serial");
     };
-    world.put_object(fresh, Object::new_group(alloc))?;
     assert_eq!(rt; root, id(Kind::Group, 1, 0));
     assert_eq!(rt; fresh, id(Kind::Group, 1, 1));
+    world
+        .put_object(fresh, Object::new_group(rt.alloc()))
+        .expect(rt, "an object");
+}
+
+static PUT: [Row; 1] = [(
+    "alice",
+    "/lab",
+    Ask::GetGroup(1, 1),
+    r#"200 {"attributeCount":0,"id":"g-00000000-0001-8000-8000-010000000001","linkCount":0,"root":"g-00000000-0001-8000-8000-010000000000"}"#,
+)];
+
+#[test]
+fn objects_are_put_without_a_request(rt: HostRuntime) -> Result<(), Fail> {
+    let mut world = opened(rt.alloc())?;
+    put_group(&rt, &mut world);
+    let (root, fresh) = (id(Kind::Group, 1, 0), id(Kind::Group, 1, 1));
     assert!(rt; world.object(&fresh).is_some());
     assert!(rt; world.object(&root).is_none());
     assert_eq!(rt; world.next_id(None), Some(fresh));
     assert!(rt; world.next_id(Some(&fresh)).is_none());
     assert_eq!(rt; world.serials_left(), 1_099_511_627_774);
     assert_eq!(rt; world.places(), 0);
-    let rows: [Row; 1] = [(
+    try_rows(&rt, &mut world, &PUT);
+    Ok(())
+}
+
+static LINKS: [Row; 6] = [
+    (
         "alice",
         "/lab",
-        Ask::GetGroup(1, 1),
-        r#"200 {"attributeCount":0,"id":"g-00000000-0001-8000-8000-010000000001","linkCount":0,"root":"g-00000000-0001-8000-8000-010000000000"}"#,
-    )];
-    try_rows(&rt, &mut world, rows.as_slice())
-}
+        Ask::Domain,
+        r#"201 {"class":"domain","owner":"alice","root":"g-00000000-0001-8000-8000-010000000000"}"#,
+    ),
+    ("alice", "/lab", Ask::Entry("g:lab", READ), "201 {}"),
+    (
+        "bob",
+        "/lab",
+        Ask::PutLink("a"),
+        r#"403 {"domain":"/lab","reason":"forbidden","right":"create"}"#,
+    ),
+    (
+        "alice",
+        "/lab",
+        Ask::GetLink("a"),
+        r#"404 {"name":"a","reason":"no-name"}"#,
+    ),
+    ("alice", "/lab", Ask::PutLink("a"), "201 {}"),
+    (
+        "alice",
+        "/lab",
+        Ask::GetLink("a"),
+        r#"200 {"link":{"class":"H5L_TYPE_HARD","collection":"groups","id":"g-00000000-0001-8000-8000-010000000001","title":"a"}}"#,
+    ),
+];
 
 #[test]
 fn a_denied_link_leaves_its_title_free(rt: HostRuntime) -> Result<(), Fail> {
     let mut world = opened(rt.alloc())?;
-    let lab = "/lab";
-    let rows: [Row; 6] = [
-        (
-            "alice",
-            lab,
-            Ask::Domain,
-            r#"201 {"class":"domain","owner":"alice","root":"g-00000000-0001-8000-8000-010000000000"}"#,
-        ),
-        ("alice", lab, Ask::Entry("g:lab", READ), "201 {}"),
-        (
-            "bob",
-            lab,
-            Ask::PutLink("a"),
-            r#"403 {"domain":"/lab","reason":"forbidden","right":"create"}"#,
-        ),
-        (
-            "alice",
-            lab,
-            Ask::GetLink("a"),
-            r#"404 {"name":"a","reason":"no-name"}"#,
-        ),
-        ("alice", lab, Ask::PutLink("a"), "201 {}"),
-        (
-            "alice",
-            lab,
-            Ask::GetLink("a"),
-            r#"200 {"link":{"class":"H5L_TYPE_HARD","collection":"groups","id":"g-00000000-0001-8000-8000-010000000001","title":"a"}}"#,
-        ),
-    ];
-    try_rows(&rt, &mut world, rows.as_slice())
+    try_rows(&rt, &mut world, &LINKS);
+    Ok(())
 }
+
+static DAY: [Row; 11] = [
+    (
+        "alice",
+        "/home",
+        Ask::Folder,
+        r#"201 {"class":"folder","owner":"alice"}"#,
+    ),
+    (
+        "alice",
+        "/home/met",
+        Ask::Domain,
+        r#"201 {"class":"domain","owner":"alice","root":"g-00000000-0001-8000-8000-010000000000"}"#,
+    ),
+    (
+        "alice",
+        "/home/met",
+        Ask::Linked("raw"),
+        r#"201 {"attributeCount":0,"id":"g-00000000-0001-8000-8000-010000000001","linkCount":0,"root":"g-00000000-0001-8000-8000-010000000000"}"#,
+    ),
+    (
+        "alice",
+        "/home/met",
+        Ask::Linked("log"),
+        r#"201 {"attributeCount":0,"id":"g-00000000-0001-8000-8000-010000000002","linkCount":0,"root":"g-00000000-0001-8000-8000-010000000000"}"#,
+    ),
+    (
+        "alice",
+        "/home/met",
+        Ask::Linked("doc"),
+        r#"201 {"attributeCount":0,"id":"g-00000000-0001-8000-8000-010000000003","linkCount":0,"root":"g-00000000-0001-8000-8000-010000000000"}"#,
+    ),
+    (
+        "alice",
+        "/home/met",
+        Ask::Hours,
+        r#"201 {"attributeCount":0,"creationProperties":{"layout":{"class":"H5D_CHUNKED","dims":[365,24]}},"id":"d-00000000-0001-8000-8000-010000000004","root":"g-00000000-0001-8000-8000-010000000000","shape":{"class":"H5S_SIMPLE","dims":[365,24],"maxdims":[365,24]},"type":{"base":"H5T_STD_I32LE","class":"H5T_INTEGER"}}"#,
+    ),
+    (
+        "alice",
+        "/home/met",
+        Ask::Notes,
+        r#"201 {"attributeCount":0,"creationProperties":{"layout":{"class":"H5D_CHUNKED","dims":[100]}},"id":"d-00000000-0001-8000-8000-010000000005","root":"g-00000000-0001-8000-8000-010000000000","shape":{"class":"H5S_SIMPLE","dims":[100],"maxdims":[100]},"type":{"class":"H5T_COMPOUND","fields":[{"name":"day","type":{"base":"H5T_STD_I32LE","class":"H5T_INTEGER"}},{"name":"note","type":{"charSet":"H5T_CSET_ASCII","class":"H5T_STRING","length":16,"strPad":"H5T_STR_NULLTERM"}}]}}"#,
+    ),
+    ("alice", "/home/met", Ask::Unit(1, 4), "201 {}"),
+    ("alice", "/home/met", Ask::WriteYear(1, 4), "200 {}"),
+    ("alice", "/home/met", Ask::Entry("g:lab", READ), "201 {}"),
+    (
+        "bob",
+        "/home/met",
+        Ask::Select(1, 4, "[0:365:73,0:24:12]"),
+        r#"200 {"value":[[0,12],[1752,1764],[3504,3516],[5256,5268],[7008,7020]]}"#,
+    ),
+];
 
 #[test]
 fn a_day_of_measurements(rt: HostRuntime) -> Result<(), Fail> {
     let mut world = opened(rt.alloc())?;
-    let met = "/home/met";
-    let rows: [Row; 11] = [
-        (
-            "alice",
-            "/home",
-            Ask::Folder,
-            r#"201 {"class":"folder","owner":"alice"}"#,
-        ),
-        (
-            "alice",
-            met,
-            Ask::Domain,
-            r#"201 {"class":"domain","owner":"alice","root":"g-00000000-0001-8000-8000-010000000000"}"#,
-        ),
-        (
-            "alice",
-            met,
-            Ask::Linked("raw"),
-            r#"201 {"attributeCount":0,"id":"g-00000000-0001-8000-8000-010000000001","linkCount":0,"root":"g-00000000-0001-8000-8000-010000000000"}"#,
-        ),
-        (
-            "alice",
-            met,
-            Ask::Linked("log"),
-            r#"201 {"attributeCount":0,"id":"g-00000000-0001-8000-8000-010000000002","linkCount":0,"root":"g-00000000-0001-8000-8000-010000000000"}"#,
-        ),
-        (
-            "alice",
-            met,
-            Ask::Linked("doc"),
-            r#"201 {"attributeCount":0,"id":"g-00000000-0001-8000-8000-010000000003","linkCount":0,"root":"g-00000000-0001-8000-8000-010000000000"}"#,
-        ),
-        (
-            "alice",
-            met,
-            Ask::Hours,
-            r#"201 {"attributeCount":0,"creationProperties":{"layout":{"class":"H5D_CHUNKED","dims":[365,24]}},"id":"d-00000000-0001-8000-8000-010000000004","root":"g-00000000-0001-8000-8000-010000000000","shape":{"class":"H5S_SIMPLE","dims":[365,24],"maxdims":[365,24]},"type":{"base":"H5T_STD_I32LE","class":"H5T_INTEGER"}}"#,
-        ),
-        (
-            "alice",
-            met,
-            Ask::Notes,
-            r#"201 {"attributeCount":0,"creationProperties":{"layout":{"class":"H5D_CHUNKED","dims":[100]}},"id":"d-00000000-0001-8000-8000-010000000005","root":"g-00000000-0001-8000-8000-010000000000","shape":{"class":"H5S_SIMPLE","dims":[100],"maxdims":[100]},"type":{"class":"H5T_COMPOUND","fields":[{"name":"day","type":{"base":"H5T_STD_I32LE","class":"H5T_INTEGER"}},{"name":"note","type":{"charSet":"H5T_CSET_ASCII","class":"H5T_STRING","length":16,"strPad":"H5T_STR_NULLTERM"}}]}}"#,
-        ),
-        ("alice", met, Ask::Unit(1, 4), "201 {}"),
-        ("alice", met, Ask::WriteYear(1, 4), "200 {}"),
-        ("alice", met, Ask::Entry("g:lab", READ), "201 {}"),
-        (
-            "bob",
-            met,
-            Ask::Select(1, 4, "[0:365:73,0:24:12]"),
-            r#"200 {"value":[[0,12],[1752,1764],[3504,3516],[5256,5268],[7008,7020]]}"#,
-        ),
-    ];
-    try_rows(&rt, &mut world, rows.as_slice())
+    try_rows(&rt, &mut world, &DAY);
+    Ok(())
 }

@@ -3,6 +3,3 @@ use Rattle.chunk_owner.proofs.tests.an_object_has_at_most_1024_attributes.Given 
 
 abbrev pub invariant-loop-number : goal.invariant-loop-number
 invariant-loop-number g l = (l.owner.lane ≡ 0) × (l.owner.lanes ≡ 1)
-
-abbrev pub invariant-loop-last : goal.invariant-loop-last
-invariant-loop-last g l = (l.owner.lane ≡ 0) × (l.owner.lanes ≡ 1)

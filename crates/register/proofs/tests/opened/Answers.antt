@@ -10,7 +10,7 @@ use Rattle.register.proofs.tests.opened.Goals as goal
 
 pub new-requires-2-clause-roots : goal.new-requires-2-clause-roots
 new-requires-2-clause-roots c =
-    let node : Node = record { class = Folder; owner = c.in_ok-name.field-0; list = empty } in
+    let node : Node = record { class = Folder; owner = c.in_ok-read.field-0; list = empty } in
     let Given : Contents → Type 0 = λ k. AreGivenOut k 1 0 in
     subst Given (sym c.in-Ok.ensures.ok)
     (with_list c.in_ok-catalogue.catalogue c.in_ok-root.root c.in_ok-everybody.everybody all_rights 1 0
