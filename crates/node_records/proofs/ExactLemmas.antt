@@ -1,5 +1,5 @@
 -- A tree that spells a node is the node's tree.
-use Rattle.std.proofs.Common.{◌≡◌, ◌≤◌, ◌<◌, ◌^◌, ◌==◌, ◌&&◌, ℕ, List, [], ◌∷◌, length, Bool, true, false, codes, nat_le, bytes_eq, Option, Some, None, option_map, option_and_then, refl, sym, ap, subst, if◌then◌else◌, arith, ◌∙◌}
+use Rattle.std.proofs.Common.{◌≡◌, ◌≤◌, ◌<◌, ◌^◌, ◌==◌, ℕ, List, [], ◌∷◌, length, Bool, true, false, codes, nat_le, bytes_eq, Option, Some, None, option_map, option_and_then, refl, sym, ap, subst, if◌then◌else◌, arith, ◌∙◌}
 use Rattle.std.specs.List.{AllByRecursion}
 use Rattle.std.proofs.lemmas.Bool.{eqb-true, leb-true}
 use Rattle.std.proofs.lemmas.Slice.Eq.{bytes_eq-Decides}

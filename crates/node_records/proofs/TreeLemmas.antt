@@ -1,10 +1,12 @@
 -- The tree of a node spells the node.
-use Rattle.std.proofs.Common.{◌≡◌, ◌≤◌, ◌==◌, ◌&&◌, ℕ, Bool, true, List, Option, Some, option_map, option_and_then, refl, ap, arith, ◌∙◌}
+use Rattle.std.proofs.Common.{◌≡◌, ◌≤◌, ◌==◌, ◌&&◌, ◌||◌, ℕ, Bool, true, false, List, [], ◌∷◌, Option, Some, option_map, option_and_then, refl, ap, arith, ◌∙◌}
 use Rattle.std.proofs.lemmas.Bool.{eq-eqb}
+use Rattle.std.specs.FinMap.{entries}
 use Rattle.serde_json.specs.Data.{Data, depth}
+use Rattle.serde_json.specs.Written.{has_float, members_have_float}
 use Rattle.object_ids.specs.IdValues.{Id}
 use Rattle.groups_links.proofs.IdLemmas.{id_of-text}
-use Rattle.access_lists.specs.EntryTrees.{list_tree}
+use Rattle.access_lists.specs.EntryTrees.{entry_members, list_tree}
 use Rattle.access_lists.specs.InForce.{Entries}
 use Rattle.domains.specs.Contents.{HasRoot}
 use Rattle.domains.specs.declared.classes.Node.{Node}
@@ -12,7 +14,7 @@ use Rattle.domains.specs.declared.classes.NodeClass.{NodeClass}
 use Rattle.domains.specs.declared.classes.NodeClass.TheVariants.{Folder, Domain}
 use Rattle.node_records.specs.Lists.{list_in, name_in, only_if}
 use Rattle.node_records.specs.Nodes.{HasId, IsKeptNode, class_in, class_tree, domain_of, is_group, is_root, node_in, node_tree}
-use Rattle.node_records.proofs.BackLemmas.{list_back, list_flat}
+use Rattle.node_records.proofs.BackLemmas.{Row, list_back, list_flat}
 
 own_root : (own : ℕ) (root : Id) → HasRoot (Domain own root) → is_root own root ≡ true
 own_root own root held = ap (λ k. is_group k && root.domain == own) held.0 ∙ eq-eqb root.domain own held.1
@@ -45,3 +47,16 @@ class_flat (Domain own root) acls owner flat = omega (arith, flat)
 
 pub node_flat : (node : Node) → depth (node_tree node) ≤ 3
 node_flat node = class_flat node.class (list_tree node.list) node.owner (list_flat node.list)
+
+-- ---- no number of it has a fraction or an exponent
+
+rows_exact : (rows : List Row) → members_have_float (entry_members rows) ≡ false
+rows_exact [] = refl
+rows_exact (row ∷ rows) = rows_exact rows
+
+class_exact : (class : NodeClass) (acls : Data) (owner : List ℕ) → has_float acls ≡ false → has_float (class_tree class acls owner) ≡ false
+class_exact Folder acls owner exact = ap (λ b. b || false) exact
+class_exact (Domain own root) acls owner exact = ap (λ b. b || false) exact
+
+pub node_exact : (node : Node) → has_float (node_tree node) ≡ false
+node_exact node = class_exact node.class (list_tree node.list) node.owner (rows_exact (entries node.list))

@@ -1,5 +1,6 @@
 -- The bodies of nodes' records.
 --     node_tree node      the tree of a folder or a domain
+--     node_body node      the body of its record
 --     node_in d      the node that a tree spells
 --     node_of_body body      what a body reads as
 --     IsKeptNode node      what is true of each node of a catalogue
@@ -8,6 +9,7 @@ use Rattle.std.specs.Str.{bytes_eq, is_utf8}
 use Rattle.serde_json.specs.Data.{Data, number, unsigned, string, object, member, no_members}
 use Rattle.serde_json.specs.Find.{get}
 use Rattle.serde_json.specs.Read.{read}
+use Rattle.serde_json.specs.Written.{compact_text}
 use Rattle.json_trees.specs.Trees.{text_at, whole_in}
 use Rattle.object_ids.specs.Ids.{InRange, text_of_id}
 use Rattle.object_ids.specs.IdValues.{Id}
@@ -40,6 +42,10 @@ class_tree (Domain own root) acls owner = domain_tree acls own owner root
 
 abbrev pub node_tree : Node → Data
 node_tree node = class_tree node.class (list_tree node.list) node.owner
+
+-- the tree as text without a space
+abbrev pub node_body : Node → List ℕ
+node_body node = compact_text (node_tree node)
 
 -- ---- what a tree spells
 

@@ -4,7 +4,7 @@ ghost use Rattle.std.specs.Prelude.{◌≡◌, ◌≢◌, [], Some, IfOk, string
 ghost use Rattle.serde_json.specs.View.{view};
 ghost use Rattle.domains.specs.Contents.{HasRoot, NumberFits};
 ghost use Rattle.node_records.specs.Nodes.{HasId, IsKeptNode, class_tree, domain_tree, folder_tree};
-ghost use Rattle.node_records.specs.Nodes.{node_of_body, node_tree};
+ghost use Rattle.node_records.specs.Nodes.{node_body, node_of_body, node_tree};
 
 use access_lists::list_json;
 use domains::{Node, NodeClass};
@@ -20,6 +20,7 @@ use std::alloc::{AllocError, Global};
 /// Only where memory runs out.
 pub fn node_text(alloc: Global, node: &Node) -> Result<String, AllocError>
     requires { HasRoot node.now.class }
+    ensures exact { IfOk result (λ text. string_bytes text ≡ node_body node.now) }
     ensures reads { IfOk result (λ text. node_of_body (string_bytes text) ≡ Some node.now) }
     ensures some { IfOk result (λ text. string_bytes text ≢ []) }
 {

@@ -3,3 +3,4 @@ pub mod TreeLemmas
 pub mod CreationLemmas
 pub mod ReadLemmas
 pub mod SameLemmas
+pub mod BodyLemmas

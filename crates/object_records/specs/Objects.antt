@@ -4,6 +4,7 @@ use Rattle.std.specs.Str.{is_utf8}
 use Rattle.serde_json.specs.Data.{Data, object, member, no_members}
 use Rattle.serde_json.specs.Find.{get}
 use Rattle.serde_json.specs.Read.{read}
+use Rattle.serde_json.specs.Written.{compact_text}
 use Rattle.object_ids.specs.declared.ids.Kind.{Kind}
 use Rattle.object_ids.specs.declared.ids.Kind.TheVariants as kind
 use Rattle.hdf_types.specs.Elems.{Elem}
@@ -47,6 +48,10 @@ body_tree attributes (Datatype type) = datatype_tree attributes (type_tree (elem
 
 abbrev pub object_tree : Object → Data
 object_tree o = body_tree (attributes_list o.attributes Document true) o.body
+
+-- the body of an object's record: the text of its tree without a space
+unfoldable pub object_body : Object → List ℕ
+object_body o = compact_text (object_tree o)
 
 -- ---- what a tree spells
 

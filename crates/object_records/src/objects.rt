@@ -12,7 +12,7 @@ ghost use Rattle.array_acts.specs.Creation.{creation_tree};
 ghost use Rattle.object_acts.specs.Objects.{IsSoundBody, kind_of_body};
 ghost use Rattle.object_records.specs.Entries.{entry_of};
 ghost use Rattle.object_records.specs.Objects.{body_tree, dataset_tree, datatype_tree, group_tree};
-ghost use Rattle.object_records.specs.Objects.{IsKeptBody, object_of_body, object_tree};
+ghost use Rattle.object_records.specs.Objects.{IsKeptBody, object_body, object_of_body, object_tree};
 
 use array_acts::creation_json;
 use chunk_store::Array;
@@ -23,16 +23,18 @@ use serde_json::{Value, json};
 use shapes::{Form, shape_json};
 use std::alloc::{AllocError, Global};
 
-/// The text of an object's record, which reads as what is kept of the object.
+/// The text of an object's record, which reads as what is kept of the object: that of its tree, without a space.
 ///
 /// # Errors
 ///
 /// Only where memory runs out.
+#[tactic(auto, using(crate::proofs::BodyLemmas::object_exact), unfolding(crate::specs::Objects::object_body))]
 pub fn object_text(alloc: Global, object: &Object) -> Result<String, AllocError>
     requires { IsSoundBody object.now.body }
     ensures reads { IfOk result (λ text. object_of_body (kind_of_body object.now.body)
         (string_bytes text) ≡ Some (entry_of object.now)) }
     ensures some { IfOk result (λ text. string_bytes text ≢ []) }
+    ensures exact { IfOk result (λ text. string_bytes text ≡ object_body object.now) }
 {
     object.attributes.is_whole();
     is_whole(&object.body);

@@ -3,10 +3,14 @@ use Rattle.std.specs.Str.{IsUtf8}
 use Rattle.serde_json.specs.Data.{depth}
 use Rattle.serde_json.specs.Read.{max_depth, read}
 use Rattle.serde_json.specs.View.{view}
+use Rattle.serde_json.specs.Written.{compact_text, has_float}
 use Rattle.node_records.specs.Nodes.{node_in}
 use Rattle.node_records.proofs.ReadLemmas.{body_reads, nothing_read}
-use Rattle.node_records.proofs.TreeLemmas.{node_back, node_flat}
+use Rattle.node_records.proofs.TreeLemmas.{node_back, node_exact, node_flat}
 use Rattle.node_records.proofs.nodes.node_text.Goals as goal
+
+pub returns-clause-exact : goal.returns-clause-exact
+returns-clause-exact c = let tree = c.in_ok-tree.ensures in c.in_ok-text.ensures.text (ap has_float tree ∙ node_exact c.args.node.now) ∙ ap compact_text tree
 
 pub returns-clause-reads : goal.returns-clause-reads
 returns-clause-reads c =
