@@ -14,7 +14,8 @@ ghost use Rattle.object_acts.specs.Objects.{unmarked, IsOfKind, IsTrackedBody};
 ghost use Rattle.object_acts.specs.declared.objects.Object.{Object};
 ghost use Rattle.flush_journal.specs.Batches.{records};
 ghost use Rattle.flush_journal.specs.Records.{Held};
-ghost use Rattle.record_cuts.specs.Cuts.{IsCut};
+ghost use Rattle.record_cuts.specs.Cuts.{AppendsEach, IsCut};
+ghost use Rattle.object_slots.specs.Bodies.{IsSlotRecord, IsUndropped};
 ghost use Rattle.object_slots.specs.Marking.{AddsMarks, IsToForget};
 ghost use Rattle.object_slots.specs.Slots.{AreStill, Describes, IsMarked, IsMarkedIn, Says, StillSays};
 ghost use Rattle.object_slots.specs.declared.slot.Mark.TheVariants.{Changed};
@@ -189,6 +190,7 @@ impl Owner {
         ensures says { StillSays self.old.slots self.new.slots }
         ensures alone { AddsMarks (IsMarkedIn id Changed object.body)
             self.old.slots self.new.slots }
+        ensures undropped { IsUndropped self.old.slots → IsUndropped self.new.slots }
         ensures same { IsSameLane self.old self.new }
     {
         put(&mut self.slots, id, object)
@@ -217,6 +219,8 @@ impl Owner {
             (records into.old) (records into.new)
             (λ held. (id : Id) → InRange id → Says (get self.old.slots id) id base
             → Says (get self.new.slots id) id held) }
+        ensures bodies { AppendsEach (IsSlotRecord self.old.slots)
+            (records into.old) (records into.new) }
         ensures still { OnOk result (AreStill self.new.slots) }
         ensures marks { (key : List ℕ) → IsMarked self.new.slots key → IsMarked self.old.slots key }
         ensures objects { self.new.objects ≡ self.old.objects }

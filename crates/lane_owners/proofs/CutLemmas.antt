@@ -1,28 +1,46 @@
 -- Cuts of lanes in turn.
-use Rattle.std.proofs.Common.{◌≡◌, ℕ, ◌+◌, ◌<◌, List, [], ◌∷◌, ◌++◌, length, take, drop, get_or, refl, sym, ap, subst, ◌∙◌, append-nil, arith}
+use Rattle.std.proofs.Common.{◌≡◌, ◌≢◌, ℕ, ◌+◌, ◌<◌, List, [], ◌∷◌, ◌++◌, length, take, drop, get_or, Option, Some, refl, sym, ap, subst, ◌∙◌, append-nil, arith}
+use Rattle.std.specs.FinMap.{get}
 use Rattle.std.specs.List.{AllByRecursion}
 use Rattle.std.proofs.lemmas.Grind.{drop_more_same}
 use Rattle.std.proofs.lemmas.List.{drop-set-lt, get_or-drop, get_or-set_same, length-set, length-take-le, take_more, take_more_set}
 use Rattle.chunk_store.proofs.PickLemmas.{each_append, each_at}
+use Rattle.object_ids.specs.IdValues.{Id}
+use Rattle.object_ids.specs.Ids.{lane_of}
+use Rattle.object_acts.specs.declared.objects.Object.{Object}
+use Rattle.object_acts.specs.Objects.{unmarked}
 use Rattle.flush_journal.specs.Records.{Held, Record, put_all}
-use Rattle.record_cuts.specs.Cuts.{AreApart, IsCut, IsEither}
-use Rattle.record_cuts.proofs.CutLemmas.{all_more, in_turn}
-use Rattle.object_slots.specs.Slots.{AreStill, IsMarked}
+use Rattle.record_cuts.specs.Cuts.{AppendsEach, AreApart, IsCut, IsEither}
+use Rattle.record_cuts.proofs.CutLemmas.{all_more, appends_as, appends_more, appends_none, in_turn}
+use Rattle.object_slots.specs.Bodies.{IsObjectRecord, IsRecordOf, IsSlotRecord, IsUndropped}
+use Rattle.object_slots.specs.declared.slot.Mark.{Mark}
+use Rattle.object_slots.specs.declared.slot.Mark.TheVariants.{Kept, Changed, Dropped}
+use Rattle.object_slots.specs.declared.slot.Slot.{Slot}
+use Rattle.object_slots.specs.Slots.{AreStill, IsMarked, object_by, object_of}
 use Rattle.object_slots.proofs.LaneCuts.{all_marks}
-use Rattle.chunk_owner.specs.Lanes.{IsWhole, Lane}
+use Rattle.object_slots.proofs.Standing.{get-objects_of}
+use Rattle.chunk_owner.specs.Lanes.{IsWhole, Lane, Objects}
 use Rattle.lane_owners.specs.Cutting.{CutsLane, IsStillAt}
 use Rattle.lane_owners.specs.Joined.{AreLanes, IsLane, whole}
-use Rattle.lane_owners.specs.Records.{AreStillIn, IsMarkedIn, LanesSay}
+use Rattle.lane_owners.specs.Records.{AreStillIn, AreUndropped, IsMarkedIn, IsStandingIn, LanesSay}
 use Rattle.lane_owners.proofs.LaneKeys.{IsKeyOf, apart_below, each_first, each_set, key_of_lane, lanes_first, marked_first, marked_push, said_cut}
-use Rattle.lane_owners.proofs.WholeLemmas.{lanes_same, this_lane, whole_same}
+use Rattle.lane_owners.proofs.WholeLemmas.{at_home, lanes_same, this_lane, whole_same}
 
 -- what is held after the cut tells the lanes as they are now
 abbrev Later : List Lane → List Lane → Held → Held → Type 0
 Later old now base held = LanesSay old base → LanesSay now held
 
+-- an object that wasn't removed stands
+stands_by : (mark : Mark) (o : Object) → mark ≢ Dropped → (x : Object) × (object_by mark o ≡ Some x)
+stands_by Kept o there = (unmarked o, refl)
+stands_by Changed o there = (unmarked o, refl)
+stands_by Dropped o there = absurd (there refl)
+
 -- the first `k` lanes were cut
 pub record IsCutTo (n k : ℕ) (old now : List Lane) (first last : List Record) : Type 0 where
   pub cut : (base : Held) → IsCut (IsMarkedIn (take k old)) base first last (λ held. LanesSay old base → LanesSay now held)
+  pub bodies : AppendsEach (IsObjectRecord (whole old)) first last
+  pub standing : AppendsEach (IsStandingIn old) first last
   pub count : length now ≡ length old
   pub rest : drop k now ≡ drop k old
   pub lanes : AreLanes n 0 now
@@ -33,6 +51,8 @@ pub record IsCutTo (n k : ℕ) (old now : List Lane) (first last : List Record) 
 pub cut_begin : (n : ℕ) (ls : List Lane) (records : List Record) → AreLanes n 0 ls → AllByRecursion IsWhole ls → IsCutTo n 0 ls ls records records
 cut_begin n ls records lanes wholes = record {
   cut = λ base. record { added = []; appended = sym (append-nil records); changed = tt; once = tt; stands = λ said. said };
+  bodies = appends_none (IsObjectRecord (whole ls)) records;
+  standing = appends_none (IsStandingIn ls) records;
   count = refl;
   rest = refl;
   lanes = lanes;
@@ -82,6 +102,33 @@ module _ (n k : ℕ) (old now after : List Lane) (first mid new : List Record) (
   cut_to : (base : Held) → IsCut (IsMarkedIn (take (k + 1) old)) base first new (Later old after base)
   cut_to base = all_marks (IsEither (IsMarkedIn (take k old)) (IsMarked d.was.slots)) (IsMarkedIn (take (k + 1) old)) base first new (Later old after base) marks_to (both_cut base)
 
+  -- what has a slot in the lane stands in the whole as there
+  in_whole : (id : Id) (s : Slot) → get d.was.slots id ≡ Some s → get (whole old) id ≡ object_of (Some s)
+  in_whole id s here =
+      at_home n 0 k old d.was lanes id (ap (λ j. lane_of j id) (sym is_lane.lanes) ∙ was_whole.slots.home id s here ∙ is_lane.lane ∙ (let e : k ≡ 0 + k = omega arith in e)) few_old here_old
+      ∙ ap (λ (m : Objects). get m id) was_whole.seen ∙ get-objects_of d.was.slots id ∙ ap object_of here
+
+  pub front_bodies : AppendsEach (IsObjectRecord (whole old)) first new
+  front_bodies = appends_more (IsObjectRecord (whole old)) first mid new c.bodies
+      (appends_as (IsSlotRecord d.was.slots) (IsObjectRecord (whole old)) mid new
+      (λ r h. record { id = h.id; range = h.range; of = subst (λ (o : Option Object). IsRecordOf h.id o r) (sym (in_whole h.id h.slot h.here)) h.of }) d.bodies)
+
+  -- no slot of the lane was dropped
+  was_undropped : AreUndropped old → IsUndropped d.was.slots
+  was_undropped undropped = subst (λ (l : Lane). IsUndropped l.slots) here_old (each_at (λ l. IsUndropped l.slots) old k d.was few_old undropped)
+
+  slot_stands : (r : Record) → IsSlotRecord d.was.slots r → IsStandingIn old r
+  slot_stands r h undropped = let there = stands_by h.slot.mark h.slot.object (was_undropped undropped h.id h.slot h.here) in record {
+    id = h.id;
+    range = h.range;
+    object = there.0;
+    here = in_whole h.id h.slot h.here ∙ there.1;
+    of = subst (λ (o : Option Object). IsRecordOf h.id o r) there.1 h.of;
+  }
+
+  pub front_standing : AppendsEach (IsStandingIn old) first new
+  front_standing = appends_more (IsStandingIn old) first mid new c.standing (appends_as (IsSlotRecord d.was.slots) (IsStandingIn old) mid new slot_stands d.bodies)
+
   pub front_lanes : AreLanes n 0 after
   front_lanes = subst (λ (ls : List Lane). AreLanes n 0 ls) (sym d.set) (lanes_same n k now d.was d.left c.lanes few d.here d.same d.objects)
 
@@ -99,6 +146,8 @@ module _ (n k : ℕ) (old now after : List Lane) (first mid new : List Record) (
   pub cut_more : IsStillAt k after → IsCutTo n (k + 1) old after first new
   cut_more still = record {
     cut = cut_to;
+    bodies = front_bodies;
+    standing = front_standing;
     count = ap length d.set ∙ length-set now k d.left ∙ c.count;
     rest = ap (drop (k + 1)) d.set ∙ drop-set-lt (k + 1) now k d.left (omega arith) ∙ drop_more_same now old k c.rest;
     lanes = front_lanes;

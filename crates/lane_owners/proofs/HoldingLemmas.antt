@@ -1,5 +1,5 @@
 -- Lanes of which nothing changed, and what is held of them.
-use Rattle.std.proofs.Common.{◌≡◌, ◌⊎◌, ⊎_elim, ℕ, suc, ◌+◌, ◌<◌, ◌≤◌, List, [], ◌∷◌, ◌++◌, length, Option, None, refl, sym, ap, subst, ◌∙◌, arith}
+use Rattle.std.proofs.Common.{◌≡◌, ◌⊎◌, ⊎_elim, ℕ, suc, ◌+◌, ◌<◌, ◌≤◌, List, [], ◌∷◌, length, Option, refl, sym, ap, subst, ◌∙◌, arith}
 use Rattle.std.specs.FinMap.{get}
 use Rattle.std.specs.List.{AllByRecursion}
 use Rattle.flush_journal.specs.Records.{Held}
@@ -8,8 +8,8 @@ use Rattle.object_ids.specs.Ids.{InRange, lane_of}
 use Rattle.object_acts.specs.declared.objects.Object.{Object}
 use Rattle.object_slots.specs.Slots.{AreStill, Describes, Says}
 use Rattle.chunk_owner.specs.Lanes.{Lane}
-use Rattle.lane_owners.specs.Joined.{AreLanes, IsLane, whole}
-use Rattle.lane_owners.specs.Records.{AreStillIn, DescribesObjects, LaneSays, LanesSay}
+use Rattle.lane_owners.specs.Joined.{AreLanes, whole}
+use Rattle.lane_owners.specs.Records.{AreStillIn, DescribesObjects, LanesSay}
 use Rattle.lane_owners.proofs.WholeLemmas.{at_home, get-whole, or_else}
 
 -- where nothing of a lane changed, what says what stands there describes it

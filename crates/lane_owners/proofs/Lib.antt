@@ -4,3 +4,4 @@ pub mod LaneKeys
 pub mod CutLemmas
 pub mod InstallLemmas
 pub mod HoldingLemmas
+pub mod UndroppedLemmas

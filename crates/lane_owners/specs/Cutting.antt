@@ -4,7 +4,8 @@ use Rattle.std.specs.FinMap.{get}
 use Rattle.object_ids.specs.IdValues.{Id}
 use Rattle.object_ids.specs.Ids.{InRange}
 use Rattle.flush_journal.specs.Records.{Held, Record}
-use Rattle.record_cuts.specs.Cuts.{IsCut}
+use Rattle.record_cuts.specs.Cuts.{AppendsEach, IsCut}
+use Rattle.object_slots.specs.Bodies.{IsSlotRecord}
 use Rattle.object_slots.specs.Slots.{AreStill, IsMarked, Says}
 use Rattle.chunk_owner.specs.Lanes.{IsSameLane, IsWhole, Lane}
 
@@ -15,6 +16,7 @@ pub record CutsLane (lane : ℕ) (old new : List Lane) (first last : List Record
   pub here : get_or old lane was ≡ was
   pub set : new ≡ slice_set old lane left
   pub cut : (base : Held) → IsCut (IsMarked was.slots) base first last (λ held. (id : Id) → InRange id → Says (get was.slots id) id base → Says (get left.slots id) id held)
+  pub bodies : AppendsEach (IsSlotRecord was.slots) first last
   pub objects : left.objects ≡ was.objects
   pub same : IsSameLane was left
   pub whole : IsWhole left

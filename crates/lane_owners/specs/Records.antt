@@ -5,10 +5,12 @@ use Rattle.std.specs.List.{AllByRecursion}
 use Rattle.object_ids.specs.IdValues.{Id}
 use Rattle.object_ids.specs.Ids.{InRange, lane_of}
 use Rattle.object_acts.specs.declared.objects.Object.{Object}
-use Rattle.flush_journal.specs.Records.{Held}
+use Rattle.flush_journal.specs.Records.{Held, Record}
+use Rattle.object_slots.specs.Bodies.{IsRecordOf, IsUndropped}
 use Rattle.object_slots.specs.Slots.{AreStill, Describes, IsMarked, Says}
 use Rattle.lane_installs.specs.Records.{IsFault, IsLeast}
 use Rattle.chunk_owner.specs.Lanes.{Lane, Objects}
+use Rattle.lane_owners.specs.Joined.{whole}
 
 -- what is held says what stands at each id of a lane, but for what changed since the last cut
 abbrev pub LaneSays : Held → Lane → Type 0
@@ -30,6 +32,22 @@ IsMarkedIn (l ∷ ls) key = IsMarked l.slots key ⊎ IsMarkedIn ls key
 -- nothing changed since the last cut
 abbrev pub AreStillIn : List Lane → Type 0
 AreStillIn lanes = AllByRecursion (λ l. AreStill l.slots) lanes
+
+-- no object was removed since the last cut
+abbrev pub AreUndropped : List Lane → Type 0
+AreUndropped lanes = AllByRecursion (λ l. IsUndropped l.slots) lanes
+
+-- a record of an object that stands, or of one of its chunks
+pub record IsStandingRecord (objects : Objects) (r : Record) : Type 0 where
+  pub id : Id
+  pub range : InRange id
+  pub object : Object
+  pub here : get objects id ≡ Some object
+  pub of : IsRecordOf id (Some object) r
+
+-- where no object was removed since the last cut, the record is of one that stands
+abbrev pub IsStandingIn : List Lane → Record → Type 0
+IsStandingIn lanes r = AreUndropped lanes → IsStandingRecord (whole lanes) r
 
 -- what is held describes the objects of all lanes
 abbrev pub DescribesObjects : Held → Objects → Type 0

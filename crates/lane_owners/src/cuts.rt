@@ -4,11 +4,12 @@ ghost use Rattle.std.specs.Prelude.{◌≡◌, ◌<◌, ℕ, length, OnOk, OnErr
 ghost use Rattle.std.specs.List.{AllByRecursion};
 ghost use Rattle.flush_journal.specs.Batches.{records};
 ghost use Rattle.flush_journal.specs.Records.{Held};
-ghost use Rattle.record_cuts.specs.Cuts.{IsCut};
+ghost use Rattle.record_cuts.specs.Cuts.{AppendsEach, IsCut};
+ghost use Rattle.object_slots.specs.Bodies.{IsObjectRecord};
 ghost use Rattle.chunk_owner.specs.Lanes.{IsWhole};
 ghost use Rattle.lane_owners.specs.Cutting.{CutsLane, IsStillAt};
 ghost use Rattle.lane_owners.specs.Joined.{AreLanes, whole};
-ghost use Rattle.lane_owners.specs.Records.{AreStillIn, IsMarkedIn, LanesSay};
+ghost use Rattle.lane_owners.specs.Records.{AreStillIn, IsMarkedIn, IsStandingIn, LanesSay};
 
 use chunk_owner::Owner;
 use flush_journal::Batch;
@@ -26,6 +27,9 @@ pub fn cut_lanes(owners: &mut [Owner], into: &mut Batch) -> Result<(), AllocErro
     ensures cut { (base : Held) → IsCut (IsMarkedIn owners.old) base
         (records into.old) (records into.new)
         (λ held. LanesSay owners.old base → LanesSay owners.new held) }
+    ensures bodies { AppendsEach (IsObjectRecord (whole owners.old))
+        (records into.old) (records into.new) }
+    ensures standing { AppendsEach (IsStandingIn owners.old) (records into.old) (records into.new) }
     ensures still { OnOk result (AreStillIn owners.new) }
     ensures objects { whole owners.new ≡ whole owners.old }
     ensures lanes { AreLanes (length owners.old) 0 owners.new }

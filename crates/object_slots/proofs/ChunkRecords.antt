@@ -19,7 +19,7 @@ use Rattle.record_cuts.specs.Cuts.{AddsRecord, AreOnce, IsWithout}
 use Rattle.record_keys.specs.Keys.{chunk_key, object_key}
 use Rattle.object_slots.specs.declared.slot.Mark.{Mark}
 use Rattle.object_slots.specs.Slots.{chunks_at, is_index, is_meant}
-use Rattle.object_slots.specs.Cutting.{AddsChunks, AreDistinct, AreMeant, chunk_body, chunk_record, is_among}
+use Rattle.object_slots.specs.Cutting.{AddsChunks, AreDistinct, chunk_body, chunk_record, is_among}
 use Rattle.object_slots.proofs.Passing.{by_bool, contrary, or_either}
 use Rattle.object_slots.proofs.ChunkWalks.{IsWalk, walk_begin, walk_more, walk_end}
 use Rattle.object_slots.proofs.KeyFacts.{chunk_index_once, numbers_index, object_no_chunk}

@@ -1,5 +1,5 @@
 -- Records of what stands describe it.
-use Rattle.std.proofs.Common.{◌≡◌, ◌≢◌, ℕ, [], Bool, true, false, List, Option, Some, None, option_and_then, refl, sym, ap, subst, ◌∙◌}
+use Rattle.std.proofs.Common.{◌≡◌, ◌≢◌, ℕ, [], false, List, Option, Some, option_and_then, refl, sym, ap, subst, ◌∙◌}
 use Rattle.std.specs.FinMap.{get}
 use Rattle.object_ids.specs.IdValues.{Id}
 use Rattle.chunk_store.specs.Grids.{IsWhole}
@@ -13,7 +13,7 @@ use Rattle.object_records.specs.Entries.{entry_of, kept_of}
 use Rattle.object_records.specs.Objects.{IsKeptBody, object_of_body}
 use Rattle.record_keys.specs.Keys.{object_key}
 use Rattle.object_slots.specs.declared.slot.Mark.{Mark}
-use Rattle.object_slots.specs.declared.slot.Mark.TheVariants.{Kept, Changed, Dropped}
+use Rattle.object_slots.specs.declared.slot.Mark.TheVariants.{Kept}
 use Rattle.object_slots.specs.declared.slot.Slot.{Slot}
 use Rattle.object_slots.specs.Slots.{AreChunksIn, Describes, HasCells, HasRecord, IsRecordOf, IsStill, IsStillBody, Says, chunks_at, object_by, object_of}
 

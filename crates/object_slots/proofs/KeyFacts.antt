@@ -1,5 +1,5 @@
 -- Keys of objects and of chunks.
-use Rattle.std.proofs.Common.{◌≡◌, ◌≢◌, ℕ, ◌<◌, ◌≤◌, ◌^◌, ◌*◌, ◌+◌, ◌++◌, ◌&&◌, Bool, true, false, nat_le, nat_lt, length, All, List, [], ◌∷◌, refl, sym, ap, ◌∙◌, get_or, arith, length-append}
+use Rattle.std.proofs.Common.{◌≡◌, ◌≢◌, ℕ, ◌<◌, ◌^◌, ◌*◌, ◌&&◌, true, nat_le, nat_lt, length, All, List, [], ◌∷◌, refl, ap, ◌∙◌, get_or, arith, length-append}
 use Rattle.std.specs.List.{list_all}
 use Rattle.std.proofs.lemmas.Bool.{leb-true, le-leb, ltb-true, lt-ltb}
 use Rattle.std.proofs.lemmas.List.Elements.{All-nil, All-cons, All-head, All-tail}

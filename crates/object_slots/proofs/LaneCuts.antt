@@ -21,17 +21,19 @@ use Rattle.object_acts.specs.declared.objects.Body.TheVariants as body
 use Rattle.object_acts.specs.Objects.{IsOfKind, IsSoundBody, bare, kind_of_body, unmarked, unmarked_body}
 use Rattle.flush_journal.specs.Records.{Record, Held, put_all}
 use Rattle.flush_journal.proofs.PutLemmas.{put_others}
-use Rattle.record_cuts.specs.Cuts.{AreApart, IsCut, IsEither}
-use Rattle.record_cuts.proofs.CutLemmas.{all_more, in_turn}
+use Rattle.record_cuts.specs.Cuts.{AppendsEach, AreApart, IsCut, IsEither}
+use Rattle.record_cuts.proofs.CutLemmas.{all_more, appends_as, appends_more, appends_none, in_turn}
 use Rattle.record_keys.specs.Keys.{chunk_key, object_key}
 use Rattle.object_slots.specs.declared.slot.Mark.{Mark}
 use Rattle.object_slots.specs.declared.slot.Mark.TheVariants.{Kept, Changed, Dropped}
 use Rattle.object_slots.specs.declared.slot.Slot.{Slot}
 use Rattle.object_slots.specs.Slots.{AreChunksIn, AreOfKind, AreStill, HasRecord, IsMarked, IsMarkedIn, IsStill, IsStillBody, Says, Slots, chunks_at, is_index, object_by, object_of}
+use Rattle.object_slots.specs.Bodies.{IsRecordOf, IsSlotRecord}
 use Rattle.object_slots.specs.Cutting.{AddsAt, AddsFrontAt}
 use Rattle.object_slots.specs.Settled.{BodySettles, Settles, SettlesBy, SlotSettles}
 use Rattle.object_slots.proofs.Passing.{by_bool, contrary, lt_less, fewer_there, found_find}
 use Rattle.object_slots.proofs.KeyFacts.{chunk_id_once, object_no_chunk, object_once}
+use Rattle.object_slots.proofs.SlotBodies.{front_each, slot_each}
 use Rattle.object_slots.proofs.SlotCuts.{front_cut, slot_cut}
 
 -- ---- keys of one id alone
@@ -175,6 +177,7 @@ IsMarkedTo slots last key = (m : IsMarked slots key) × (is_behind id_order last
 -- the objects of the ids up to one were cut
 pub record IsFar (old cur : Slots) (first last_records : List Record) (last : Option Id) : Type 0 where
   pub cut : (base : Held) → IsCut (IsMarkedTo old last) base first last_records (λ held. (id : Id) → InRange id → Says (get old id) id base → Says (get cur id) id held)
+  pub bodies : AppendsEach (IsSlotRecord old) first last_records
   pub ahead : (q : Id) → is_behind id_order last q ≡ true → get cur q ≡ get old q
   pub same : (q : Id) → object_of (get cur q) ≡ object_of (get old q)
   pub each : (q : Id) → (get cur q ≡ get old q) ⊎ Settles (get old q) (get cur q)
@@ -184,6 +187,7 @@ pub record IsFar (old cur : Slots) (first last_records : List Record) (last : Op
 pub far_begin : (old : Slots) (records : List Record) → AreOfKind old → IsFar old old records records None
 far_begin old records kinds = record {
   cut = λ base. record { added = []; appended = sym (append-nil records); changed = tt; once = tt; stands = λ id range said. said };
+  bodies = appends_none (IsSlotRecord old) records;
   ahead = λ q h. refl;
   same = λ q. refl;
   each = λ q. inl refl;
@@ -251,10 +255,16 @@ module _ (old cur : Slots) (first mid new : List Record) (last : Option Id) (far
                 eq_id : Id → Bool
                 eq_id q = is_eq (id_order q id)
 
+  -- more records, of what stands here
+  more_bodies : AppendsEach (IsRecordOf id (object_of (Some s))) mid new → AppendsEach (IsSlotRecord old) first new
+  more_bodies each = appends_more (IsSlotRecord old) first mid new far.bodies
+      (appends_as (IsRecordOf id (object_of (Some s))) (IsSlotRecord old) mid new (λ r h. record { id = id; range = range; slot = s; here = there; of = h }) each)
+
   -- the next object was cut
   pub far_more : (after : Slots) → ((q : Id) → q ≢ id → get after q ≡ get cur q) → AddsAt id (get cur id) mid new → Settles (get cur id) (get after id) → IsFar old after first new (Some id)
   far_more after others adds settles = record {
     cut = λ base. all_marks (IsEither (IsMarkedTo old last) Mine) (IsMarkedTo old (Some id)) base first new (Later after others base) marks_to (more_cut after others (λ held. slot_cut id s (get after id) held mid new range of added settled) base);
+    bodies = more_bodies (slot_each id s of.kind mid new added);
     ahead = λ q h. others q (λ same. contrary (is_behind id_order (Some id) q) ⊥ h (subst (λ (x : Id). is_behind id_order (Some id) x ≡ false) (sym same) (itself_not id))) ∙ far.ahead q (weaker_behind last id q next.0 h);
     same = λ q. by_bool (is_eq (id_order q id)) (object_of (get after q) ≡ object_of (get old q))
         (λ y. let same = id_order_once q id ((Equal-is (id_order q id)).0 y) in
@@ -287,6 +297,9 @@ module _ (old cur : Slots) (first mid new : List Record) (last : Option Id) (far
   far_front adds base = all_marks (IsEither (IsMarkedTo old last) Mine) (IsMarked old) base first new (Later cur (λ q other. refl) base) marks_old
       (more_cut cur (λ q other. refl) (λ held. subst (λ (o : Option Slot). IsCut Mine held mid new (λ h. Says (Some s) id held → Says o id h)) (sym here)
       (front_cut id s held mid new range of (subst (λ (o : Option Slot). AddsFrontAt id o mid new) here adds))) base)
+
+  pub far_bodies : AddsFrontAt id (get cur id) mid new → AppendsEach (IsSlotRecord old) first new
+  far_bodies adds = more_bodies (front_each id s of.kind mid new (subst (λ (o : Option Slot). AddsFrontAt id o mid new) here adds))
 
   -- fewer are left
   pub far_smaller : length (left id_order (Some id) (entries old)) < length (left id_order last (entries old))
@@ -322,6 +335,9 @@ module _ (old cur : Slots) (first mid new : List Record) (last : Option Id) (far
   next_front after same adds base = subst (λ (x : Slots). IsCut (IsMarked old) base first new (λ held. (q : Id) → InRange q → Says (get old q) q base → Says (get x q) q held)) (sym same)
       (with_slot (get cur id) (IsCut (IsMarked old) base first new (λ held. (q : Id) → InRange q → Says (get old q) q base → Says (get cur q) q held)) next.1
       (λ s here. far_front old cur first mid new last far id range next s here adds base))
+
+  pub next_bodies : AddsFrontAt id (get cur id) mid new → AppendsEach (IsSlotRecord old) first new
+  next_bodies adds = with_slot (get cur id) (AppendsEach (IsSlotRecord old) first new) next.1 (λ s here. far_bodies old cur first mid new last far id range next s here adds)
 
   pub next_smaller : length (left id_order (Some id) (entries old)) < length (left id_order last (entries old))
   next_smaller = with_slot (get cur id) (length (left id_order (Some id) (entries old)) < length (left id_order last (entries old))) next.1

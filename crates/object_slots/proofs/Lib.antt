@@ -3,6 +3,7 @@ pub mod KeyFacts
 pub mod ChunkWalks
 pub mod ChunkRecords
 pub mod SlotCuts
+pub mod SlotBodies
 pub mod LaneCuts
 pub mod Describing
 pub mod KeptSlots

@@ -1,11 +1,10 @@
 -- What records say of objects that come and go.
-use Rattle.std.proofs.Common.{◌≡◌, ◌≢◌, ℕ, Bool, true, false, cond, List, [], Option, Some, None, IsSome, is_some, is_eq, OnOk, OnErr, Result, Ok, Err, refl, sym, ap, subst, ◌∙◌}
+use Rattle.std.proofs.Common.{◌≡◌, ◌≢◌, ℕ, Bool, true, false, List, [], Option, Some, None, is_some, is_eq, OnOk, OnErr, Result, Ok, Err, refl, sym, ap, subst, ◌∙◌}
 use Rattle.std.specs.Cmp.{Equal-is}
-use Rattle.std.specs.FinMap.{get, insert}
+use Rattle.std.specs.FinMap.{empty, get, insert, get-empty}
 use Rattle.std.proofs.lemmas.Cmp.{tied_itself}
 use Rattle.object_ids.specs.IdOrder.{id_order}
 use Rattle.object_ids.specs.IdValues.{Id}
-use Rattle.object_ids.specs.declared.ids.Kind.TheVariants as kinds
 use Rattle.object_ids.proofs.IdOrders.{id_order_once, id_order_total}
 use Rattle.chunk_store.specs.Marks.{IsTracked, Stands, Stored, is_known, state}
 use Rattle.object_acts.specs.declared.objects.Object.{Object}
@@ -17,6 +16,7 @@ use Rattle.object_slots.specs.declared.slot.Mark.{Mark}
 use Rattle.object_slots.specs.declared.slot.Mark.TheVariants.{Kept, Changed, Dropped}
 use Rattle.object_slots.specs.declared.slot.Slot.{Slot}
 use Rattle.record_keys.specs.Keys.{object_key}
+use Rattle.object_slots.specs.Bodies.{IsUndropped}
 use Rattle.object_slots.specs.Slots.{AreChunksIn, AreChunksOf, AreOfKind, HasNoChunks, HasRecord, HasSameIds, Says, Slots, chunks_at, object_by, object_of}
 use Rattle.object_slots.proofs.Passing.{by_bool, contrary}
 use Rattle.object_slots.proofs.KeptSlots.{put_here, put_others}
@@ -119,6 +119,26 @@ module _ (m : Slots) (id : Id) (o : Object) (absent : get m id ≡ None) (kind :
     pub put_kinds : (r : Result A E) → OnOk r (n ≡ insert m id (new_slot o)) → OnErr r (n ≡ m) → AreOfKind m → AreOfKind n
     put_kinds (Ok a) ok err kinds = subst AreOfKind (sym ok) (put_kind kinds)
     put_kinds (Err e) ok err kinds = subst AreOfKind (sym err) kinds
+
+-- ---- none was removed
+
+stands_undropped : (mark : Mark) (x o : Object) → object_by mark x ≡ Some o → mark ≢ Dropped
+stands_undropped Kept x o e = λ is. absurd (cc)
+stands_undropped Changed x o e = λ is. absurd (cc)
+stands_undropped Dropped x o e = absurd (let both : None ≡ Some o = e in cc)
+
+-- what stands at an id wasn't removed
+abbrev StillUndropped : Id → Option Slot → Option Slot → Type 0
+StillUndropped q o p = ((s : Slot) → o ≡ Some s → s.mark ≢ Dropped) → (s : Slot) → p ≡ Some s → s.mark ≢ Dropped
+
+pub undropped_put : {A E : Type 0} (r : Result A E) (m n : Slots) (id : Id) (o : Object) → OnOk r (object_of (get n id) ≡ Some o) → ((q : Id) → q ≢ id → get n q ≡ get m q) → OnErr r (n ≡ m)
+    → IsUndropped m → IsUndropped n
+undropped_put (Ok a) m n id o there others same were = λ q.
+    everywhere StillUndropped m n id others (λ was s e. stands_undropped s.mark s.object o (ap object_of (sym e) ∙ there)) (λ x w was. was) q (were q)
+undropped_put (Err e) m n id o there others same were = subst IsUndropped (sym same) were
+
+pub undropped_none : (m : Slots) → m ≡ empty → IsUndropped m
+undropped_none m none q s there = absurd (let both : None ≡ Some s = sym (ap (λ (x : Slots). get x q) none ∙ get-empty id_order q) ∙ there in cc)
 
 -- ---- an object is removed
 

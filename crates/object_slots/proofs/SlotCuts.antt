@@ -1,12 +1,11 @@
 -- The cut of one slot.
 use Rattle.std.proofs.lemmas.Slice.Eq.{bytes_eq-Decides}
-use Rattle.std.proofs.Common.{◌≡◌, ◌≢◌, ℕ, bytes_eq, ◌⊎◌, inl, inr, Bool, true, false, cond, List, [], ◌∷◌, ◌++◌, map, Option, Some, None, option_and_then, is_some, refl, sym, ap, subst, ◌∙◌, append_assoc, append-nil}
+use Rattle.std.proofs.Common.{◌≡◌, ◌≢◌, ℕ, bytes_eq, inl, inr, Bool, true, false, cond, List, [], ◌∷◌, ◌++◌, map, Option, Some, None, option_and_then, refl, sym, ap, subst, ◌∙◌, append_assoc, append-nil}
 use Rattle.std.specs.FinMap.{get}
 use Rattle.std.specs.List.{AllByRecursion}
 use Rattle.std.specs.Option.{option_map_or}
 use Rattle.object_ids.specs.IdValues.{Id}
 use Rattle.object_ids.specs.Ids.{InRange}
-use Rattle.object_ids.specs.declared.ids.Kind.{Kind}
 use Rattle.object_ids.specs.declared.ids.Kind.TheVariants as kinds
 use Rattle.chunk_store.specs.Grids.{Grid}
 use Rattle.chunk_store.specs.Marks.{Stored, IsTracked, Stands, cut, flagged, is_dirty, is_known, state, body_of}
@@ -20,13 +19,13 @@ use Rattle.flush_journal.proofs.BlockLemmas.{put_both}
 use Rattle.record_cuts.specs.Cuts.{AreOnce, IsCut, IsWithout}
 use Rattle.record_cuts.proofs.CutLemmas.{all_append}
 use Rattle.record_keys.specs.Keys.{chunk_key, object_key}
-use Rattle.object_records.specs.Entries.{Entry, entry_of, kept_of}
+use Rattle.object_records.specs.Entries.{entry_of, kept_of}
 use Rattle.object_records.specs.Objects.{object_of_body}
 use Rattle.object_slots.specs.declared.slot.Mark.{Mark}
 use Rattle.object_slots.specs.declared.slot.Mark.TheVariants.{Kept, Changed, Dropped}
 use Rattle.object_slots.specs.declared.slot.Slot.{Slot}
-use Rattle.object_slots.specs.Slots.{AreChunksIn, AreChunksOf, HasNoChunks, HasRecord, IsChunkMarked, IsMarkedIn, IsMeantIn, IsRecordOf, Says, chunks_at, is_index, is_meant}
-use Rattle.object_slots.specs.Cutting.{AddsChunks, AddsChunksIn, AddsFront, AddsObject, AddsSlot, AreDistinct, AreMeant, IsObjectPart, chunk_body, chunk_record, is_among}
+use Rattle.object_slots.specs.Slots.{AreChunksIn, AreChunksOf, HasNoChunks, HasRecord, IsChunkMarked, IsMarkedIn, IsRecordOf, Says, chunks_at, is_index, is_meant}
+use Rattle.object_slots.specs.Cutting.{AddsChunks, AddsChunksIn, AddsFront, AddsSlot, AreMeant, IsObjectPart, chunk_body, chunk_record, is_among}
 use Rattle.object_slots.specs.Settled.{ArraySettles, BodySettles, Settles, SettlesBy, SlotSettles}
 use Rattle.object_slots.proofs.Passing.{by_bool, contrary, or_either}
 use Rattle.object_slots.proofs.ChunkRecords.{chunks_written, chunks_once, object_outside}

@@ -1,5 +1,5 @@
 -- Objects, each part of which can be spelled, one after another.
-use Rattle.std.proofs.Common.{◌≡◌, ◌≢◌, Bool, true, false, Option, Some, None, Ordering, Less, refl, sym, ap, subst, ◌∙◌}
+use Rattle.std.proofs.Common.{◌≡◌, Bool, true, false, Option, Some, None, Less, refl, sym, ap, ◌∙◌}
 use Rattle.std.specs.FinMap.{get}
 use Rattle.text_maps.specs.Nexts.{is_behind, IsNext}
 use Rattle.flush_journal.specs.Records.{Held}

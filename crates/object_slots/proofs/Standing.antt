@@ -1,9 +1,9 @@
 -- The objects that stand, as one map.
-use Rattle.std.proofs.Common.{◌≡◌, ◌≢◌, ◌⊎◌, inl, inr, ℕ, ◌<◌, ◌==◌, Bool, true, false, cond, T, List, [], ◌∷◌, length, Option, Some, None, is_some, IsSome, Ordering, Less, Equal, Greater, is_eq, refl, sym, ap, subst, ◌∙◌}
+use Rattle.std.proofs.Common.{◌≡◌, ◌≢◌, ◌⊎◌, inl, inr, ℕ, ◌<◌, ◌==◌, Bool, true, false, cond, T, List, [], ◌∷◌, length, Option, Some, None, is_some, IsSome, Less, Equal, is_eq, refl, sym, ap, subst, ◌∙◌}
 use Rattle.std.specs.Cmp.{Equal-is}
-use Rattle.std.specs.FinMap.{empty, entries, entries_sorted, find, from_entries, get, insert, remove, get-empty, get-entries, get-from_entries, get-insert, get-remove, is_sorted, same_map}
+use Rattle.std.specs.FinMap.{empty, entries, entries_sorted, find, get, insert, remove, get-empty, get-entries, get-from_entries, get-insert, get-remove, is_sorted, same_map}
 use Rattle.std.specs.FinMap.Entries.{below_all}
-use Rattle.std.specs.Ordering.{eq_by_cmp, is_lt, ordering_reverse}
+use Rattle.std.specs.Ordering.{eq_by_cmp}
 use Rattle.std.proofs.lemmas.Cmp.{tied_itself}
 use Rattle.text_maps.specs.Nexts.{is_behind, left, IsNext}
 use Rattle.text_maps.proofs.Walks.{found_above, halves}

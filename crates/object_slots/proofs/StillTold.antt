@@ -1,17 +1,16 @@
 -- What records say of an object that is changed.
-use Rattle.std.proofs.Common.{◌≡◌, ◌≢◌, ℕ, Bool, true, false, not, ◌&&◌, cond, List, [], Option, Some, None, option_and_then, Result, Ok, Err, refl, sym, ap, subst, ◌∙◌}
+use Rattle.std.proofs.Common.{◌≡◌, ◌≢◌, ℕ, Bool, true, false, not, ◌&&◌, cond, List, [], Option, Some, option_and_then, Result, Ok, Err, refl, sym, ap, subst, ◌∙◌}
 use Rattle.std.specs.FinMap.{get}
 use Rattle.serde_json.specs.Data.{Data}
-use Rattle.hdf_values.specs.declared.faults.ValueFault.{ValueFault}
 use Rattle.hyperslab.specs.declared.Slab.{Slab}
 use Rattle.hyperslab.specs.declared.SlabFault.{SlabFault}
 use Rattle.hyperslab.specs.Judged.{lists_slab}
-use Rattle.hyperslab.specs.Selected.{extents, slab_cells}
+use Rattle.hyperslab.specs.Selected.{slab_cells}
 use Rattle.point_select.specs.declared.PointFault.{PointFault}
 use Rattle.point_select.specs.Faults.{points_of}
 use Rattle.object_ids.specs.IdValues.{Id}
 use Rattle.groups_links.specs.declared.target.LinkTo.{LinkTo}
-use Rattle.chunk_store.specs.Grids.{Grid, writes}
+use Rattle.chunk_store.specs.Grids.{Grid}
 use Rattle.object_ops.specs.declared.ops.Op.{Op}
 use Rattle.object_ops.specs.declared.ops.Op.TheVariants.{PutValue}
 use Rattle.object_ops.specs.declared.ops.Part.{Part}
@@ -19,8 +18,7 @@ use Rattle.object_ops.specs.declared.ops.Part.TheVariants as part
 use Rattle.object_ops.specs.declared.refusals.Refusal.{Refusal}
 use Rattle.object_ops.specs.declared.replies.Reply.{Reply}
 use Rattle.object_ops.specs.declared.replies.Reply.TheVariants.{Done, Refused}
-use Rattle.object_ops.specs.Answers.{Follows}
-use Rattle.array_acts.specs.Arrays.{bytes_read, bytes_written, points_written, slab_written, tree_written, value_written}
+use Rattle.array_acts.specs.Arrays.{bytes_written, points_written, slab_written, value_written}
 use Rattle.array_acts.specs.Marked.{was_done}
 use Rattle.object_acts.specs.declared.objects.Object.{Object}
 use Rattle.object_acts.specs.declared.objects.Body.{Body}
@@ -35,7 +33,7 @@ use Rattle.object_slots.specs.declared.slot.Mark.{Mark}
 use Rattle.object_slots.specs.declared.slot.Mark.TheVariants.{Kept, Changed, Dropped}
 use Rattle.object_slots.specs.declared.slot.Slot.{Slot}
 use Rattle.object_slots.specs.Changed.{is_outdated, writes_cells}
-use Rattle.object_slots.specs.Slots.{AreChunksIn, AreChunksOf, HasRecord, IsRecordOf, Says, chunks_at}
+use Rattle.object_slots.specs.Slots.{AreChunksIn, HasRecord, Says, chunks_at}
 use Rattle.object_slots.proofs.Passing.{contrary}
 use Rattle.object_slots.proofs.Describing.{entry_unmarked, kind_unmarked}
 

@@ -12,7 +12,7 @@ use Rattle.object_acts.specs.Objects.{kind_of_body}
 use Rattle.flush_journal.specs.Records.{Record}
 use Rattle.record_keys.specs.Keys.{chunk_key, object_key}
 use Rattle.object_records.specs.Entries.{entry_of}
-use Rattle.object_records.specs.Objects.{object_of_body}
+use Rattle.object_records.specs.Objects.{object_body, object_of_body}
 use Rattle.object_slots.specs.declared.slot.Mark.{Mark}
 use Rattle.object_slots.specs.declared.slot.Mark.TheVariants.{Kept, Changed, Dropped}
 use Rattle.object_slots.specs.declared.slot.Slot.{Slot}
@@ -24,7 +24,7 @@ use Rattle.object_slots.specs.Slots.{is_index, is_meant}
 abbrev pub IsObjectPart : List ℕ → Mark → Object → List Record → Type 0
 IsObjectPart key Kept o added = added ≡ []
 IsObjectPart key Changed o added =
-    (bytes : List ℕ) × (object_of_body (kind_of_body o.body) bytes ≡ Some (entry_of o)) × (bytes ≢ []) × (added ≡ (key, bytes) ∷ [])
+    (bytes : List ℕ) × (object_of_body (kind_of_body o.body) bytes ≡ Some (entry_of o)) × (bytes ≢ []) × (added ≡ (key, bytes) ∷ []) × (bytes ≡ object_body o)
 IsObjectPart key Dropped o added = added ≡ (key, []) ∷ []
 
 abbrev pub AddsObject : List ℕ → Slot → List Record → List Record → Type 0

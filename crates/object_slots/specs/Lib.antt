@@ -1,5 +1,6 @@
 pub mod Slots
 pub mod Cutting
+pub mod Bodies
 pub mod Settled
 pub mod Changed
 pub mod Marking

@@ -4,7 +4,7 @@ use Rattle.chunk_store.specs.Marks.{Stored, IsTracked, cleared, cut, in_grid, st
 use Rattle.object_acts.specs.declared.objects.Body.{Body}
 use Rattle.object_acts.specs.declared.objects.Body.TheVariants as body
 use Rattle.object_slots.specs.declared.slot.Mark.{Mark}
-use Rattle.object_slots.specs.declared.slot.Mark.TheVariants.{Kept, Changed, Dropped}
+use Rattle.object_slots.specs.declared.slot.Mark.TheVariants.{Kept, Dropped}
 use Rattle.object_slots.specs.declared.slot.Slot.{Slot}
 
 -- each chunk is taken as unchanged

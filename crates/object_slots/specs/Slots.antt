@@ -1,5 +1,5 @@
 -- The slots of a lane, and what records say of them.
-use Rattle.std.specs.Prelude.{◌≡◌, ◌≢◌, ◌⊎◌, ℕ, ◌<◌, ◌≤◌, ◌^◌, ◌&&◌, Bool, true, false, cond, nat_le, nat_lt, List, [], ◌∷◌, length, Option, Some, None, option_and_then}
+use Rattle.std.specs.Prelude.{◌≡◌, ◌≢◌, ◌⊎◌, ℕ, ◌^◌, ◌&&◌, Bool, true, false, cond, nat_le, nat_lt, List, [], ◌∷◌, length, Option, Some, None, option_and_then}
 use Rattle.std.specs.FinMap.{FinMap, entries, from_entries, get}
 use Rattle.std.specs.List.{list_all}
 use Rattle.std.specs.Option.{option_map_or}
@@ -19,7 +19,7 @@ use Rattle.record_keys.specs.Keys.{chunk_key, object_key}
 use Rattle.object_records.specs.Entries.{entry_of}
 use Rattle.object_records.specs.Objects.{object_of_body}
 use Rattle.object_slots.specs.declared.slot.Mark.{Mark}
-use Rattle.object_slots.specs.declared.slot.Mark.TheVariants.{Kept, Changed, Dropped}
+use Rattle.object_slots.specs.declared.slot.Mark.TheVariants.{Kept, Dropped}
 use Rattle.object_slots.specs.declared.slot.Slot.{Slot}
 
 abbrev pub Slots : Type 0

@@ -7,9 +7,10 @@ ghost use Rattle.flush_journal.specs.Records.{Held};
 ghost use Rattle.object_acts.specs.Objects.{IsOfKind, kind_of_body};
 ghost use Rattle.object_ids.specs.IdValues.{Id};
 ghost use Rattle.object_ids.specs.Ids.{InRange};
-ghost use Rattle.record_cuts.specs.Cuts.{IsCut};
+ghost use Rattle.record_cuts.specs.Cuts.{AppendsEach, IsCut};
 ghost use Rattle.record_keys.specs.Keys.{object_key};
 ghost use Rattle.object_slots.specs.Slots.{AreOfKind, AreStill, IsMarked, Says, object_of};
+ghost use Rattle.object_slots.specs.Bodies.{IsSlotRecord};
 ghost use Rattle.object_slots.specs.Cutting.{AddsAt, AddsChunksIn, AddsFront, AddsFrontAt, AddsSlot};
 ghost use Rattle.object_slots.specs.Settled.{Settles};
 
@@ -36,6 +37,7 @@ pub fn cut(alloc: Global, slots: &mut IdMap<Slot>, into: &mut Batch) -> Result<(
         (records into.old) (records into.new)
         (λ held. (id : Id) → InRange id → Says (get slots.old id) id base
         → Says (get slots.new id) id held) }
+    ensures bodies { AppendsEach (IsSlotRecord slots.old) (records into.old) (records into.new) }
     ensures still { OnOk result (AreStill slots.new) }
     ensures each { (id : Id) → (get slots.new id ≡ get slots.old id)
         ⊎ Settles (get slots.old id) (get slots.new id) }

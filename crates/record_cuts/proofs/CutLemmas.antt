@@ -1,9 +1,10 @@
 -- Cuts in turn.
-use Rattle.std.proofs.Common.{◌≡◌, ◌≢◌, ℕ, List, [], ◌∷◌, ◌++◌, ◌⊎◌, inl, inr, sym, ap, subst, ◌∙◌, append_assoc}
+use Rattle.std.proofs.Common.{◌≡◌, ◌≢◌, ℕ, List, [], ◌∷◌, ◌++◌, inl, inr, sym, ap, subst, ◌∙◌, append_assoc, append-nil}
+use Rattle.std.proofs.lemmas.List.{append_cancel_left}
 use Rattle.std.specs.List.{AllByRecursion}
 use Rattle.flush_journal.specs.Records.{Record, Held, put_all}
 use Rattle.flush_journal.proofs.BlockLemmas.{put_both}
-use Rattle.record_cuts.specs.Cuts.{IsWithout, AreOnce, AreApart, IsEither, IsCut}
+use Rattle.record_cuts.specs.Cuts.{AddsRecord, AppendsEach, AppendsOnce, IsWithout, AreOnce, AreApart, IsEither, IsCut}
 
 pub all_append : (P : Record → Type 0) (xs ys : List Record) → AllByRecursion P xs → AllByRecursion P ys → AllByRecursion P (xs ++ ys)
 all_append P [] ys h g = g
@@ -31,3 +32,33 @@ module _ (first second : List ℕ → Type 0) (apart : AreApart first second) wh
     once = once_append c.added d.added c.changed d.changed c.once d.once;
     stands = subst later (sym (put_both c.added d.added base)) d.stands;
   }
+
+-- ---- records with a property
+
+pub appends_none : (P : Record → Type 0) (rs : List Record) → AppendsEach P rs rs
+appends_none P rs = record { added = []; appended = sym (append-nil rs); each = tt }
+
+pub appends_one : (P : Record → Type 0) (r : Record) (old new : List Record) → P r → AddsRecord r old new → AppendsEach P old new
+appends_one P r old new h adds = record { added = r ∷ []; appended = adds; each = (h, tt) }
+
+pub appends_all : (P : Record → Type 0) (old new added : List Record) → AllByRecursion P added → new ≡ old ++ added → AppendsEach P old new
+appends_all P old new added each appended = record { added = added; appended = appended; each = each }
+
+pub appends_more : (P : Record → Type 0) (old mid new : List Record) → AppendsEach P old mid → AppendsEach P mid new → AppendsEach P old new
+appends_more P old mid new a b = record {
+  added = a.added ++ b.added;
+  appended = b.appended ∙ ap (λ (rs : List Record). rs ++ b.added) a.appended ∙ append_assoc old a.added b.added;
+  each = all_append P a.added b.added a.each b.each;
+}
+
+pub appends_as : (P Q : Record → Type 0) (old new : List Record) → ((r : Record) → P r → Q r) → AppendsEach P old new → AppendsEach Q old new
+appends_as P Q old new f a = record { added = a.added; appended = a.appended; each = all_more P Q a.added f a.each }
+
+-- what a cut adds has no key twice
+pub appends_once : (P : Record → Type 0) (marked : List ℕ → Type 0) (base : Held) (old new : List Record) (later : Held → Type 0) → IsCut marked base old new later → AppendsEach P old new → AppendsOnce P old new
+appends_once P marked base old new later c a = record {
+  added = a.added;
+  appended = a.appended;
+  each = a.each;
+  once = subst AreOnce (append_cancel_left old c.added a.added (sym c.appended ∙ a.appended)) c.once;
+}

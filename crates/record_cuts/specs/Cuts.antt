@@ -30,3 +30,16 @@ pub record IsCut (marked : List ℕ → Type 0) (base : Held) (old new : List Re
   pub changed : AllByRecursion (λ r. marked r.0) added
   pub once : AreOnce added
   pub stands : later (put_all added base)
+
+-- records were added, each of which has a property
+pub record AppendsEach (P : Record → Type 0) (old new : List Record) : Type 0 where
+  pub added : List Record
+  pub appended : new ≡ old ++ added
+  pub each : AllByRecursion P added
+
+-- so they were, and no two of one key
+pub record AppendsOnce (P : Record → Type 0) (old new : List Record) : Type 0 where
+  pub added : List Record
+  pub appended : new ≡ old ++ added
+  pub each : AllByRecursion P added
+  pub once : AreOnce added

@@ -8,8 +8,8 @@ use Rattle.std.proofs.lemmas.Cmp.{tied_itself}
 use Rattle.text_maps.specs.Keyed.{text_order}
 use Rattle.flush_journal.specs.Records.{Held, Record, kept_body, put_all, put_record}
 use Rattle.flush_journal.proofs.PutLemmas.{put_last, put_others, tied}
-use Rattle.record_cuts.specs.Cuts.{IsCut}
-use Rattle.record_cuts.proofs.CutLemmas.{all_more}
+use Rattle.record_cuts.specs.Cuts.{AppendsEach, IsCut}
+use Rattle.record_cuts.proofs.CutLemmas.{all_more, appends_all}
 use Rattle.domains.specs.Contents.{Contents}
 use Rattle.domains.specs.declared.classes.Node.{Node}
 use Rattle.record_keys.specs.Keys.{next_key, node_key, run_key}
@@ -17,7 +17,7 @@ use Rattle.record_keys.specs.Numbers.{next_bytes, run_bytes}
 use Rattle.node_records.specs.Nodes.{node_of_body}
 use Rattle.register.specs.Marks.{Marked}
 use Rattle.register.specs.Decided.{Door}
-use Rattle.register.specs.Kept.{IsHeldNode, IsRegisterMarked, the_run, the_next, a_node, RegisterSays, all_kept, is_marked, is_marked_in}
+use Rattle.register.specs.Kept.{IsHeldNode, IsRegisterMarked, the_run, the_next, a_node, IsRegisterRecord, of_run, of_next, of_node, of_none, RegisterSays, all_kept, is_marked, is_marked_in}
 use Rattle.register.specs.Cutting.{AddsRegister, AreAdded, IsAmong, IsDueNode, IsDueOne, IsNodeBody, IsRightNode, IsRightOne, OfEither, is_of_all, is_of_paths}
 use Rattle.object_slots.proofs.Passing.{by_bool, contrary}
 use Rattle.register.proofs.Parts.{AreApart}
@@ -144,6 +144,29 @@ module _ (run : ℕ) (c : Contents) (m : Marked) where
 
 -- ---- the register
 
+module _ (d : Door) where
+  right_marked : (r : Record) → Right d.run d.catalogue d.marks r → IsRegisterMarked d r.0
+  right_marked r (inl (inl h)) = the_run h.0 (ap (λ (x : Record). x.0) h.1)
+  right_marked r (inl (inr h)) = the_next h.0 (ap (λ (x : Record). x.0) h.1)
+  right_marked r (inr (inl h)) = a_node h.0 (of_all_marked (contains_key d.marks.paths h.0) d.marks.all (contains_key d.catalogue.nodes h.0) h.1) h.2
+  right_marked r (inr (inr h)) = a_node h.0 (of_paths_marked (contains_key d.marks.paths h.0) d.marks.all (contains_key d.catalogue.nodes h.0) h.1) h.2
+
+  node_stands : (path : List ℕ) (r : Record) (o : Option Node) → get d.catalogue.nodes path ≡ o → r.0 ≡ node_key path → IsNodeBody o r.1 → IsRegisterRecord d r
+  node_stands path r None there key body = of_none path there (λ i. (key i, body i))
+  node_stands path r (Some node) there key body = of_node path node there (λ i. (key i, body.2 i))
+
+  right_stands : (r : Record) → Right d.run d.catalogue d.marks r → IsRegisterRecord d r
+  right_stands r (inl (inl h)) = of_run h.1
+  right_stands r (inl (inr h)) = of_next h.1
+  right_stands r (inr (inl h)) = node_stands h.0 r (get d.catalogue.nodes h.0) refl h.2 h.3
+  right_stands r (inr (inr h)) = node_stands h.0 r (get d.catalogue.nodes h.0) refl h.2 h.3
+
+  -- each record that was added is of a key that is marked, and of what stands
+  pub appends_right : (whole : Bool) (old new : List Record) → AddsRegister d.run d.catalogue d.marks whole old new → AppendsEach (λ r. IsRegisterMarked d r.0 × IsRegisterRecord d r) old new
+  appends_right whole old new adds =
+      appends_all (λ r. IsRegisterMarked d r.0 × IsRegisterRecord d r) old new adds.0
+      (all_more (Right d.run d.catalogue d.marks) (λ r. IsRegisterMarked d r.0 × IsRegisterRecord d r) adds.0 (λ r h. (right_marked r h, right_stands r h)) adds.1.right) adds.2
+
 module _ (d : Door) (added : List Record) (whole : Bool) (a : AreAdded (Right d.run d.catalogue d.marks) (Due d.run d.catalogue d.marks) whole added) (base : Held) where
   run_there : (get base run_key ≡ Some (run_bytes d.run)) ⊎ IsAmong run_key added → get (put_all added base) run_key ≡ Some (run_bytes d.run)
   run_there s = settled (λ o. o ≡ Some (run_bytes d.run)) run_key added base
@@ -175,17 +198,11 @@ module _ (d : Door) (added : List Record) (whole : Bool) (a : AreAdded (Right d.
         (λ y. inr (a.all w (node_key path) (due_node d.run d.catalogue d.marks path y))) (λ n. inl (s.nodes path n)));
   }
 
-  right_marked : (r : Record) → Right d.run d.catalogue d.marks r → IsRegisterMarked d r.0
-  right_marked r (inl (inl h)) = the_run h.0 (ap (λ (x : Record). x.0) h.1)
-  right_marked r (inl (inr h)) = the_next h.0 (ap (λ (x : Record). x.0) h.1)
-  right_marked r (inr (inl h)) = a_node h.0 (of_all_marked (contains_key d.marks.paths h.0) d.marks.all (contains_key d.catalogue.nodes h.0) h.1) h.2
-  right_marked r (inr (inr h)) = a_node h.0 (of_paths_marked (contains_key d.marks.paths h.0) d.marks.all (contains_key d.catalogue.nodes h.0) h.1) h.2
-
   added_cut : (old new : List Record) (later : Held → Type 0) → new ≡ old ++ added → later (put_all added base) → IsCut (IsRegisterMarked d) base old new later
   added_cut old new later e stands = record {
     added = added;
     appended = e;
-    changed = all_more (Right d.run d.catalogue d.marks) (λ r. IsRegisterMarked d r.0) added right_marked a.right;
+    changed = all_more (Right d.run d.catalogue d.marks) (λ r. IsRegisterMarked d r.0) added (right_marked d) a.right;
     once = a.once;
     stands = stands;
   }

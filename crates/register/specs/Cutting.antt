@@ -9,7 +9,7 @@ use Rattle.domains.specs.Contents.{Contents}
 use Rattle.domains.specs.declared.classes.Node.{Node}
 use Rattle.record_keys.specs.Keys.{next_key, node_key, run_key}
 use Rattle.record_keys.specs.Numbers.{next_bytes, run_bytes}
-use Rattle.node_records.specs.Nodes.{node_of_body}
+use Rattle.node_records.specs.Nodes.{node_body, node_of_body}
 use Rattle.register.specs.Marks.{Marked}
 
 -- a record of the key is among these
@@ -48,10 +48,10 @@ AddsNumbers run c m = Adds (OfEither (IsRightOne m.run run_key (run_bytes run)) 
 
 -- ---- nodes
 
--- the body of the record of a node reads as the node, and where none stands it is empty
+-- the body of the record of a node is the node's, and reads as the node; where none stands it is empty
 abbrev pub IsNodeBody : Option Node → List ℕ → Type 0
 IsNodeBody None body = body ≡ []
-IsNodeBody (Some node) body = (node_of_body body ≡ Some node) × (body ≢ [])
+IsNodeBody (Some node) body = (node_of_body body ≡ Some node) × (body ≢ []) × (body ≡ node_body node)
 
 abbrev pub AddsNode : Contents → List ℕ → List Record → List Record → Type 0
 AddsNode c path old new = (body : List ℕ) × IsNodeBody (get c.nodes path) body × AddsRecord (node_key path, body) old new

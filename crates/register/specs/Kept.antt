@@ -1,20 +1,21 @@
 -- What a journal holds of a register.
 --     is_marked d path      the record of a path is to be written
 --     IsRegisterMarked d key      that of a key is
+--     IsRegisterRecord d r      a record is of what stands
 --     RegisterSays d held      what is held tells the register, but for what is marked
 --     all_kept d      the same register once all is held
 --     AreTexts c      each path of a catalogue is UTF-8
 --     installed, IsInstalled      a register that was made from records
 --     IsUsedUp held      no run is left
-use Rattle.std.specs.Prelude.{◌≡◌, ℕ, ◌+◌, ◌-◌, ◌^◌, List, Bool, true, false, ◌&&◌, ◌||◌, Option, Some, None, IsSome, Result, Ok, Err, option_and_then, replicate}
+use Rattle.std.specs.Prelude.{◌≡◌, ℕ, ◌+◌, ◌-◌, ◌^◌, List, [], Bool, true, false, ◌&&◌, ◌||◌, Option, Some, None, IsSome, Result, Ok, Err, option_and_then, replicate}
 use Rattle.std.specs.Str.{IsUtf8}
 use Rattle.std.specs.FinMap.{contains_key, get}
-use Rattle.flush_journal.specs.Records.{Held}
+use Rattle.flush_journal.specs.Records.{Held, Record}
 use Rattle.domains.specs.Contents.{Contents}
 use Rattle.domains.specs.declared.classes.Node.{Node}
 use Rattle.record_keys.specs.Keys.{next_key, node_key, run_key}
 use Rattle.record_keys.specs.Numbers.{next_bytes, run_bytes}
-use Rattle.node_records.specs.Nodes.{node_of_body}
+use Rattle.node_records.specs.Nodes.{node_body, node_of_body}
 use Rattle.lane_installs.specs.declared.faults.InstallFault.{InstallFault as RecordFault}
 use Rattle.lane_installs.specs.declared.faults.InstallFault.TheVariants as records
 use Rattle.register_installs.specs.Registers.{DescribesRegister, IsRegisterFault, IsRun}
@@ -36,6 +37,14 @@ pub data IsRegisterMarked (d : Door) (key : List ℕ) : Type 0 where
   the_run : d.marks.run ≡ true → key ≡ run_key → IsRegisterMarked d key
   the_next : d.marks.next ≡ true → key ≡ next_key → IsRegisterMarked d key
   a_node : (path : List ℕ) → is_marked d path ≡ true → key ≡ node_key path → IsRegisterMarked d key
+
+-- the record of what stands: of the run, of the next domain's number, of a node, or without a byte where no node stands
+pub data IsRegisterRecord (d : Door) (r : Record) : Type 0 where
+  of_run : r ≡ (run_key, run_bytes d.run) → IsRegisterRecord d r
+  of_next : r ≡ (next_key, next_bytes d.catalogue.next) → IsRegisterRecord d r
+  of_node : (path : List ℕ) (node : Node) → get d.catalogue.nodes path ≡ Some node
+      → r ≡ (node_key path, node_body node) → IsRegisterRecord d r
+  of_none : (path : List ℕ) → get d.catalogue.nodes path ≡ None → r ≡ (node_key path, []) → IsRegisterRecord d r
 
 -- ---- what is held
 

@@ -14,7 +14,7 @@ ghost use Rattle.flush_journal.specs.Records.{Held};
 ghost use Rattle.lane_installs.specs.Records.{IsLeast};
 ghost use Rattle.object_ops.specs.Needs.{decided_at, right_for};
 ghost use Rattle.object_ops.specs.declared.replies.Reply.TheVariants.{Done};
-ghost use Rattle.record_cuts.specs.Cuts.{IsCut};
+ghost use Rattle.record_cuts.specs.Cuts.{AppendsEach, IsCut};
 ghost use Rattle.register.specs.Decided.{AreGivenOut, Decides, HasRoom, IsDoor, acls_body, children_body};
 ghost use Rattle.register.specs.Decided.{domain_added, domain_made, domain_refused, entry_put, first_serial, fits};
 ghost use Rattle.register.specs.Decided.{folder_made, foreign, fresh_given};
@@ -22,7 +22,7 @@ ghost use Rattle.register.specs.Decided.{forgotten, grant_of, granted, in_domain
 ghost use Rattle.register.specs.Decided.{node_made, node_removed, object_granted, one_step};
 ghost use Rattle.register.specs.Decided.{opened, serial_limit};
 ghost use Rattle.register.specs.Grants.{IfGranted, IsIssueOf};
-ghost use Rattle.register.specs.Kept.{AreTexts, IsInstalled, IsRegisterMarked, IsUsedUp};
+ghost use Rattle.register.specs.Kept.{AreTexts, IsInstalled, IsRegisterMarked, IsRegisterRecord, IsUsedUp};
 ghost use Rattle.register.specs.Kept.{MatchFault, MatchUsed, RegisterSays, TellsUsed, all_kept, installed, run_kept};
 ghost use Rattle.register.specs.Looks.{Answers, Leaves, MaySettle, Reads, Settles, SettlesOp};
 ghost use Rattle.register.specs.Marks.{no_marks};
@@ -198,6 +198,8 @@ impl Register {
         ensures cut { (base : Held) → IsCut (IsRegisterMarked self.old) base
             (records into.old) (records into.new)
             (λ held. RegisterSays self.old base → RegisterSays self.new held) }
+        ensures bodies { AppendsEach (λ r. IsRegisterMarked self.old r.0 × IsRegisterRecord self.old r)
+            (records into.old) (records into.new) }
         ensures still { OnOk result (self.new ≡ all_kept self.old) }
         ensures err { OnErr result (self.new ≡ self.old) }
     {

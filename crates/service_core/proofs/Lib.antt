@@ -11,3 +11,4 @@ pub mod LawLemmas
 pub mod RecordLemmas
 pub mod InstallLemmas
 pub mod LaterLemmas
+pub mod CutRecords

@@ -2,30 +2,32 @@
 use Rattle.std.proofs.Common.{◌≡◌, ◌≢◌, ◌⊎◌, inl, inr, ⊎_elim, ℕ, true, false, List, [], ◌∷◌, None, Some, refl, sym, ap, subst, ◌∙◌, arith}
 use Rattle.std.specs.FinMap.{empty, get, get-empty}
 use Rattle.std.specs.List.{AllByRecursion}
+use Rattle.std.proofs.lemmas.List.{append_cancel_left}
 use Rattle.flush_journal.specs.Records.{Held, Record, put_all}
 use Rattle.text_maps.specs.Keyed.{text_order}
 use Rattle.flush_journal.specs.Records.{kept_body}
 use Rattle.flush_journal.proofs.PutLemmas.{put_last, put_others}
 use Rattle.object_ids.specs.IdValues.{Id}
 use Rattle.object_ids.specs.Ids.{InRange}
-use Rattle.record_cuts.specs.Cuts.{AreApart, IsCut}
-use Rattle.record_cuts.proofs.CutLemmas.{all_more, in_turn}
+use Rattle.record_cuts.specs.Cuts.{AppendsEach, AppendsOnce, AreApart, IsCut}
+use Rattle.record_cuts.proofs.CutLemmas.{all_more, appends_as, appends_more, appends_once, in_turn}
 use Rattle.record_keys.specs.Keys.{IsChunk, chunk_key, next_key, node_key, object_key, run_key}
 use Rattle.record_keys.specs.Keys.{the_run, chunk, object, next_number}
 use Rattle.record_keys.specs.Numbers.{run_bytes}
+use Rattle.object_slots.specs.Bodies.{IsObjectRecord}
 use Rattle.object_slots.specs.Slots.{IsMarked, Slots}
 use Rattle.object_slots.proofs.KeyFacts.{index_numbers}
 use Rattle.object_slots.proofs.LaneCuts.{IsKeyApart, said_apart}
 use Rattle.chunk_owner.specs.Lanes.{IsWhole, Lane}
 use Rattle.lane_owners.specs.Joined.{whole}
-use Rattle.lane_owners.specs.Records.{AreStillIn, DescribesObjects, IsMarkedIn, LaneSays, LanesSay, LanesStillSay}
+use Rattle.lane_owners.specs.Records.{AreStillIn, AreUndropped, DescribesObjects, IsMarkedIn, IsStandingIn, IsStandingRecord, LaneSays, LanesSay, LanesStillSay}
 use Rattle.register_installs.specs.Registers.{DescribesRegister, is_node_key}
 use Rattle.register.specs.Decided.{Door}
-use Rattle.register.specs.Kept.{IsHeldNode, IsRegisterMarked, RegisterSays, a_node, run_kept, the_next}
+use Rattle.register.specs.Kept.{IsHeldNode, IsRegisterMarked, IsRegisterRecord, RegisterSays, a_node, all_kept, of_next, of_node, of_none, of_run, run_kept, the_next}
 use Rattle.register.specs.Kept.{the_run as marks_run}
 use Rattle.register.specs.Marks.{no_marks}
 use Rattle.stray_records.specs.Strays.{HasNoStrays, IsStrayKey}
-use Rattle.service_core.specs.Records.{DescribesWorld, as_kept, IsKept, IsWorldMarked, WorldSays, WorldStillSays, run_record}
+use Rattle.service_core.specs.Records.{DescribesWorld, as_kept, IsCutRecord, IsKept, IsWorldMarked, IsWorldRecord, of_object, of_register, WorldSays, WorldStillSays, run_record}
 use Rattle.service_core.specs.Worlds.{IsBuilt, IsNew, State, seen}
 
 -- ---- which part a key is of
@@ -163,6 +165,56 @@ module _ (s : State) (wholes : AllByRecursion IsWhole s.lanes) (d : Door) (first
         };
       })
 
+-- ---- the records of a cut
+
+both_each : (P Q : Record → Type 0) (rs : List Record) → AllByRecursion P rs → AllByRecursion Q rs → AllByRecursion (λ r. P r × Q r) rs
+both_each P Q [] h g = tt
+both_each P Q (r ∷ rs) h g = ((h.0, g.0), both_each P Q rs h.1 g.1)
+
+-- the records that were added have both properties
+appends_both : (P Q : Record → Type 0) (old new : List Record) → AppendsEach P old new → AppendsEach Q old new → AppendsEach (λ r. P r × Q r) old new
+appends_both P Q old new a b = record {
+  added = a.added;
+  appended = a.appended;
+  each = both_each P Q a.added a.each (subst (AllByRecursion Q) (append_cancel_left old b.added a.added (sym b.appended ∙ a.appended)) b.each);
+}
+
+register_kept : (d : Door) (r : Record) → IsRegisterRecord d r → IsRegisterRecord (all_kept d) r
+register_kept d r (of_run is) = of_run is
+register_kept d r (of_next is) = of_next is
+register_kept d r (of_node path node there is) = of_node path node there is
+register_kept d r (of_none path none is) = of_none path none is
+
+module _ (s : State) where
+  -- the body of a record is what stands there
+  abbrev Stands : Record → Type 0
+  Stands r = IsWorldRecord (as_kept s) r × (AreUndropped s.lanes → IsRegisterRecord (all_kept s.door) r ⊎ IsStandingRecord (whole s.lanes) r)
+
+  by_register : (r : Record) → IsRegisterMarked s.door r.0 × IsRegisterRecord s.door r → Stands r
+  by_register r h = (of_register (register_kept s.door r h.1), λ undropped. inl (register_kept s.door r h.1))
+
+  by_lanes : (r : Record) → IsObjectRecord (whole s.lanes) r × IsStandingIn s.lanes r → Stands r
+  by_lanes r h = (of_object h.0, λ undropped. inr (h.1 undropped))
+
+  cut_records : (base : Held) (old new : List Record) (later : Held → Type 0) → IsCut (IsWorldMarked s) base old new later → AppendsEach Stands old new → AppendsOnce (IsCutRecord s) old new
+  cut_records base old new later c a =
+      appends_once (IsCutRecord s) (IsWorldMarked s) base old new later c
+      (appends_as (λ r. IsWorldMarked s r.0 × Stands r) (IsCutRecord s) old new (λ r h. record { marked = h.0; stands = h.1.0; standing = h.1.1 })
+      (appends_both (λ r. IsWorldMarked s r.0) Stands old new (record { added = c.added; appended = c.appended; each = c.changed }) a))
+
+  module _ (base : Held) (first mid : List Record) (later : Held → Type 0) (register : AppendsEach (λ r. IsRegisterMarked s.door r.0 × IsRegisterRecord s.door r) first mid) where
+    register_stands : AppendsEach Stands first mid
+    register_stands = appends_as (λ r. IsRegisterMarked s.door r.0 × IsRegisterRecord s.door r) Stands first mid by_register register
+
+    pub register_records : IsCut (IsWorldMarked s) base first mid later → AppendsOnce (IsCutRecord s) first mid
+    register_records c = cut_records base first mid later c register_stands
+
+    pub both_records : (last : List Record) → IsCut (IsWorldMarked s) base first last later → AppendsEach (IsObjectRecord (whole s.lanes)) mid last → AppendsEach (IsStandingIn s.lanes) mid last
+        → AppendsOnce (IsCutRecord s) first last
+    both_records last c objects standing = cut_records base first last later c
+        (appends_more Stands first mid last register_stands
+        (appends_as (λ r. IsObjectRecord (whole s.lanes) r × IsStandingIn s.lanes r) Stands mid last by_lanes (appends_both (IsObjectRecord (whole s.lanes)) (IsStandingIn s.lanes) mid last objects standing)))
+
 -- ---- the record of the run
 
 four : (n : ℕ) → kept_body (run_bytes n) ≡ Some (run_bytes n)
@@ -175,8 +227,8 @@ module _ (s : State) (wholes : AllByRecursion IsWhole s.lanes) (held : Held) (sa
   abbrev added : List Record
   added = run_record s.door ∷ []
 
-  of_run : AllByRecursion (λ r. IsRegisterMarked begun r.0) added
-  of_run = (marks_run refl refl, tt)
+  run_marked : AllByRecursion (λ r. IsRegisterMarked begun r.0) added
+  run_marked = (marks_run refl refl, tt)
 
   elsewhere : (key : List ℕ) → run_key ≢ key → get (put_all added held) key ≡ get held key
   elsewhere key other = put_others held added key (other, tt)
@@ -189,8 +241,8 @@ module _ (s : State) (wholes : AllByRecursion IsWhole s.lanes) (held : Held) (sa
       next = λ off. elsewhere next_key (λ same. let e = ap first_byte same in absurd (omega (arith, e))) ∙ said.register.next off;
       nodes = λ path off. subst (IsHeldNode (get s.door.catalogue.nodes path)) (sym (elsewhere (node_key path) (λ same. let e = ap first_byte same in absurd (omega (arith, e))))) (said.register.nodes path off);
     };
-    lanes = lanes_stay begun added held of_run s.lanes wholes said.lanes;
-    strays = strays_stay (IsRegisterMarked begun) (register_no_stray begun) added held of_run said.strays;
+    lanes = lanes_stay begun added held run_marked s.lanes wholes said.lanes;
+    strays = strays_stay (IsRegisterMarked begun) (register_no_stray begun) added held run_marked said.strays;
   }
 
 -- ---- what each call leaves

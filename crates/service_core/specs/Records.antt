@@ -2,6 +2,8 @@
 --     WorldSays s held      what is held tells the world, but for what is to be written
 --     WorldStillSays old new      so it does after a change, where it did before
 --     IsWorldMarked s key      the next cut writes the record of a key
+--     IsWorldRecord w r      a record is of what stands in a world
+--     IsCutRecord s r      the next cut writes this record
 --     IsKept s      nothing is to be written
 --     as_kept s      the world as requests see it, whatever of it is to be written
 --     DescribesWorld held run w      what is held describes the world, in this run
@@ -14,12 +16,13 @@ use Rattle.flush_journal.specs.declared.why.Why.TheVariants as why
 use Rattle.record_keys.specs.Keys.{run_key}
 use Rattle.record_keys.specs.Numbers.{run_bytes}
 use Rattle.lane_installs.specs.Records.{IsLeast}
-use Rattle.lane_owners.specs.Records.{AreFaultless, AreGivenUpTo, AreStillIn, DescribesObjects, IsFirstFault, IsMarkedIn, LanesSay}
+use Rattle.object_slots.specs.Bodies.{IsObjectRecord}
+use Rattle.lane_owners.specs.Records.{AreFaultless, AreGivenUpTo, AreStillIn, AreUndropped, DescribesObjects, IsFirstFault, IsMarkedIn, IsStandingRecord, LanesSay}
 use Rattle.register_installs.specs.Registers.{DescribesRegister, IsNextNumber, IsRegisterFault, IsRun}
 use Rattle.register.specs.Decided.{Door}
 use Rattle.register.specs.declared.installs.InstallFault.{InstallFault}
 use Rattle.register.specs.declared.installs.InstallFault.TheVariants.{BadRecord, RunsUsed, NoMemory}
-use Rattle.register.specs.Kept.{IsInstalled, IsRegisterMarked, RegisterSays, all_kept}
+use Rattle.register.specs.Kept.{IsInstalled, IsRegisterMarked, IsRegisterRecord, RegisterSays, all_kept}
 use Rattle.stray_records.specs.Strays.{HasNoStrays, IsStray}
 use Rattle.service_core.specs.Steps.{World}
 use Rattle.service_core.specs.Worlds.{State, seen}
@@ -50,6 +53,20 @@ pub record IsSameWorld (old new : State) : Type 0 where
 
 abbrev pub as_kept : State → World
 as_kept s = record { door = all_kept s.door; objects = (seen s).objects }
+
+-- ---- the records of a cut
+
+-- a record of what stands in a world: of its register, or of an object
+pub data IsWorldRecord (w : World) (r : Record) : Type 0 where
+  of_register : IsRegisterRecord w.door r → IsWorldRecord w r
+  of_object : IsObjectRecord w.objects r → IsWorldRecord w r
+
+-- a record that the next cut writes: its key is marked, and its body is what stands there; where no object was removed since the last cut,
+-- it is of one that stands
+pub record IsCutRecord (s : State) (r : Record) : Type 0 where
+  pub marked : IsWorldMarked s r.0
+  pub stands : IsWorldRecord (as_kept s) r
+  pub standing : AreUndropped s.lanes → IsRegisterRecord (all_kept s.door) r ⊎ IsStandingRecord (as_kept s).objects r
 
 -- ---- the world that is described
 

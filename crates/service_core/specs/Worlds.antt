@@ -9,7 +9,7 @@ use Rattle.object_acts.specs.declared.objects.Object.{Object}
 use Rattle.chunk_owner.specs.Lanes.{Lane}
 use Rattle.register.specs.Decided.{Door}
 use Rattle.lane_owners.specs.Joined.{AreLanes, whole}
-use Rattle.lane_owners.specs.Records.{LanesSay}
+use Rattle.lane_owners.specs.Records.{AreUndropped, LanesSay}
 use Rattle.service_core.specs.Steps.{AreGiven, IsGiven, World}
 
 -- the register, and the owners of all lanes with what the next cut writes of their objects
@@ -27,11 +27,12 @@ pub record IsBuilt (door : Door) (owners : List Lane) : Type 0 where
   pub lanes : AreLanes (length owners) 0 owners
   pub given : AreGiven door (whole owners)
 
--- an owner for each of so many lanes, without objects, of which nothing is held
+-- an owner for each of so many lanes, without objects, of which nothing is held and none was removed
 pub record IsNew (many : ℕ) (owners : List Lane) : Type 0 where
   pub count : length owners ≡ many
   pub lanes : AreLanes many 0 owners
   pub says : LanesSay owners empty
+  pub undropped : AreUndropped owners
   pub empty : whole owners ≡ empty
 
 -- an id of a kind, of the domain of a number, that was given and has no object

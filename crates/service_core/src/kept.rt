@@ -6,7 +6,7 @@ use journal_keeping::Kept;
 use std::alloc::AllocError;
 
 impl Kept for World {
-    ghost use Rattle.service_core.specs.Records.{DescribesWorld, WorldSays, as_kept};
+    ghost use Rattle.service_core.specs.Records.{DescribesWorld, IsCutRecord, WorldSays, as_kept};
     ghost use Rattle.service_core.specs.Steps as steps;
 
     ghost World = { steps.World };
@@ -18,6 +18,8 @@ impl Kept for World {
     ghost says = { WorldSays };
 
     ghost tells = { λ held w. DescribesWorld held w.door.run w };
+
+    ghost is_cut = { IsCutRecord };
 
     fn cut(&mut self, into: &mut Batch) -> Result<(), AllocError> {
         let result = self.cut(into);

@@ -13,15 +13,16 @@ ghost use Rattle.flush_journal.specs.Records.{Held, put_record};
 ghost use Rattle.flush_journal.specs.Standing.{IsSettled, disk_of, pending_of};
 ghost use Rattle.flush_journal.specs.Tries.{Tries, Writes};
 ghost use Rattle.flush_journal.specs.Unchanged.{SameDisk};
-ghost use Rattle.record_cuts.specs.Cuts.{IsCut};
+ghost use Rattle.record_cuts.specs.Cuts.{AppendsOnce, IsCut};
 ghost use Rattle.text_maps.specs.Nexts.{IsKeyStep, IsNext};
 ghost use Rattle.domains.specs.Contents.{IsCatalogue};
 ghost use Rattle.object_ops.specs.Conditions.{IsSoundOp};
 ghost use Rattle.register.specs.Kept.{IsUsedUp, MatchFault, MatchUsed, RegisterSays, TellsUsed, run_kept};
 ghost use Rattle.register.specs.Decided.{HasRoom, IsDoor, domain_added, domain_refused, fresh_given, serial_limit};
 ghost use Rattle.lane_owners.specs.Joined.{AreLanes, whole};
-ghost use Rattle.lane_owners.specs.Records.{AreStillIn, LanesStillSay};
-ghost use Rattle.service_core.specs.Records.{DescribesWorld, IsKept, IsSameWorld, IsWorldFault, IsWorldMarked};
+ghost use Rattle.lane_owners.specs.Records.{AreStillIn, AreUndropped, LanesStillSay};
+ghost use Rattle.service_core.specs.Records.{DescribesWorld, IsCutRecord, IsKept, IsSameWorld};
+ghost use Rattle.service_core.specs.Records.{IsWorldFault, IsWorldMarked};
 ghost use Rattle.service_core.specs.Records.{IsWorldOf, OrNoMemory, WorldSays, WorldStillSays, run_record};
 ghost use Rattle.service_core.specs.Steps.{IsGiven, IsWorld, Obeys, Steps};
 ghost use Rattle.service_core.specs.Turns.{IsServable};
@@ -85,6 +86,7 @@ impl World {
 
         // Where nothing is held, that tells the world if it tells the register.
         ensures says { IfOk result (λ world. RegisterSays register empty → WorldSays world empty) }
+        ensures undropped { IfOk result (λ world. AreUndropped world.lanes) }
     {
         let owners = new_owners(alloc, register.lanes())?;
         Ok(World {
@@ -235,6 +237,7 @@ impl World {
         ensures ok { OnOk result (seen self.new ≡ with_object (seen self.old) id (unmarked object)) }
         ensures err { OnErr result (seen self.new ≡ seen self.old) }
         ensures says { WorldStillSays self.old self.new }
+        ensures undropped { AreUndropped self.old.lanes → AreUndropped self.new.lanes }
     {
         let lane = lane(&id, self.register.lanes());
         put_in(self.owners.as_mut_slice(), lane, id, object)
@@ -251,6 +254,7 @@ impl World {
         ensures cut { (base : Held) → IsCut (IsWorldMarked self.old) base
             (records into.old) (records into.new)
             (λ held. WorldSays self.old base → WorldSays self.new held) }
+        ensures bodies { AppendsOnce (IsCutRecord self.old) (records into.old) (records into.new) }
         ensures kept { OnOk result (IsKept self.new) }
         ensures same { IsSameWorld self.old self.new }
     {
@@ -364,6 +368,7 @@ fn put_in(owners: &mut [Owner], lane: u32, id: ObjectId, object: Object) -> Resu
     ensures err { OnErr result (whole owners.new ≡ whole owners.old) }
     ensures lanes { AreLanes (length owners.old) 0 owners.new }
     ensures says { LanesStillSay owners.old owners.new }
+    ensures undropped { AreUndropped owners.old → AreUndropped owners.new }
 {
     let owner = &mut owners[lane as usize];
     owner.put_object(id, object)

@@ -1,6 +1,6 @@
 use Rattle.std.proofs.Common.{length}
 use Rattle.flush_journal.specs.Batches.{records}
-use Rattle.lane_owners.proofs.CutLemmas.{all_cut, cut_more, front_cut, front_lanes, front_objects}
+use Rattle.lane_owners.proofs.CutLemmas.{all_cut, cut_more, front_bodies, front_cut, front_lanes, front_objects, front_standing}
 use Rattle.lane_owners.proofs.cuts.cut_lanes.Goals as goal
 
 pub loop-lane-preserved : goal.loop-lane-preserved
@@ -11,6 +11,16 @@ loop-lane-preserved c =
 pub returns-in_err-cut_lane-clause-cut : goal.returns-in_err-cut_lane-clause-cut
 returns-in_err-cut_lane-clause-cut c =
     front_cut (length c.args.owners.now) c.loop-lane.lane c.args.owners.now c.loop-lane.owners c.cut_lane.new.owners (records c.args.into.now) (records c.loop-lane.into) (records c.cut_lane.new.into)
+    c.requires.lanes c.are_whole.ensures c.loop-lane-test.true c.loop-lane.invariant c.in_err-cut_lane.ensures.cuts
+
+pub returns-in_err-cut_lane-clause-bodies : goal.returns-in_err-cut_lane-clause-bodies
+returns-in_err-cut_lane-clause-bodies c =
+    front_bodies (length c.args.owners.now) c.loop-lane.lane c.args.owners.now c.loop-lane.owners c.cut_lane.new.owners (records c.args.into.now) (records c.loop-lane.into) (records c.cut_lane.new.into)
+    c.requires.lanes c.are_whole.ensures c.loop-lane-test.true c.loop-lane.invariant c.in_err-cut_lane.ensures.cuts
+
+pub returns-in_err-cut_lane-clause-standing : goal.returns-in_err-cut_lane-clause-standing
+returns-in_err-cut_lane-clause-standing c =
+    front_standing (length c.args.owners.now) c.loop-lane.lane c.args.owners.now c.loop-lane.owners c.cut_lane.new.owners (records c.args.into.now) (records c.loop-lane.into) (records c.cut_lane.new.into)
     c.requires.lanes c.are_whole.ensures c.loop-lane-test.true c.loop-lane.invariant c.in_err-cut_lane.ensures.cuts
 
 pub returns-in_err-cut_lane-clause-objects : goal.returns-in_err-cut_lane-clause-objects

@@ -5,7 +5,7 @@ use Rattle.flush_journal.specs.Batches.{records}
 use Rattle.text_maps.specs.Nexts.{IsNext}
 use Rattle.object_ids.specs.IdValues.{Id}
 use Rattle.object_slots.specs.Slots.{AreOfKind, IsMarked, Slots}
-use Rattle.object_slots.proofs.LaneCuts.{far_still, far_whole, next_cut, next_front, next_smaller}
+use Rattle.object_slots.proofs.LaneCuts.{far_still, far_whole, next_bodies, next_cut, next_front, next_smaller}
 use Rattle.object_slots.proofs.Marks.{cut_marks}
 use Rattle.object_slots.proofs.cuts.cut.Goals as goal
 
@@ -13,6 +13,11 @@ pub returns-in_err-cut_at-clause-cut : goal.returns-in_err-cut_at-clause-cut
 returns-in_err-cut_at-clause-cut c =
     next_front c.args.slots.now c.loop-id.slots (records c.args.into.now) (records c.loop-id.into) (records c.cut_at.new.into) c.loop-id.last c.loop-id.invariant c.in-Some.id c.in_err-cut_at.ensures.range
     (subst (λ (after : Option Id). IsNext c.loop-id.slots after (Some c.in-Some.id)) c.as_ref.ensures.value c.in-Some.ensures.least) c.cut_at.new.slots c.in_err-cut_at.ensures.same c.in_err-cut_at.ensures.front
+
+pub returns-in_err-cut_at-clause-bodies : goal.returns-in_err-cut_at-clause-bodies
+returns-in_err-cut_at-clause-bodies c =
+    next_bodies c.args.slots.now c.loop-id.slots (records c.args.into.now) (records c.loop-id.into) (records c.cut_at.new.into) c.loop-id.last c.loop-id.invariant c.in-Some.id c.in_err-cut_at.ensures.range
+    (subst (λ (after : Option Id). IsNext c.loop-id.slots after (Some c.in-Some.id)) c.as_ref.ensures.value c.in-Some.ensures.least) c.in_err-cut_at.ensures.front
 
 pub returns-in_err-cut_at-clause-kinds : goal.returns-in_err-cut_at-clause-kinds
 returns-in_err-cut_at-clause-kinds c = subst (λ (x : Slots). AreOfKind x) (sym c.in_err-cut_at.ensures.same) c.loop-id.invariant.kinds

@@ -1,4 +1,4 @@
-use Rattle.std.proofs.Common.{sym, ◌∙◌}
+use Rattle.std.proofs.Common.{sym}
 use Rattle.object_slots.proofs.KeptSlots.{kept_here, put_others}
 use Rattle.object_slots.proofs.settling.keep_at.Goals as goal
 

@@ -1,5 +1,4 @@
 use Rattle.std.proofs.Common.{sym, ◌∙◌}
-use Rattle.object_ids.specs.IdValues.{Id}
 use Rattle.object_slots.proofs.KeptSlots.{dropped_here, gone_others}
 use Rattle.object_slots.proofs.settling.settle_at.Goals as goal
 

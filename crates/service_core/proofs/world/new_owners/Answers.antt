@@ -2,8 +2,9 @@ use Rattle.std.proofs.Common.{◌≡◌, ◌∷◌, ◌+◌, [], ℕ, List, leng
 use Rattle.chunk_owner.specs.Lanes.{Lane}
 use Rattle.lane_owners.specs.Joined.{AreLanes, IsLane, whole}
 use Rattle.std.specs.FinMap.{empty}
-use Rattle.lane_owners.specs.Records.{LanesSay}
+use Rattle.lane_owners.specs.Records.{AreUndropped, LanesSay}
 use Rattle.lane_owners.proofs.SaidLemmas.{nothing_said_more}
+use Rattle.lane_owners.proofs.UndroppedLemmas.{undropped_push}
 use Rattle.lane_owners.proofs.WholeLemmas.{lanes_push, new_lane, whole_push}
 use Rattle.service_core.proofs.world.new_owners.Goals as goal
 
@@ -18,4 +19,5 @@ loop-lane-preserved c =
       subst (λ (xs : List Lane). AreLanes c.args.lanes 0 xs) (sym put) (lanes_push c.args.lanes 0 ls c.new.result i.1 (subst (λ (j : ℕ). IsLane c.args.lanes j c.new.result) e new)),
       ap whole put ∙ whole_push ls c.new.result (ap (λ l. l.objects) c.new.ensures) i.2,
       subst (λ (xs : List Lane). LanesSay xs empty) (sym put) (nothing_said_more ls c.new.result i.3 (ap (λ l. l.slots) c.new.ensures)),
+      subst (λ (xs : List Lane). AreUndropped xs) (sym put) (undropped_push ls c.new.result i.4 (ap (λ l. l.slots) c.new.ensures)),
     )

@@ -2,6 +2,7 @@ use Rattle.std.proofs.Common.{get_or, sym, ap}
 use Rattle.object_acts.specs.Objects.{unmarked}
 use Rattle.lane_owners.proofs.WholeLemmas.{home_by_lane, kept_whole, lane_put, none_here, put_whole}
 use Rattle.lane_owners.proofs.SaidLemmas.{said_set}
+use Rattle.lane_owners.proofs.UndroppedLemmas.{undropped_set}
 use Rattle.service_core.proofs.world.put_in.Goals as goal
 
 pub put_object-requires-clause-lane : goal.put_object-requires-clause-lane
@@ -42,3 +43,9 @@ returns-clause-says c =
     let ls = c.args.owners.now in
     let l = get_or ls c.args.lane c.index-owners-lane.result in
     said_set l c.put_object.new.self c.put_object.ensures.same c.put_object.ensures.says c.args.lane ls (sym (ap (get_or ls c.args.lane) c.index-owners-lane.is))
+
+pub returns-clause-undropped : goal.returns-clause-undropped
+returns-clause-undropped c =
+    let ls = c.args.owners.now in
+    let l = get_or ls c.args.lane c.index-owners-lane.result in
+    undropped_set l c.put_object.new.self c.put_object.ensures.undropped c.args.lane ls (sym (ap (get_or ls c.args.lane) c.index-owners-lane.is))

@@ -4,7 +4,8 @@ use Rattle.object_ids.specs.IdValues.{Id}
 use Rattle.object_ids.specs.Ids.{InRange}
 use Rattle.flush_journal.specs.Batches.{records}
 use Rattle.flush_journal.specs.Records.{Held}
-use Rattle.record_cuts.specs.Cuts.{IsCut}
+use Rattle.record_cuts.specs.Cuts.{AppendsEach, IsCut}
+use Rattle.object_slots.specs.Bodies.{IsSlotRecord}
 use Rattle.object_slots.specs.Slots.{IsMarked, Says, objects_of}
 use Rattle.chunk_owner.specs.Lanes.{Lane}
 use Rattle.object_slots.proofs.Standing.{objects-same}
@@ -22,6 +23,9 @@ pub returns-clause-cut : goal.returns-clause-cut
 returns-clause-cut c =
     subst (λ (l : Lane). (base : Held) → IsCut (IsMarked l.slots) base (records c.args.into.now) (records c.cut.new.into)
     (λ held. (id : Id) → InRange id → Says (get l.slots id) id base → Says (get c.cut.new.slots id) id held)) c.self.view_is c.cut.ensures.cut
+
+pub returns-clause-bodies : goal.returns-clause-bodies
+returns-clause-bodies c = subst (λ (l : Lane). AppendsEach (IsSlotRecord l.slots) (records c.args.into.now) (records c.cut.new.into)) c.self.view_is c.cut.ensures.bodies
 
 pub returns-clause-objects : goal.returns-clause-objects
 returns-clause-objects c =

@@ -2,7 +2,9 @@ use Rattle.std.proofs.Common.{◌≡◌, None, OnErr, OnOk, sym, subst, ◌∙�
 use Rattle.std.specs.FinMap.{get, insert}
 use Rattle.object_ids.specs.Ids.{lane_of}
 use Rattle.object_acts.specs.Objects.{unmarked}
+use Rattle.object_slots.specs.Bodies.{IsUndropped}
 use Rattle.object_slots.specs.Slots.{StillSays, objects_of}
+use Rattle.object_slots.proofs.Placed.{undropped_put}
 use Rattle.object_slots.proofs.Standing.{get-objects_of}
 use Rattle.chunk_owner.specs.Lanes.{Lane}
 use Rattle.chunk_owner.proofs.LaneLemmas.{objects_put, objects_stay, slots_put}
@@ -31,3 +33,8 @@ returns-clause-err c =
 
 pub returns-clause-says : goal.returns-clause-says
 returns-clause-says c = subst (λ (l : Lane). StillSays l.slots c.put.new.slots) c.self.view_is c.put.ensures.says
+
+pub returns-clause-undropped : goal.returns-clause-undropped
+returns-clause-undropped c =
+    subst (λ (l : Lane). IsUndropped l.slots → IsUndropped c.put.new.slots) c.self.view_is
+    (undropped_put c.put.result c.self.inside.slots c.put.new.slots c.args.id (unmarked c.args.object) c.put.ensures.there c.put.ensures.others c.put.ensures.err)

@@ -1,9 +1,10 @@
-use Rattle.std.proofs.Common.{◌≡◌, List, ap, subst, sym, ◌∙◌}
+use Rattle.std.proofs.Common.{List, ap, subst, sym, ◌∙◌}
 use Rattle.flush_journal.specs.Batches.{records}
-use Rattle.flush_journal.specs.Records.{Held, Record, put_all}
+use Rattle.flush_journal.specs.Records.{Record, put_all}
 use Rattle.flush_journal.proofs.BlockLemmas.{put_both}
 use Rattle.object_ids.proofs.NamedMaps.{on_ok}
 use Rattle.service_core.specs.Records.{WorldSays}
+use Rattle.service_core.proofs.CutRecords.{nothing_to_cut}
 use Rattle.service_core.proofs.RecordLemmas.{described_as_kept}
 use Rattle.service_core.proofs.kept.WorldKept.cut.Goals as goal
 
@@ -17,3 +18,9 @@ returns-clause-told c = on_ok c.cut-result.result (λ kept held said. described_
 
 pub returns-clause-world : goal.returns-clause-world
 returns-clause-world c = λ i. record { door = c.cut-result.ensures.same.door i; objects = c.cut-result.ensures.same.objects i }
+
+pub returns-clause-bodies : goal.returns-clause-bodies
+returns-clause-bodies c = c.cut-result.ensures.bodies
+
+pub returns-clause-none : goal.returns-clause-none
+returns-clause-none c = on_ok c.cut-result.result (λ kept. nothing_to_cut c.cut-result.new.self kept) c.cut-result.ensures.kept

@@ -1,13 +1,16 @@
 use Rattle.std.proofs.Common.{List, sym, subst, ◌∙◌}
+use Rattle.std.specs.FinMap.{empty}
 use Rattle.std.specs.List.{AllByRecursion}
 use Rattle.flush_journal.specs.Batches.{records}
 use Rattle.flush_journal.specs.Records.{Held}
-use Rattle.record_cuts.specs.Cuts.{IsCut}
+use Rattle.record_cuts.specs.Cuts.{AppendsEach, AppendsOnce, IsCut}
+use Rattle.object_slots.specs.Bodies.{IsObjectRecord}
 use Rattle.chunk_owner.specs.Lanes.{IsWhole, Lane}
-use Rattle.lane_owners.specs.Records.{IsMarkedIn, LanesSay}
-use Rattle.service_core.specs.Records.{IsWorldMarked, WorldSays}
+use Rattle.lane_owners.specs.Joined.{whole}
+use Rattle.lane_owners.specs.Records.{IsMarkedIn, IsStandingIn, LanesSay}
+use Rattle.service_core.specs.Records.{IsCutRecord, IsWorldMarked, WorldSays}
 use Rattle.service_core.specs.Worlds.{State}
-use Rattle.service_core.proofs.RecordLemmas.{both_cut, register_alone}
+use Rattle.service_core.proofs.RecordLemmas.{both_cut, both_records, register_alone, register_records}
 use Rattle.service_core.proofs.WorldLemmas.{written}
 use Rattle.service_core.proofs.world.World.cut.Goals as goal
 
@@ -26,3 +29,27 @@ returns-clause-cut c =
     (λ held. WorldSays c.args.self.now base → WorldSays (record { door = c.cut.new.self; lanes = ls }) held)) (sym (written _ left _ (c.cut_lanes.auto.owners ∙ c.as_mut_slice.ensures.len)))
     (subst (λ (s : State). (base : Held) → IsCut (IsWorldMarked s) base (records c.args.into.now) (records c.cut_lanes.new.into) (λ held. WorldSays s base → WorldSays (record { door = c.cut.new.self; lanes = left }) held)) c.self.view_is
     (both_cut (record { door = c.self.inside.register; lanes = c.self.inside.owners.items }) wholes c.cut.new.self (records c.args.into.now) (records c.cut.new.into) c.in_ok-cut.ensures.cut left (records c.cut_lanes.new.into) lanes))
+
+pub returns-in_err-cut-clause-bodies : goal.returns-in_err-cut-clause-bodies
+returns-in_err-cut-clause-bodies c =
+    let wholes = subst (λ (ls : List Lane). AllByRecursion IsWhole ls) c.as_slice.ensures.value c.are_whole.ensures in
+    let s : State = record { door = c.self.inside.register; lanes = c.self.inside.owners.items } in
+    let first = records c.args.into.now in
+    let mid = records c.cut.new.into in
+    subst (λ (x : State). AppendsOnce (IsCutRecord x) first mid) c.self.view_is
+    (register_records s empty first mid _ c.in_err-cut.ensures.bodies (register_alone s wholes c.cut.new.self first mid c.in_err-cut.ensures.cut empty))
+
+pub returns-clause-bodies : goal.returns-clause-bodies
+returns-clause-bodies c =
+    let wholes = subst (λ (ls : List Lane). AllByRecursion IsWhole ls) c.as_slice.ensures.value c.are_whole.ensures in
+    let left = c.cut_lanes.new.owners in
+    let s : State = record { door = c.self.inside.register; lanes = c.self.inside.owners.items } in
+    let first = records c.args.into.now in
+    let mid = records c.cut.new.into in
+    let last = records c.cut_lanes.new.into in
+    let value = c.as_mut_slice.ensures.value in
+    let lanes = subst (λ (ls : List Lane). (base : Held) → IsCut (IsMarkedIn ls) base mid last (λ held. LanesSay ls base → LanesSay left held)) value c.cut_lanes.ensures.cut in
+    let objects = subst (λ (ls : List Lane). AppendsEach (IsObjectRecord (whole ls)) mid last) value c.cut_lanes.ensures.bodies in
+    let standing = subst (λ (ls : List Lane). AppendsEach (IsStandingIn ls) mid last) value c.cut_lanes.ensures.standing in
+    subst (λ (x : State). AppendsOnce (IsCutRecord x) first last) c.self.view_is
+    (both_records s empty first mid _ c.in_ok-cut.ensures.bodies last (both_cut s wholes c.cut.new.self first mid c.in_ok-cut.ensures.cut left last lanes empty) objects standing)

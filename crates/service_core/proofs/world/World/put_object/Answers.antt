@@ -3,7 +3,7 @@ use Rattle.std.specs.FinMap.{insert}
 use Rattle.object_acts.specs.Objects.{unmarked}
 use Rattle.chunk_owner.specs.Lanes.{Lane}
 use Rattle.lane_owners.specs.Joined.{AreLanes, whole}
-use Rattle.lane_owners.specs.Records.{LanesStillSay}
+use Rattle.lane_owners.specs.Records.{AreUndropped, LanesStillSay}
 use Rattle.service_core.specs.Records.{WorldStillSays}
 use Rattle.service_core.specs.Steps.{IsGiven}
 use Rattle.service_core.specs.Worlds.{IsBuilt, State}
@@ -30,3 +30,10 @@ returns-clause-says c =
     let lanes = subst (λ (ls : List Lane). LanesStillSay ls left) c.as_mut_slice.ensures.value c.put_in.ensures.says in
     subst (λ (ls : List Lane). WorldStillSays c.args.self.now (record { door = door; lanes = ls })) (sym (written _ left _ (c.put_in.auto.owners ∙ c.as_mut_slice.ensures.len)))
     (subst (λ (s : State). WorldStillSays s (record { door = door; lanes = left })) c.self.view_is (both_still door door c.self.inside.owners.items left (λ held said. said) lanes))
+
+pub returns-clause-undropped : goal.returns-clause-undropped
+returns-clause-undropped c =
+    let left = c.put_in.new.owners in
+    let lanes = subst (λ (ls : List Lane). AreUndropped ls → AreUndropped left) c.as_mut_slice.ensures.value c.put_in.ensures.undropped in
+    subst (λ (ls : List Lane). AreUndropped c.args.self.now.lanes → AreUndropped ls) (sym (written _ left _ (c.put_in.auto.owners ∙ c.as_mut_slice.ensures.len)))
+    (subst (λ (s : State). AreUndropped s.lanes → AreUndropped left) c.self.view_is lanes)
