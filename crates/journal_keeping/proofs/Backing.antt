@@ -20,11 +20,11 @@ use Rattle.journal_keeping.specs.Keepings.{HoldsOne, IsBacked, settled, owed, Ke
 
 -- ---- outcomes
 
-on_ok : {A E : Type 0} (r : Result A E) (P : Type 0) (x : A) → r ≡ Ok x → OnOk r P → P
+pub on_ok : {A E : Type 0} (r : Result A E) (P : Type 0) (x : A) → r ≡ Ok x → OnOk r P → P
 on_ok (Ok a) P x is p = p
 on_ok (Err e) P x is p = absurd (cc)
 
-on_err : {A E : Type 0} (r : Result A E) (P : Type 0) (e : E) → r ≡ Err e → OnErr r P → P
+pub on_err : {A E : Type 0} (r : Result A E) (P : Type 0) (e : E) → r ≡ Err e → OnErr r P → P
 on_err (Ok a) P e is p = absurd (cc)
 on_err (Err f) P e is p = p
 
@@ -32,7 +32,7 @@ any_ok : {A E : Type 0} (r : Result A E) {P : Type 0} → P → OnOk r P
 any_ok (Ok a) p = p
 any_ok (Err e) p = tt
 
-ok_not_err : {A E : Type 0} (r : Result A E) (x : A) (e : E) (P : Type 0) → r ≡ Ok x → r ≡ Err e → P
+pub ok_not_err : {A E : Type 0} (r : Result A E) (x : A) (e : E) (P : Type 0) → r ≡ Ok x → r ≡ Err e → P
 ok_not_err {A} {E} r x e P good bad = absurd (let both : ◌≡◌ {A = Result A E} (Ok x) (Err e) = sym good ∙ bad in cc)
 
 err_same : {A E : Type 0} (e f : E) → ◌≡◌ {A = Result A E} (Err e) (Err f) → e ≡ f
@@ -41,7 +41,7 @@ err_same e f is = cc
 some_same : {A : Type 0} (x y : A) → ◌≡◌ {A = Option A} (Some x) (Some y) → x ≡ y
 some_same x y is = cc
 
-none_some : {A : Type 0} (o : Option A) (x : A) (P : Type 0) → o ≡ None → o ≡ Some x → P
+pub none_some : {A : Type 0} (o : Option A) (x : A) (P : Type 0) → o ≡ None → o ≡ Some x → P
 none_some {A} o x P none some = absurd (let both : ◌≡◌ {A = Option A} None (Some x) = sym none ∙ some in cc)
 
 -- a count that rose later rose since before

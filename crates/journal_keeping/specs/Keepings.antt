@@ -3,18 +3,22 @@
 --     HoldsOne tells ws file      so does what a file holds
 --     IsBacked tells j building says ws      all is kept, and a crash leaves one of these worlds
 --     Keeps ..      what a keeping does
-use Rattle.std.specs.Prelude.{◌≡◌, ◌⊎◌, ℕ, ◌+◌, ◌<◌, List, [], ◌∷◌, Some, None, Result, Ok, Err, OnOk, IfErr}
+--     Builds ..      what it leaves to be written
+use Rattle.std.specs.Prelude.{◌≡◌, ◌⊎◌, ℕ, ◌+◌, ◌<◌, List, [], ◌∷◌, Option, Some, None, Result, Ok, Err, OnOk, IfErr}
 use Rattle.edge_traits.specs.Causes.{Rose}
 use Rattle.edge_traits.specs.declared.disk.Disk.{Ghosts}
 use Rattle.flush_journal.specs.Files.{Content, held}
 use Rattle.flush_journal.specs.Frames.{need_of}
 use Rattle.flush_journal.specs.Moments.{Leaves}
 use Rattle.flush_journal.specs.Records.{Held, Record, put_all}
+use Rattle.flush_journal.specs.Tries.{one_more}
+use Rattle.flush_journal.specs.declared.report.Report.{Report}
 use Rattle.flush_journal.specs.Standing.{IsOwed, IsSettled, disk_of, end_of, pending_of}
 use Rattle.flush_journal.specs.Unchanged.{SameDisk}
 use Rattle.flush_journal.specs.declared.journal.Journal.{Journal}
 use Rattle.flush_journal.specs.declared.why.Why.{Why}
 use Rattle.flush_journal.specs.declared.why.Why.TheVariants.{DiskFault, NotAJournal, JournalFull, Exists, NoMemory}
+use Rattle.record_cuts.specs.Cuts.{AppendsOnce}
 
 -- ---- worlds that are held
 
@@ -60,3 +64,26 @@ pub record Keeps {D W T : Type 0} {met : Ghosts D} (tells : Held → W → Type 
   pub cause : IfErr result (MayRefuseKeeping old new)
   pub full : (rs : List Record) → pending_of new ≡ Some rs → met.most (disk_of new) < end_of new + need_of rs
       → result ≡ Err (JournalFull (end_of new) (need_of rs) (met.most (disk_of new)))
+
+-- ---- what a keeping leaves to be written
+
+-- the journal's numbers once the batch that waited is written
+abbrev pub with_waiting : Report → Option (List Record) → Report
+with_waiting numbers None = numbers
+with_waiting numbers (Some rs) = one_more numbers rs
+
+-- and once a batch is; one without records isn't written
+abbrev pub with_written : Report → List Record → Report
+with_written numbers [] = numbers
+with_written numbers (r ∷ rs) = one_more numbers (r ∷ rs)
+
+-- from the journal's numbers, the batch that waited and what was building, to the same afterwards; what a cut adds has a property
+pub data Builds (P : Record → Type 0) (from : Report) (waiting : Option (List Record)) (building : List Record) (to : Report) (left : Option (List Record)) (built : List Record) : Type 0 where
+  -- the batch that waited still does
+  unsettled : (rs : List Record) → waiting ≡ Some rs → left ≡ Some rs → built ≡ building → to ≡ from → Builds P from waiting building to left built
+  -- records were cut, and not appended
+  uncut : left ≡ None → AppendsOnce P building built → to ≡ with_waiting from waiting → Builds P from waiting building to left built
+  -- what was building and what was cut waits
+  waits : (rs : List Record) → left ≡ Some rs → AppendsOnce P building rs → built ≡ [] → to ≡ with_waiting from waiting → Builds P from waiting building to left built
+  -- all of it is written
+  written : (rs : List Record) → left ≡ None → AppendsOnce P building rs → built ≡ [] → to ≡ with_written (with_waiting from waiting) rs → Builds P from waiting building to left built

@@ -1,7 +1,8 @@
-ghost use Rattle.std.specs.Prelude.{◌≡◌, [], IfOk, OnErr, None};
+ghost use Rattle.std.specs.Prelude.{◌≡◌, [], IfOk, OnErr, OnOk, None};
 ghost use Rattle.flush_journal.specs.Batches.{records};
-ghost use Rattle.flush_journal.specs.Standing.{pending_of};
-ghost use Rattle.journal_keeping.specs.Keepings.{Keeps};
+ghost use Rattle.flush_journal.specs.Records.{Record};
+ghost use Rattle.flush_journal.specs.Standing.{numbers_of, pending_of};
+ghost use Rattle.journal_keeping.specs.Keepings.{Builds, Keeps};
 
 use crate::kept::Kept;
 use edge_traits::Disk;
@@ -46,6 +47,11 @@ impl<D: Disk> Keeping<D> {
         ensures keeps { Keeps W.tells self.old.journal self.new.journal
             (records self.old.building) (records self.new.building)
             (W.says world.old) (W.says world.new) (W.world world.new) result }
+        ensures batch { Builds (W.is_cut world.old)
+            (numbers_of self.old.journal) (pending_of self.old.journal) (records self.old.building)
+            (numbers_of self.new.journal) (pending_of self.new.journal) (records self.new.building) }
+        ensures done { OnOk result (records self.new.building ≡ []) }
+        ensures none { OnOk result ((r : Record) → W.is_cut world.new r → ⊥) }
         ensures world { W.world world.new ≡ W.world world.old }
         ensures number { IfOk result (λ n. n ≡ W.places (W.world world.new)) }
         ensures kept { IfOk result (λ n. self.new.kept ≡ n) }
@@ -69,6 +75,10 @@ fn append_changes<D: Disk, W: Kept>(
     ensures keeps { Keeps W.tells journal.old journal.new
         (records building.old) (records building.new)
         (W.says world.old) (W.says world.new) (W.world world.new) result }
+    ensures batch { Builds (W.is_cut world.old) (numbers_of journal.old) None (records building.old)
+        (numbers_of journal.new) (pending_of journal.new) (records building.new) }
+    ensures done { OnOk result (records building.new ≡ []) }
+    ensures none { OnOk result ((r : Record) → W.is_cut world.new r → ⊥) }
     ensures world { W.world world.new ≡ W.world world.old }
 {
     world.cut(building)?;

@@ -1,6 +1,7 @@
 ghost use Rattle.std.specs.Prelude.{◌≡◌, ℕ, OnOk};
 ghost use Rattle.flush_journal.specs.Batches.{records};
-ghost use Rattle.flush_journal.specs.Records.{Held, put_all};
+ghost use Rattle.flush_journal.specs.Records.{Held, Record, put_all};
+ghost use Rattle.record_cuts.specs.Cuts.{AppendsOnce};
 
 use flush_journal::Batch;
 use std::alloc::AllocError;
@@ -22,6 +23,9 @@ pub trait Kept {
     /// What is held describes a world.
     ghost tells: { Held → World → Type 0 };
 
+    /// A record that the next cut writes: what stands at a key of what changed.
+    ghost is_cut: { Self → Record → Type 0 };
+
     /// Appends the records of what changed since the last cut. After `Ok` what is held with them describes the world.
     ///
     /// # Errors
@@ -30,8 +34,10 @@ pub trait Kept {
     fn cut(&mut self, into: &mut Batch) -> Result<(), AllocError>
         ensures cut { (held : Held) → says self.old (put_all (records into.old) held)
             → says self.new (put_all (records into.new) held) }
+        ensures none { OnOk result ((r : Record) → is_cut self.new r → ⊥) }
         ensures told { OnOk result ((held : Held) → says self.new held
             → tells held (world self.new)) }
+        ensures bodies { AppendsOnce (is_cut self.old) (records into.old) (records into.new) }
         ensures world { world self.new ≡ world self.old };
 
     /// How many requests the world has decided.

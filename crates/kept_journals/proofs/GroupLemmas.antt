@@ -1,6 +1,6 @@
 -- The groups that are put at the roots of a catalogue's domains.
 use Rattle.std.proofs.Common.{◌≡◌, ◌≢◌, ◌∙◌, ◌⊎◌, ◌<◌, ℕ, Bool, true, false, T, cond, List, [], ◌∷◌, Option, Some, None, is_some, inl, inr}
-use Rattle.std.proofs.Common.{Ordering, Equal, option_map, refl, sym, ap, subst, is_eq, IsSome}
+use Rattle.std.proofs.Common.{option_map, refl, sym, ap, subst, is_eq, IsSome}
 use Rattle.std.specs.Ordering.{eq_by_cmp}
 use Rattle.std.specs.Cmp.{Equal-is}
 use Rattle.std.specs.FinMap.{empty, entries, entries_sorted, find, get, get-empty, get-entries, get-insert, insert, is_sorted}
@@ -10,7 +10,6 @@ use Rattle.std.proofs.lemmas.Cmp.{tied_itself}
 use Rattle.text_maps.specs.Keyed.{text_order}
 use Rattle.object_ids.specs.IdOrder.{id_order}
 use Rattle.object_ids.specs.IdValues.{Id}
-use Rattle.object_ids.specs.declared.ids.Kind.TheVariants.{Group}
 use Rattle.object_ids.proofs.IdOrders.{id_order_once, id_order_total}
 use Rattle.domains.specs.Contents.{Contents, IsCatalogue, IsDomainAt}
 use Rattle.domains.specs.declared.classes.Node.{Node}
@@ -20,8 +19,6 @@ use Rattle.object_acts.specs.declared.objects.Object.{Object}
 use Rattle.object_acts.specs.Objects.{empty_group}
 use Rattle.chunk_owner.specs.Lanes.{Objects}
 use Rattle.register.specs.Decided.{Door, IsGivenOut, opened}
-use Rattle.service_core.specs.Steps.{World}
-use Rattle.service_core.specs.Worlds.{with_object}
 use Rattle.kept_journals.specs.Groups.{AreFirstRoots, HasFirstGroups, MayHaveGroup, MayHaveGroups}
 use Rattle.kept_journals.specs.Groups.{groups_on, root_in, roots_in, roots_of}
 use Rattle.kept_journals.proofs.RootLemmas.{HasRoot, IsAmong, Nodes, among_root, found_first, found_later, later_path, root_among, tail_rises}

@@ -1,6 +1,6 @@
 -- The roots among some nodes, which are in the order of their paths.
 use Rattle.std.proofs.Common.{◌≡◌, ◌∙◌, ◌⊎◌, ℕ, Bool, true, false, T, cond, List, [], ◌∷◌, Option, Some, None, Ordering, Less, Equal, inl, inr}
-use Rattle.std.proofs.Common.{option_map, refl, sym, ap, subst, is_eq}
+use Rattle.std.proofs.Common.{refl, sym, ap, is_eq}
 use Rattle.std.specs.Cmp.{Equal-is}
 use Rattle.std.specs.List.{cons_option}
 use Rattle.std.specs.Ordering.{eq_by_cmp}
@@ -13,8 +13,6 @@ use Rattle.text_maps.proofs.KeyedMaps.{exact_texts}
 use Rattle.text_maps.proofs.Walks.{found_above, halves}
 use Rattle.object_ids.specs.IdValues.{Id}
 use Rattle.domains.specs.declared.classes.Node.{Node}
-use Rattle.domains.specs.declared.classes.NodeClass.{NodeClass}
-use Rattle.domains.specs.declared.classes.NodeClass.TheVariants.{Folder, Domain}
 use Rattle.kept_journals.specs.Groups.{root_in, roots_in}
 
 -- the order of keys doesn't matter

@@ -1,19 +1,22 @@
 -- What a new journal holds, and why none is made.
 --     HoldsFirstWorld catalogue held      what is held describes the catalogue's world in run 0, with an empty group at each root
---     AreFirstRecords catalogue rs      some records that make such a map
---     IsFirstJournal catalogue lanes file      a journal of one batch for so many lanes, that holds such a map
+--     AreFirstRecords catalogue rs      the records that make such a map, in whatever order
+--     IsFirstJournal catalogue lanes file      a journal for so many lanes of one batch, which is such records
 --     MayRefuseMaking      why no journal is made
 use Rattle.std.specs.Prelude.{◌≡◌, ◌≢◌, ◌⊎◌, ℕ, ◌+◌, ◌<◌, List, [], take, Ok}
 use Rattle.std.specs.FinMap.{empty}
+use Rattle.std.specs.List.{AllByRecursion}
 use Rattle.edge_traits.specs.Causes.{Rose}
-use Rattle.flush_journal.specs.Files.{Content, content, magic}
+use Rattle.flush_journal.specs.Files.{content, fresh, magic}
 use Rattle.flush_journal.specs.Frames.{need_of}
 use Rattle.flush_journal.specs.Records.{Held, Record, put_all}
 use Rattle.flush_journal.specs.Refusals.{NoMagic}
+use Rattle.flush_journal.specs.Standing.{with_batch}
 use Rattle.flush_journal.specs.declared.why.Why.{Why}
 use Rattle.flush_journal.specs.declared.why.Why.TheVariants.{DiskFault, NotAJournal, JournalFull, Exists, NoMemory}
+use Rattle.record_cuts.specs.Cuts.{AreOnce}
 use Rattle.domains.specs.Contents.{Contents}
-use Rattle.service_core.specs.Records.{DescribesWorld}
+use Rattle.service_core.specs.Records.{DescribesWorld, IsWorldRecord}
 use Rattle.service_core.specs.Steps.{World}
 use Rattle.kept_journals.specs.Groups.{HasFirstGroups}
 
@@ -24,16 +27,19 @@ pub record HoldsFirstWorld (catalogue : Contents) (held : Held) : Type 0 where
   pub groups : HasFirstGroups catalogue world.objects
   pub described : DescribesWorld held 0 world
 
+-- records that make such a map: one for each key that is held, with the body of what stands there, and no other
 pub record AreFirstRecords (catalogue : Contents) (records : List Record) : Type 0 where
   pub some : records ≢ []
   pub holds : HoldsFirstWorld catalogue (put_all records empty)
+  pub once : AreOnce records
+  pub each : AllByRecursion (IsWorldRecord holds.world) records
+  pub bodies : AllByRecursion (λ r. r.1 ≢ []) records
 
+-- a journal for so many lanes that holds one batch, of such records
 pub record IsFirstJournal (catalogue : Contents) (lanes : ℕ) (file : List ℕ) : Type 0 where
-  pub stands_for : Content
-  pub is_journal : content file ≡ Ok stands_for
-  pub lanes_are : stands_for.lanes ≡ lanes
-  pub one_batch : stands_for.batches ≡ 1
-  pub holds : HoldsFirstWorld catalogue stands_for.held
+  pub records : List Record
+  pub first : AreFirstRecords catalogue records
+  pub is_journal : content file ≡ Ok (with_batch (fresh lanes) records)
 
 -- so many bytes behind a place don't fit: the header with a gate at the front, or the batch behind the header
 abbrev pub DoesNotFit : List Record → (end need room : ℕ) → Type 0

@@ -3,6 +3,7 @@
 ghost use Rattle.std.specs.Prelude.{◌≡◌, ◌≤◌, IfOk, OnOk};
 ghost use Rattle.std.specs.FinMap.{empty};
 ghost use Rattle.object_acts.specs.Objects.{empty_group};
+ghost use Rattle.lane_owners.specs.Records.{AreUndropped};
 ghost use Rattle.register.specs.Decided.{opened};
 ghost use Rattle.service_core.specs.Records.{WorldSays, WorldStillSays};
 ghost use Rattle.service_core.specs.Worlds.{seen, with_object};
@@ -31,6 +32,7 @@ pub(crate) fn first_world(
       objects = groups_on empty (roots_of catalogue);
     }) }
     ensures says { IfOk result (λ world. WorldSays world empty) }
+    ensures undropped { IfOk result (λ world. AreUndropped world.lanes) }
 {
     let _next = catalogue.next_number();
     let roots = roots_of(alloc, &catalogue)?;
@@ -44,6 +46,7 @@ fn put_groups(alloc: Global, world: &mut World, ids: &[ObjectId]) -> Result<(), 
     requires { MayHaveGroups (seen world.old) ids.now }
     ensures ok { OnOk result (seen world.new ≡ with_groups (seen world.old) ids.now) }
     ensures says { WorldStillSays world.old world.new }
+    ensures undropped { AreUndropped world.old.lanes → AreUndropped world.new.lanes }
 {
     for id in ids {
         put_group(alloc, world, *id)?;
@@ -55,6 +58,7 @@ fn put_group(alloc: Global, world: &mut World, id: ObjectId) -> Result<(), Alloc
     requires { MayHaveGroup (seen world.old) id }
     ensures ok { OnOk result (seen world.new ≡ with_object (seen world.old) id empty_group) }
     ensures says { WorldStillSays world.old world.new }
+    ensures undropped { AreUndropped world.old.lanes → AreUndropped world.new.lanes }
 {
     world.put_object(id, Object::new_group(alloc))
 }

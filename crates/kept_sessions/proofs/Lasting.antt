@@ -1,5 +1,5 @@
 -- What is kept at the end of a session.
-use Rattle.std.proofs.Common.{◌≡◌, ◌⊎◌, inl, inr, ℕ, ◌≤◌, List, [], ◌∷◌, Some, Result, Ok, Err, OnOk, IfErr, refl, sym, ap, subst, ◌∙◌, arith}
+use Rattle.std.proofs.Common.{◌≡◌, inl, inr, ℕ, ◌≤◌, List, [], ◌∷◌, Some, Result, Ok, Err, OnOk, sym, ap, subst, ◌∙◌, arith}
 use Rattle.std.specs.List.{AllByRecursion}
 use Rattle.link_service.proofs.Progress.{rose_since}
 use Rattle.edge_traits.specs.Causes.{Rose}
@@ -8,18 +8,20 @@ use Rattle.flush_journal.specs.Batches.{records}
 use Rattle.flush_journal.specs.Files.{held}
 use Rattle.flush_journal.specs.Moments.{Leaves}
 use Rattle.flush_journal.specs.Records.{Held}
-use Rattle.flush_journal.specs.Standing.{disk_of}
+use Rattle.flush_journal.specs.Standing.{disk_of, numbers_of, pending_of}
 use Rattle.flush_journal.specs.Unchanged.{SameDisk}
 use Rattle.flush_journal.specs.declared.why.Why.{Why}
 use Rattle.flush_journal.specs.declared.why.Why.TheVariants.{DiskFault}
 use Rattle.flush_journal.proofs.Moments.{joined, weaker}
 use Rattle.journal_keeping.specs.Keepings.{HoldsOne, IsBacked, MayRefuseKeeping, TellsOne, worlds_after}
 use Rattle.journal_keeping.specs.declared.keeping.Keeping.{Keeping}
-use Rattle.service_core.specs.Records.{WorldSays, as_kept}
+use Rattle.service_core.specs.Records.{IsCutRecord, WorldSays, as_kept}
 use Rattle.service_core.specs.Steps.{World}
 use Rattle.service_core.specs.Worlds.{State}
 use Rattle.rest_session.specs.Sessions.{KeepsWorld, Served, TellsWorld}
-use Rattle.rest_session.specs.Stood.{AreKept, HoldsStood, HoldsWorld, StoodSince}
+use Rattle.rest_session.specs.Stood.{AreKept, AreOfStood, HoldsStood, HoldsWorld, IsOfStood, StoodSince}
+use Rattle.journal_keeping.proofs.Backing.{none_some}
+use Rattle.rest_session.proofs.WaitingRecords.{AllWaiting, all_built}
 
 why_is : (why : Why) → ◌≡◌ {A = Result ℕ Why} (Err why) (Err DiskFault) → why ≡ DiskFault
 why_is why e = cc
@@ -56,6 +58,15 @@ module _ {D : Type 0} {met : Ghosts D} (first final : Served met) (taken : List 
     by : (r : Result ℕ Why) → r ≡ Err DiskFault → KeepsWorld final.keeping final.world k w r → Rose (met.faults (disk_of final.keeping.journal)) (met.faults (disk_of k.journal))
     by (Ok n) e h = absurd (let no : ◌≡◌ {A = Result ℕ Why} (Ok n) (Err DiskFault) = e in cc)
     by (Err why) e h = subst (λ (x : Why). MayRefuseKeeping final.keeping.journal k.journal x) (why_is why e) h.keeps.cause
+
+  -- what waits then is records of worlds that stood
+  pub waits_then : AreOfStood first final taken → AllWaiting (IsOfStood first final taken k.kept) (pending_of k.journal)
+  waits_then are = by last keeps where
+    by : (r : Result ℕ Why) → KeepsWorld final.keeping final.world k w r → AllWaiting (IsOfStood first final taken k.kept) (pending_of k.journal)
+    by (Ok n) h = λ rs is. none_some (pending_of k.journal) rs (AllByRecursion (IsOfStood first final taken k.kept) rs) h.keeps.idle is
+    by (Err why) h = subst (λ (n : ℕ). AllWaiting (IsOfStood first final taken n) (pending_of k.journal)) (sym h.refused)
+        (all_built (IsCutRecord final.world) (IsOfStood first final taken final.keeping.kept) (λ r is. (as_kept final.world, are.now, is.stands)) (pending_of final.keeping.journal)
+        (records final.keeping.building) are.waiting are.building (numbers_of final.keeping.journal) (numbers_of k.journal) (pending_of k.journal) (records k.building) h.batch).0
 
   module _ (honest : met.honest) (are : AreKept first final taken) where
     stood_in : (least : ℕ) → least ≤ final.keeping.kept → (image : List ℕ) (m : Held) → held image ≡ Some m → (worlds : List World) → AllByRecursion (StoodSince first final taken final.keeping.kept) worlds

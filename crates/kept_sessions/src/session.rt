@@ -9,17 +9,18 @@ ghost use Rattle.flush_journal.specs.declared.why.Why.{Why};
 ghost use Rattle.link_service.specs.Links.{HasCauses};
 ghost use Rattle.edge_traits.specs.Causes.{Rose};
 ghost use Rattle.kept_sessions.specs.Sessions.{HasCausesOf, IsDiskFault, IsEnded, IsEndedFrom};
-ghost use Rattle.kept_sessions.specs.Sessions.{IsLinkKept, IsOpened};
+ghost use Rattle.kept_sessions.specs.Sessions.{IsLinkKept, IsNewKeeping, IsOpened};
 ghost use Rattle.kept_sessions.specs.declared.outcome.Closed.{Closed};
 
 use crate::outcome::{Closed, Ended, Outcome};
+use described_worlds::objects_are_whole;
 use edge_traits::{Disk, Link};
 use flush_journal::{Journal, Why};
 use journal_keeping::{Keeping, images_are_kept};
 use kept_journals::{OpenRefused, Opened, open_world};
 use link_service::LinkEnd;
 use rest_requests::Tokens;
-use rest_session::{serve_world, what_is_kept_stood};
+use rest_session::{serve_world, what_is_kept_stood, what_waits_stood};
 use service_core::World;
 use std::alloc::Global;
 
@@ -44,7 +45,10 @@ pub fn serve_disk<D: Disk, L: Link>(
         → Rose (D.faults disk) (D.faults result.disk) }
 {
     match open_world(alloc, disk) {
-        Ok(Opened { journal, world }) => serve_opened(alloc, tokens, link, journal, world),
+        Ok(Opened { journal, world }) => {
+            objects_are_whole(&world);
+            serve_opened(alloc, tokens, link, journal, world)
+        }
         Err(OpenRefused { disk, why }) => Ended {
             disk,
             outcome: Outcome::Unopened(why),
@@ -96,6 +100,7 @@ fn serve_begun<D: Disk, L: Link>(
         → IsBackedBy (record { tokens = tokens.now; world = world; keeping = keeping })
         (as_kept world ∷ []) }
     requires kept { keeping.kept ≤ world.door.places }
+    requires new { IsNewKeeping keeping }
     ensures served { (closed : Closed) × (last : Result ℕ Why)
         × (result.outcome ≡ Outcome.Served closed last)
         × IsLinkKept (record { tokens = tokens.now; world = world; keeping = keeping }) result.disk
@@ -108,6 +113,7 @@ fn serve_begun<D: Disk, L: Link>(
         → Rose (D.faults (disk_of keeping.journal)) (D.faults result.disk) }
 {
     what_is_kept_stood::<D>();
+    what_waits_stood::<D>();
     images_are_kept::<D, World>();
     let end = serve_world(alloc, &mut world, &mut keeping, tokens, link);
     let last = keeping.keep(&mut world);

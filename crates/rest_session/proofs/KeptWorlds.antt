@@ -59,7 +59,7 @@ module _ {D : Type 0} {met : Ghosts D} (next : PlacesGoOn) where
       let place : h.mid.door.places ≡ s.world.door.places + 1 = next (seen s.world) (seen h.mid) read.0 read.1 h.answer h.steps in
       keeps_finished s t h.mid (decided_at read.1) h.answer.what close bytes (acknowledges read.1.op h.answer.what) h.finished (omega (arith, place))
 
-  keeps_on : (s t : Served met) (m : RequestMessage) (bytes : List ℕ) → IsAnswer IsServed s m bytes t → KeepsOn s t
+  pub keeps_on : (s t : Served met) (m : RequestMessage) (bytes : List ℕ) → IsAnswer IsServed s m bytes t → KeepsOn s t
   keeps_on s t m bytes (inl (tokens, inl h)) = keeps_answered s t m.head.target (request_of s.tokens (said_by m)) (closes m) bytes h
   keeps_on s t m bytes (inl (tokens, inr h)) = keeps_as s t s.world h.1.world h.1.keeping (omega arith)
   keeps_on s t m bytes (inr h) = keeps_as s t s.world (ap (λ (x : Served met). x.world) h.1) (ap (λ (x : Served met). x.keeping) h.1) (omega arith)
@@ -70,6 +70,55 @@ module _ {D : Type 0} {met : Ghosts D} (next : PlacesGoOn) where
 
   pub never_less : (s t : Served met) (taken : List ℕ) (u v : Served met) → IsStretch s t taken u v → s.keeping.kept ≤ s.world.door.places → u.keeping.kept ≤ v.keeping.kept
   never_less s t taken u v is k = (keeps_all u is.between is.answers v is.passes (keeps_all s is.before is.first_answers u is.reaches k).1).0
+
+-- ---- what a state shows
+
+module _ {D : Type 0} {met : Ghosts D} where
+  abbrev pub kept_of : Served met → ℕ
+  kept_of s = s.keeping.kept
+
+  abbrev pub places_of : Served met → ℕ
+  places_of s = s.world.door.places
+
+  abbrev pub shown : Served met → World
+  shown s = as_kept s.world
+
+  -- each world is one of those of before
+  pub of_before : (s t : Served met) (xs vs : List World) → t.keeping.kept ≡ s.keeping.kept → ((w : World) → Among w xs → Among w vs)
+      → AllByRecursion (λ w. (Among w vs × (kept_of t ≡ kept_of s)) ⊎ (w ≡ shown t)) xs
+  of_before s t [] vs same f = tt
+  of_before s t (x ∷ xs) vs same f = (inl (f x (inl refl), same), of_before s t xs vs same (λ w h. f w (inr h)))
+
+  -- what stood after some first of these messages stood
+  pub stood_in : (backed : Served met → List World → Type 0) (s t : Served met) (taken : List ℕ) (ms : List RequestMessage) (least : ℕ) (w : World) → IsFront (spellings ms) taken
+      → Since IsServed backed shown kept_of places_of s ms t least w → StoodSince s t taken least w
+  stood_in backed s t taken ms least w read h = record {
+    at = h.u;
+    before = h.before;
+    after = h.after;
+    read = subst (λ (ms : List RequestMessage). IsFront (spellings ms) taken) h.split read;
+    answers = h.answers;
+    later_answers = h.later_answers;
+    reaches = h.reaches;
+    follows = h.follows;
+    shown = h.shown;
+    late = h.late;
+  }
+
+  -- the world behind all messages stood
+  pub stands_now : (s t : Served met) (taken : List ℕ) → Answered IsServed s t taken → (kept : ℕ) → kept ≤ t.world.door.places → StoodSince s t taken kept (as_kept t.world)
+  stands_now s t taken a kept le = record {
+    at = t;
+    before = a.messages;
+    after = [];
+    read = subst (λ (ms : List RequestMessage). IsFront (spellings ms) taken) (sym (append-nil a.messages)) a.read;
+    answers = a.answers;
+    later_answers = [];
+    reaches = a.replays;
+    follows = (refl, refl);
+    shown = refl;
+    late = le;
+  }
 
 -- ---- what a crash leaves
 
@@ -98,15 +147,6 @@ read_to front back after taken (others, e) = (
 module _ {D : Type 0} {met : Ghosts D} (honest : met.honest) (next : PlacesGoOn) (only_now : (disk : D) (c : List ℕ) → met.honest → met.left_since disk (met.moment disk) c → met.images disk c)
     (holds : (j : Journal D met) (building : List Record) (u : State) (ws : List World) → IsBacked TellsWorld j building (WorldSays u) ws → (image : List ℕ) → met.images (disk_of j) image
     → HoldsOne TellsWorld ws image) where
-  abbrev pub kept_of : Served met → ℕ
-  kept_of s = s.keeping.kept
-
-  abbrev pub places_of : Served met → ℕ
-  places_of s = s.world.door.places
-
-  abbrev pub shown : Served met → World
-  shown s = as_kept s.world
-
   -- whatever a crash leaves since one state, up to another, holds a world of which something holds
   abbrev pub LeftHolding : Served met → Served met → (World → Type 0) → Type 0
   LeftHolding s t P = Leaves met (disk_of s.keeping.journal) (disk_of t.keeping.journal) (HoldsSome P)
@@ -122,12 +162,6 @@ module _ {D : Type 0} {met : Ghosts D} (honest : met.honest) (next : PlacesGoOn)
   kept_crash : (s t : Served met) (ws : List World) → Leaves met (disk_of s.keeping.journal) (disk_of t.keeping.journal) (HoldsOne TellsWorld (as_kept t.world ∷ ws)) → LeftHolding s t (λ w. Among w (shown t ∷ ws))
   kept_crash s t ws l = weaker met (disk_of s.keeping.journal) (disk_of t.keeping.journal) (HoldsOne TellsWorld (as_kept t.world ∷ ws)) (HoldsSome (λ w. Among w (shown t ∷ ws)))
       (λ c one. holds_among (λ w. Among w (shown t ∷ ws)) (shown t ∷ ws) c one (λ w there. there)) l
-
-  -- each world is one of those of before
-  of_before : (s t : Served met) (xs vs : List World) → t.keeping.kept ≡ s.keeping.kept → ((w : World) → Among w xs → Among w vs)
-      → AllByRecursion (λ w. (Among w vs × (kept_of t ≡ kept_of s)) ⊎ (w ≡ shown t)) xs
-  of_before s t [] vs same f = tt
-  of_before s t (x ∷ xs) vs same f = (inl (f x (inl refl), same), of_before s t xs vs same (λ w h. f w (inr h)))
 
   still_backed : (k : Keeping D met) (u v : State) (ws : List World) → WorldStillSays u v → IsBacked TellsWorld k.journal (records k.building) (WorldSays u) ws
       → IsBacked TellsWorld k.journal (records k.building) (WorldSays v) ws
@@ -185,41 +219,15 @@ module _ {D : Type 0} {met : Ghosts D} (honest : met.honest) (next : PlacesGoOn)
       → Advances IsServed IsBackedBy shown kept_of places_of s t ws
   advance s m bytes t ws is b = (goes s m bytes t ws is b).advances
 
-  stood_in : (s t : Served met) (taken : List ℕ) (ms : List RequestMessage) (least : ℕ) (w : World) → IsFront (spellings ms) taken
-      → Since IsServed IsBackedBy shown kept_of places_of s ms t least w → StoodSince s t taken least w
-  stood_in s t taken ms least w read h = record {
-    at = h.u;
-    before = h.before;
-    after = h.after;
-    read = subst (λ (ms : List RequestMessage). IsFront (spellings ms) taken) h.split read;
-    answers = h.answers;
-    later_answers = h.later_answers;
-    reaches = h.reaches;
-    follows = h.follows;
-    shown = h.shown;
-    late = h.late;
-  }
-
   pub what_stood : (s t : Served met) (taken sent : List ℕ) (left : Option (List ℕ)) (end : LinkEnd) → IsTranscript IsServed s taken sent left t end
       → IsBackedBy s (as_kept s.world ∷ []) → s.keeping.kept ≤ s.world.door.places → AreKept s t taken
   what_stood s t taken sent left end transcript b k = record {
     worlds = f.left;
     backed = f.is_backed;
     each = all_map (Since IsServed IsBackedBy shown kept_of places_of s a.messages t t.keeping.kept) (StoodSince s t taken t.keeping.kept) f.left
-        (λ w h. stood_in s t taken a.messages t.keeping.kept w a.read h) (all_stood IsServed IsBackedBy shown kept_of places_of s a.messages a.answers t a.replays k f);
+        (λ w h. stood_in IsBackedBy s t taken a.messages t.keeping.kept w a.read h) (all_stood IsServed IsBackedBy shown kept_of places_of s a.messages a.answers t a.replays k f);
     within = f.within;
-    now = λ kept le. record {
-      at = t;
-      before = a.messages;
-      after = [];
-      read = subst (λ (ms : List RequestMessage). IsFront (spellings ms) taken) (sym (append-nil a.messages)) a.read;
-      answers = a.answers;
-      later_answers = [];
-      reaches = a.replays;
-      follows = (refl, refl);
-      shown = refl;
-      late = le;
-    };
+    now = λ kept le. stands_now s t taken a kept le;
   } where
     a : Answered IsServed s t taken
     a = answered IsServed s taken sent left t end transcript
@@ -232,7 +240,7 @@ module _ {D : Type 0} {met : Ghosts D} (honest : met.honest) (next : PlacesGoOn)
       → Leaves met (disk_of u.keeping.journal) (disk_of v.keeping.journal) (HoldsStood s v taken u.keeping.kept)
   what_is_left s t taken u v is b k =
       wider u v (Since IsServed IsBackedBy shown kept_of places_of s (is.before ++ is.between) v u.keeping.kept) (StoodSince s v taken u.keeping.kept)
-      (λ w h. stood_in s v taken (is.before ++ is.between) u.keeping.kept w (read_to is.before is.between is.after taken is.read) h)
+      (λ w h. stood_in IsBackedBy s v taken (is.before ++ is.between) u.keeping.kept w (read_to is.before is.between is.after taken is.read) h)
       (leaves_between IsServed IsBackedBy shown kept_of places_of advance (keeps_on next) LeftHolding (λ x ws backed. quiet x ws ws backed (λ w there. there))
       (λ x y z P. joined met (disk_of x.keeping.journal) (disk_of y.keeping.journal) (disk_of z.keeping.journal) (HoldsSome P)) wider
       (λ x m bytes y ws answer backed. (goes x m bytes y ws answer backed).crash) s u v is.before is.between is.first_answers is.answers is.reaches is.passes b k) where

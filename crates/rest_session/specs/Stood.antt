@@ -2,6 +2,8 @@
 --     IsBackedBy s worlds      all that changed is kept, and a crash leaves one of these worlds
 --     StoodSince s t taken kept w      a world that stood between two messages, and no earlier than at the last keeping
 --     AreKept s t taken      what a crash leaves is one of them
+--     IsOfStood s t taken kept r      a record of such a world
+--     AreOfStood s t taken      what waits to be written, and what is building, is such records
 --     HoldsStood s t taken kept file      a file holds one of them
 --     IsStretch s t taken u v      u and then v stood between two messages
 use Rattle.std.specs.Prelude.{◌≡◌, ℕ, ◌≤◌, List, ◌++◌, Some}
@@ -9,11 +11,12 @@ use Rattle.std.specs.List.{AllByRecursion}
 use Rattle.edge_traits.specs.declared.disk.Disk.{Ghosts}
 use Rattle.flush_journal.specs.Batches.{records}
 use Rattle.flush_journal.specs.Files.{held}
-use Rattle.flush_journal.specs.Records.{Held}
+use Rattle.flush_journal.specs.Records.{Held, Record}
+use Rattle.flush_journal.specs.Standing.{pending_of}
 use Rattle.http_wire.specs.Messages.{RequestMessage}
 use Rattle.journal_keeping.specs.Keepings.{IsBacked}
 use Rattle.link_service.specs.Links.{IsFront, Replays, spellings}
-use Rattle.service_core.specs.Records.{WorldSays, as_kept}
+use Rattle.service_core.specs.Records.{IsWorldRecord, WorldSays, as_kept}
 use Rattle.service_core.specs.Steps.{World}
 use Rattle.rest_session.specs.Sessions.{IsServed, Served, TellsWorld}
 
@@ -39,6 +42,18 @@ pub record AreKept {D : Type 0} {met : Ghosts D} (s t : Served met) (taken : Lis
   pub each : AllByRecursion (StoodSince s t taken t.keeping.kept) worlds
   pub within : t.keeping.kept ≤ t.world.door.places
   pub now : (kept : ℕ) → kept ≤ t.world.door.places → StoodSince s t taken kept (as_kept t.world)
+
+-- ---- what waits to be written
+
+-- a record of a world that stood so
+abbrev pub IsOfStood : {D : Type 0} {met : Ghosts D} → Served met → Served met → List ℕ → ℕ → Record → Type 0
+IsOfStood s t taken kept r = (w : World) × StoodSince s t taken kept w × IsWorldRecord w r
+
+-- since the last keeping, of what waits and of what is building
+pub record AreOfStood {D : Type 0} {met : Ghosts D} (s t : Served met) (taken : List ℕ) : Type 0 where
+  pub waiting : (rs : List Record) → pending_of t.keeping.journal ≡ Some rs → AllByRecursion (IsOfStood s t taken t.keeping.kept) rs
+  pub building : AllByRecursion (IsOfStood s t taken t.keeping.kept) (records t.keeping.building)
+  pub now : StoodSince s t taken t.keeping.kept (as_kept t.world)
 
 -- ---- what a file holds
 

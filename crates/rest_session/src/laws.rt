@@ -1,8 +1,9 @@
 //! Laws over the definitions of this crate. No program calls these functions; the contract of each is the law.
 
-ghost use Rattle.std.specs.Prelude.{◌≡◌, ◌≤◌, ℕ, Bool, List, [], ◌∷◌, Option, true};
+ghost use Rattle.std.specs.Prelude.{◌≡◌, ◌≤◌, ℕ, Bool, List, [], ◌∷◌, None, Option, true};
+ghost use Rattle.flush_journal.specs.Batches.{records};
 ghost use Rattle.flush_journal.specs.Moments.{Leaves};
-ghost use Rattle.flush_journal.specs.Standing.{disk_of};
+ghost use Rattle.flush_journal.specs.Standing.{disk_of, pending_of};
 ghost use Rattle.flush_journal.specs.Unchanged.{SameDisk};
 ghost use Rattle.link_service.specs.Links.{IsTranscript};
 ghost use Rattle.link_service.specs.declared.end.LinkEnd.{LinkEnd};
@@ -13,7 +14,7 @@ ghost use Rattle.route_table.specs.Methods.{no_methods};
 ghost use Rattle.service_core.specs.declared.answers.What.TheVariants.{NoMemory};
 ghost use Rattle.rest_session.specs.Responses.{refusal_of, refused, said};
 ghost use Rattle.rest_session.specs.Sessions.{IsServed, Served};
-ghost use Rattle.rest_session.specs.Stood.{AreKept, HoldsStood, IsBackedBy, IsStretch};
+ghost use Rattle.rest_session.specs.Stood.{AreKept, AreOfStood, HoldsStood, IsBackedBy, IsStretch};
 
 use edge_traits::Disk;
 use journal_keeping::images_are_kept;
@@ -53,5 +54,17 @@ pub fn what_is_kept_stood<D: Disk>()
         → s.keeping.kept ≤ s.world.door.places → u.keeping.kept ≤ v.keeping.kept }
 {
     images_are_kept::<D, World>();
+    places_in_order();
+}
+
+/// Where nothing waits to be written and nothing is building at first, each record that waits between two messages, or is
+/// building, is one of a world as it stood between two of the link's messages, and no earlier than at the last keeping that was
+/// answered Ok.
+pub fn what_waits_stood<D: Disk>()
+    ensures { (s t : Served D.Disk) (taken sent : List ℕ) (left : Option (List ℕ)) (end : LinkEnd)
+        → IsTranscript IsServed s taken sent left t end
+        → pending_of s.keeping.journal ≡ None → records s.keeping.building ≡ []
+        → s.keeping.kept ≤ s.world.door.places → AreOfStood s t taken }
+{
     places_in_order();
 }

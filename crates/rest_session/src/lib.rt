@@ -9,7 +9,7 @@ mod texts;
 mod world_session;
 
 pub use answers::{answer_reply, refusal_reply};
-pub use laws::what_is_kept_stood;
+pub use laws::{what_is_kept_stood, what_waits_stood};
 pub use serving::serve_world;
 pub use texts::answer_text;
 pub use world_session::WorldSession;

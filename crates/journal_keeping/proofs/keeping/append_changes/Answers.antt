@@ -1,11 +1,14 @@
-use Rattle.std.proofs.Common.{◌≡◌, List, [], Result, Err, sym, ap, subst, ◌∙◌}
+use Rattle.std.proofs.Common.{◌≡◌, List, [], None, Result, Err, refl, sym, ap, subst, ◌∙◌}
 use Rattle.std.proofs.lemmas.Result.{err_from_is_err_and}
 use Rattle.flush_journal.specs.Batches.{records}
 use Rattle.flush_journal.specs.Records.{Record, put_all}
 use Rattle.flush_journal.specs.declared.why.Why.{Why}
 use Rattle.flush_journal.specs.declared.why.Why.TheVariants.{NoMemory}
-use Rattle.journal_keeping.specs.Keepings.{Keeps}
+use Rattle.flush_journal.specs.Standing.{numbers_of, pending_of}
+use Rattle.record_cuts.specs.Cuts.{AppendsOnce}
+use Rattle.journal_keeping.specs.Keepings.{Builds, uncut, Keeps}
 use Rattle.journal_keeping.proofs.Backing.{appended, cut_short}
+use Rattle.journal_keeping.proofs.Building.{tried}
 use Rattle.journal_keeping.proofs.keeping.append_changes.Goals as goal
 
 pub returns-in_err-cut-clause-keeps : goal.returns-in_err-cut-clause-keeps
@@ -27,3 +30,14 @@ returns-clause-keeps g c =
     (g.W.Kept.world c.cut.new.self) g.met.D.Disk.only_now c.requires.idle
     (λ m said. subst (λ (rs : List Record). g.W.Kept.says c.cut.new.self (put_all rs m)) (sym batch) (c.in_ok-cut.ensures.cut m said))
     c.append.result c.in_ok-cut.ensures.told c.append.ensures.writes c.append.ensures.tries c.append.ensures.empty c.append.ensures.untouched c.append.ensures.same)
+
+pub returns-in_err-cut-clause-batch : goal.returns-in_err-cut-clause-batch
+returns-in_err-cut-clause-batch g c = uncut c.requires.idle c.in_err-cut.ensures.bodies refl
+
+pub returns-clause-batch : goal.returns-clause-batch
+returns-clause-batch g c =
+    let batch : records c.replace-batch.result ≡ records c.cut.new.into = ap records c.replace-batch.ensures.value in
+    let none : records c.replace-batch.new.dest ≡ [] = ap records c.replace-batch.ensures.after ∙ c.new.ensures in
+    subst (Builds (g.W.Kept.is_cut c.args.world.now) (numbers_of c.args.journal.now) None (records c.args.building.now) (numbers_of c.append.new.self) (pending_of c.append.new.self)) (sym none)
+    (tried (g.W.Kept.is_cut c.args.world.now) c.args.journal.now c.append.new.self (records c.args.building.now) c.append.result (records c.replace-batch.result)
+    (subst (AppendsOnce (g.W.Kept.is_cut c.args.world.now) (records c.args.building.now)) (sym batch) c.in_ok-cut.ensures.bodies) c.requires.idle c.append.ensures.tries c.append.ensures.untouched)

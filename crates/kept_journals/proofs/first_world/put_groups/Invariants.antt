@@ -1,4 +1,5 @@
 use Rattle.std.proofs.Common.{◌≡◌, drop}
+use Rattle.lane_owners.specs.Records.{AreUndropped}
 use Rattle.service_core.specs.Records.{WorldStillSays}
 use Rattle.service_core.specs.Worlds.{seen}
 use Rattle.kept_journals.specs.Groups.{MayHaveGroups, with_groups}
@@ -10,3 +11,4 @@ invariant-loop-id l =
     (with_groups (seen l.world) (drop l.id-index l.ids) ≡ with_groups (seen l.fn.world) l.ids)
     × MayHaveGroups (seen l.world) (drop l.id-index l.ids)
     × WorldStillSays l.fn.world l.world
+    × (AreUndropped l.fn.world.lanes → AreUndropped l.world.lanes)

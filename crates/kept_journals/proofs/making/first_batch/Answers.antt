@@ -6,5 +6,6 @@ pub returns : goal.returns
 returns c =
     first_records c.args.catalogue c.args.lanes c.in_ok-world.world c.cut.new.self
     (records c.new-batch.result) (records c.cut.new.into)
-    c.in_ok-world.ensures.world c.in_ok-world.ensures.says c.new-batch.ensures
-    c.in_ok-cut.ensures.cut c.in_ok-cut.ensures.same (c.is_described.ensures c.in_ok-cut.ensures.kept)
+    c.in_ok-world.ensures.world c.in_ok-world.ensures.says c.in_ok-world.ensures.undropped c.new-batch.ensures
+    c.in_ok-cut.ensures.cut c.in_ok-cut.ensures.bodies c.in_ok-cut.ensures.same c.in_ok-cut.ensures.kept
+    (c.is_described.ensures c.in_ok-cut.ensures.kept)

@@ -1,4 +1,4 @@
-use Rattle.std.proofs.Common.{◌≡◌, ◌∙◌, ℕ, ap, subst, sym}
+use Rattle.std.proofs.Common.{◌∙◌, ℕ, ap, subst, sym}
 use Rattle.flush_journal.specs.Records.{Held}
 use Rattle.flush_journal.specs.declared.report.Report.{Report}
 use Rattle.service_core.specs.Records.{IsWorldOf, WorldSays}

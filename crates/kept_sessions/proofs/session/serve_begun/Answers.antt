@@ -1,17 +1,15 @@
-use Rattle.std.proofs.Common.{◌≡◌, ℕ, List, Result, OnOk, refl, sym, ap, subst, ◌∙◌}
+use Rattle.std.proofs.Common.{ℕ, List, OnOk, refl, sym, subst, ◌∙◌}
 use Rattle.edge_traits.specs.Causes.{Rose}
 use Rattle.flush_journal.specs.Batches.{records}
 use Rattle.flush_journal.specs.Moments.{Leaves}
 use Rattle.flush_journal.specs.Standing.{disk_of}
 use Rattle.flush_journal.specs.Unchanged.{SameDisk}
-use Rattle.flush_journal.specs.declared.why.Why.{Why}
 use Rattle.flush_journal.proofs.Unchanged.{same_both}
 use Rattle.service_core.specs.Records.{as_kept}
 use Rattle.service_core.specs.Steps.{World}
 use Rattle.rest_session.specs.Sessions.{KeepsWorld, Served}
 use Rattle.rest_session.specs.Stood.{HoldsStood, HoldsWorld}
-use Rattle.kept_sessions.specs.Sessions.{IsLinkKept}
-use Rattle.kept_sessions.proofs.Lasting.{all_kept_then, fault_rose, image_stood, left_then, places, whole_then}
+use Rattle.kept_sessions.proofs.Lasting.{all_kept_then, fault_rose, image_stood, left_then, places, waits_then, whole_then}
 use Rattle.kept_sessions.proofs.session.serve_begun.Goals as goal
 
 pub returns-clause-served : goal.returns-clause-served
@@ -27,12 +25,16 @@ returns-clause-served g c =
       number = c.keep-last.ensures.number;
       kept = c.keep-last.ensures.kept;
       refused = c.keep-last.ensures.refused;
+      batch = c.keep-last.ensures.batch;
+      done = c.keep-last.ensures.done;
+      none = c.keep-last.ensures.none;
     } in
     let holds = λ (worlds : List World). c.images_are_kept.ensures k.journal (records k.building) w worlds in (
       record { front = c.places.result; kept = k.kept; end = c.serve_world-end.result },
       c.keep-last.result,
       refl,
       record {
+        begins = c.requires.new;
         final = final;
         keeping = k;
         world = w;
@@ -46,6 +48,8 @@ returns-clause-served g c =
         front = c.places.ensures ∙ sym (places first final t.0 k w c.keep-last.result keeps);
         kept = refl;
         all = all_kept_then first final t.0 k w c.keep-last.result keeps c.places.result c.places.ensures;
+        waits = waits_then first final t.0 k w c.keep-last.result keeps
+            (c.what_waits_stood.ensures first final t.0 t.1 (g.L.Source.left c.serve_world-end.new.link) c.serve_world-end.result t.4 c.requires.new.waits c.requires.new.building c.requires.kept);
         stretch = c.what_is_kept_stood.ensures.stretch first final t.0 t.1 (g.L.Source.left c.serve_world-end.new.link) c.serve_world-end.result t.4;
         crash = λ honest u v is. c.what_is_kept_stood.ensures.crash first final u v t.0 is honest (c.requires.backed honest) c.requires.kept;
         last_crash = λ honest u is. subst (λ (d : g.row.D.Denot). Leaves g.D.Disk (disk_of u.keeping.journal) d (HoldsStood first final t.0 u.keeping.kept)) (sym c.into_disk.ensures)
@@ -83,6 +87,9 @@ returns-clause-disk_fault g c = λ is.
       number = c.keep-last.ensures.number;
       kept = c.keep-last.ensures.kept;
       refused = c.keep-last.ensures.refused;
+      batch = c.keep-last.ensures.batch;
+      done = c.keep-last.ensures.done;
+      none = c.keep-last.ensures.none;
     } in
     subst (λ (d : g.row.D.Denot). Rose (g.D.Disk.faults (disk_of c.args.keeping.journal)) (g.D.Disk.faults d)) (sym c.into_disk.ensures)
     (fault_rose first final t.0 c.keep-last.new.self c.keep-last.new.world c.keep-last.result keeps

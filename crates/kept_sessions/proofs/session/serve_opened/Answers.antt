@@ -1,7 +1,7 @@
-use Rattle.std.proofs.Common.{◌≡◌, ℕ, List, refl, sym, ap, subst, ◌∙◌}
+use Rattle.std.proofs.Common.{[], ◌∷◌, refl, sym, ap, subst, ◌∙◌}
 use Rattle.flush_journal.specs.Moments.{Leaves}
 use Rattle.flush_journal.specs.Records.{put_record}
-use Rattle.flush_journal.specs.Standing.{HoldsEither, disk_of, end_of}
+use Rattle.flush_journal.specs.Standing.{HoldsEither, disk_of, end_of, pending_of}
 use Rattle.flush_journal.specs.Unchanged.{SameDisk}
 use Rattle.flush_journal.specs.declared.journal.Journal.{Journal}
 use Rattle.flush_journal.proofs.Unchanged.{same_both}
@@ -10,7 +10,7 @@ use Rattle.service_core.specs.Worlds.{seen}
 use Rattle.rest_session.specs.Sessions.{Served}
 use Rattle.kept_sessions.specs.Sessions.{IsEndedFrom, MayRefuseRun}
 use Rattle.kept_sessions.specs.declared.outcome.Outcome.{Outcome}
-use Rattle.kept_sessions.proofs.Beginning.{backed_first, left_since_opened, run_crash, run_images, run_refused}
+use Rattle.kept_sessions.proofs.Beginning.{backed_first, left_since_opened, run_crash, run_grows, run_idle, run_images, run_refused, run_unwritten}
 use Rattle.kept_sessions.proofs.session.serve_opened.Goals as goal
 
 pub serve_begun-requires-clause-backed : goal.serve_begun-requires-clause-backed
@@ -18,6 +18,13 @@ serve_begun-requires-clause-backed g c = λ honest.
     let o = c.requires.opened honest in
     backed_first c.args.journal c.begin_run.new.journal c.args.world c.begin_run.new.self o.0 o.1 c.new-keeping.result c.in-Ok.ensures.ok (c.in-Ok.ensures.writes honest o.0 o.1.settled)
     c.in-Ok.ensures.says c.is_described.ensures c.new-keeping.ensures.journal c.new-keeping.ensures.building
+
+pub serve_begun-requires-clause-new : goal.serve_begun-requires-clause-new
+serve_begun-requires-clause-new g c = record {
+  waits = ap pending_of c.new-keeping.ensures.journal ∙ run_idle c.args.journal c.begin_run.new.journal (run_record c.args.world.door ∷ []) c.in-Ok.ensures.tries;
+  building = c.new-keeping.ensures.building;
+  kept = c.new-keeping.ensures.kept;
+}
 
 pub returns-in-Ok-clause-ended : goal.returns-in-Ok-clause-ended
 returns-in-Ok-clause-ended g c =
@@ -32,6 +39,7 @@ returns-in-Ok-clause-ended g c =
       λ honest content' opened'. left_since_opened c.args.journal c.begin_run.new.journal c.args.world c.begin_run.new.self content' opened' c.new-keeping.result c.in-Ok.ensures.ok c.args.tokens.now s.3.final
           s.3.taken c.serve_begun.result.disk (c.in-Ok.ensures.writes honest content' opened'.settled) c.in-Ok.ensures.says c.is_described.ensures c.new-keeping.ensures.journal c.new-keeping.ensures.kept
           s.3.stretch (s.3.last_crash honest first s.3.stretch),
+      ap end_of c.new-keeping.ensures.journal ∙ run_grows c.args.journal c.begin_run.new.journal (run_record c.args.world.door ∷ []) c.in-Ok.ensures.tries,
     )
 
 pub returns-in-Ok-clause-same : goal.returns-in-Ok-clause-same
@@ -44,6 +52,8 @@ returns-in-Err-clause-ended g c = (
   subst (λ (d : g.row.D.Denot). MayRefuseRun (seen c.args.world) (end_of c.args.journal) (g.D.Disk.most (disk_of c.args.journal)) (g.D.Disk.faults (disk_of c.args.journal)) (g.D.Disk.faults d) c.in-Err.why)
       (sym c.into_disk.ensures) (run_refused c.args.journal c.begin_run.new.journal c.args.world c.in-Err.why c.in-Err.ensures.tries),
   λ honest image left content' settled'. run_images c.args.journal c.begin_run.new.journal c.args.world c.in-Err.why content' settled' (c.in-Err.ensures.writes honest content' settled') image
+      (subst (λ (d : g.row.D.Denot). g.D.Disk.images d image) c.into_disk.ensures left),
+  λ honest nothing image left content' settled'. run_unwritten c.args.journal c.begin_run.new.journal c.args.world c.in-Err.why c.in-Err.ensures.tries nothing content' settled' image
       (subst (λ (d : g.row.D.Denot). g.D.Disk.images d image) c.into_disk.ensures left),
   λ honest content' settled'. subst (λ (d : g.row.D.Denot). Leaves g.D.Disk (disk_of c.args.journal) d (HoldsEither content'.held (put_record (run_record c.args.world.door) content'.held)))
       (sym c.into_disk.ensures) (run_crash c.args.journal c.begin_run.new.journal c.args.world c.in-Err.why g.met.D.Disk.only_now honest content' settled' (c.in-Err.ensures.writes honest content' settled')),

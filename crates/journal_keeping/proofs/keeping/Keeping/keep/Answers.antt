@@ -2,8 +2,10 @@ use Rattle.std.proofs.Common.{◌≡◌, ℕ, Result, Ok, Err, refl, sym, ap, su
 use Rattle.std.proofs.lemmas.Result.{err_from_is_err_and}
 use Rattle.flush_journal.specs.Batches.{records}
 use Rattle.flush_journal.specs.declared.why.Why.{Why}
+use Rattle.flush_journal.specs.Standing.{numbers_of, pending_of}
 use Rattle.journal_keeping.specs.Keepings.{Keeps}
 use Rattle.journal_keeping.proofs.Backing.{refused_again, then_kept, with_err, with_ok}
+use Rattle.journal_keeping.proofs.Building.{built_after, settled_counts, still_unsettled}
 use Rattle.journal_keeping.proofs.keeping.Keeping.keep.Goals as goal
 
 pub returns-in_err-settle-clause-keeps : goal.returns-in_err-settle-clause-keeps
@@ -37,3 +39,22 @@ returns-clause-keeps g c =
     (g.W.Kept.world c.append_changes.new.world) (Ok c.places-self.result) refl
     (with_ok g.W.Kept.tells c.settle.new.self c.append_changes.new.journal (records c.args.self.now.building) (records c.append_changes.new.building) (g.W.Kept.says c.args.world.now)
     (g.W.Kept.says c.append_changes.new.world) (g.W.Kept.world c.append_changes.new.world) tt c.places-self.result c.in_ok-append_changes.ensures.keeps)
+
+pub returns-in_err-settle-clause-batch : goal.returns-in_err-settle-clause-batch
+returns-in_err-settle-clause-batch g c =
+    still_unsettled (g.W.Kept.is_cut c.args.world.now) c.args.self.now.journal c.settle.new.self (records c.args.self.now.building) (Err c.in_err-settle.field-0.0)
+    c.in_err-settle.field-0.0 refl c.in_err-settle.ensures.tries c.in_err-settle.ensures.idle
+
+pub returns-in_err-append_changes-clause-batch : goal.returns-in_err-append_changes-clause-batch
+returns-in_err-append_changes-clause-batch g c =
+    let said = c.in_ok-settle.ensures in
+    built_after (g.W.Kept.is_cut c.args.world.now) (numbers_of c.args.self.now.journal) (numbers_of c.settle.new.self) (pending_of c.args.self.now.journal) (records c.args.self.now.building)
+    (numbers_of c.append_changes.new.journal) (pending_of c.append_changes.new.journal) (records c.append_changes.new.building)
+    (settled_counts c.args.self.now.journal c.settle.new.self (Ok tt) refl said.tries said.untouched) c.in_err-append_changes.ensures.batch
+
+pub returns-clause-batch : goal.returns-clause-batch
+returns-clause-batch g c =
+    let said = c.in_ok-settle.ensures in
+    built_after (g.W.Kept.is_cut c.args.world.now) (numbers_of c.args.self.now.journal) (numbers_of c.settle.new.self) (pending_of c.args.self.now.journal) (records c.args.self.now.building)
+    (numbers_of c.append_changes.new.journal) (pending_of c.append_changes.new.journal) (records c.append_changes.new.building)
+    (settled_counts c.args.self.now.journal c.settle.new.self (Ok tt) refl said.tries said.untouched) c.in_ok-append_changes.ensures.batch
