@@ -1,12 +1,12 @@
 -- The collections of a document.
-use Rattle.std.proofs.Common.{◌≡◌, ℕ, Bool, true, false, ◌&&◌, ◌||◌, ◌==◌, cond, ◌⊎◌, inl, inr, List, [], ◌∷◌, Option, Some, None, option_map, Ordering, Less, Equal, Greater, is_eq, refl, rules, sym, ap, subst, ◌∙◌}
+use Rattle.std.proofs.Common.{◌≡◌, ℕ, Bool, true, false, ◌&&◌, ◌==◌, cond, ◌⊎◌, inl, inr, List, [], ◌∷◌, Option, Some, None, option_map, Ordering, Less, Equal, Greater, is_eq, refl, rules, sym, ap, subst, ◌∙◌}
 use Rattle.std.specs.Cmp.Rules.{comparing}
 use Rattle.std.specs.FinMap.{entries, entries_sorted, find, get, get-entries}
 use Rattle.std.specs.List.{AllByRecursion}
 use Rattle.std.specs.List.Sorted.{IsStrictlySortedBy}
 use Rattle.std.specs.Ordering.{eq_by_cmp, match_ordering}
 use Rattle.std.proofs.lemmas.Cmp.{tied_itself}
-use Rattle.std.proofs.lemmas.Bool.{or_parts, and_parts}
+use Rattle.std.proofs.lemmas.Bool.{and_parts, eqb-true, or_parts}
 use Rattle.serde_json.specs.Data.{Data, Members, no_members, member, put}
 use Rattle.serde_json.specs.Find.{get_member}
 use Rattle.serde_json.specs.Written.{has_float, members_have_float}
@@ -39,9 +39,12 @@ itself x = sym (ids_alike x x) ∙ ap is_eq (tied_itself id_order_total x)
 -- ---- what stands at the text of an id
 
 module _ (m : Objects) (h : Home) (k : Kind) where
-  in_range : AreInRange m h → (es : List (Id × Object)) → AllByRecursion (λ e. find id_order e.0 (entries m) ≡ Some e.1) es → AllByRecursion (λ e. InRange e.0) es
+  in_range : AreInRange m h → (es : List (Id × Object)) → AllByRecursion (λ e. find id_order e.0 (entries m) ≡ Some e.1) es → AllByRecursion (λ e. is_of k h e.0 ≡ true → InRange e.0) es
   in_range r [] within = tt
-  in_range r (e ∷ es) within = (r.held e.0 e.1 (get-entries m e.0 ∙ within.0), in_range r es within.1)
+  in_range r (e ∷ es) within = (
+    (λ is. r.held e.0 e.1 (get-entries m e.0 ∙ within.0) (eqb-true e.0.domain h.number (and_parts (kind_rank e.0.kind == kind_rank k) (e.0.domain == h.number) is).1)),
+    in_range r es within.1,
+  )
 
   -- what the root's entry tells where nothing is held, and where an object is
   none_at : (is_root kind domain : Bool)
@@ -92,7 +95,7 @@ each_at_its_text m h k id r here =
     entries_found (is_of k h) (entry_tree m h) id (entries m) (begun m h k) (entries_sorted m) here
     (in_range m h k r (entries m) (all_within (is_of k h) (entry_tree m h) (entries m) (entries_sorted m)))
     ∙ ap (by_found (is_of k h) (entry_tree m h) id (find id_order id (entries m)))
-    (entry_told (is_of k h) (entry_tree m h) id (h.root, empty_group) no_members here r.root)
+    (entry_told (is_of k h) (entry_tree m h) id (h.root, empty_group) no_members here (λ is. r.root))
     ∙ ap (λ o. by_found (is_of k h) (entry_tree m h) id o (told (is_of k h) (entry_tree m h) id (h.root, empty_group) None)) (sym (get-entries m id))
     ∙ told_at m h k id (get m id)
 

@@ -81,7 +81,7 @@ module _ {X : Type 0} (test : Id → Bool) (tree : X → Data) where
   abbrev pub told : Id → Id × X → Option Data → Option Data
   told id e r = cond (eq_by_cmp id_order id e.0 && test id) (Some (tree e.1)) r
 
-  pub entry_told : (id : Id) (e : Id × X) (ms : Members) → InRange id → InRange e.0
+  pub entry_told : (id : Id) (e : Id × X) (ms : Members) → InRange id → (test e.0 ≡ true → InRange e.0)
       → get_member (text_of_id id) (put_entry test tree e ms) ≡ told id e (get_member (text_of_id id) ms)
   entry_told id e ms here there = at (eq_by_cmp id_order id e.0) (test e.0) refl refl where
     same : id ≡ e.0 → (b : Bool) → test e.0 ≡ b → get_member (text_of_id id) (cond b (put (text_of_id e.0) (tree e.1) ms) ms) ≡ cond (test id) (Some (tree e.1)) (get_member (text_of_id id) ms)
@@ -94,14 +94,14 @@ module _ {X : Type 0} (test : Id → Bool) (tree : X → Data) where
     at true b is t = same (same_ids id e.0 is) (test e.0) refl ∙ sym (ap (λ c. cond (c && test id) (Some (tree e.1)) (get_member (text_of_id id) ms)) is)
     at false true is t =
         ap (λ c. get_member (text_of_id id) (cond c (put (text_of_id e.0) (tree e.1) ms) ms)) t
-        ∙ get_member-put_other (text_of_id id) (text_of_id e.0) (tree e.1) ms (λ texts. differ id e.0 is (same_id id e.0 here there texts))
+        ∙ get_member-put_other (text_of_id id) (text_of_id e.0) (tree e.1) ms (λ texts. differ id e.0 is (same_id id e.0 here (there t) texts))
         ∙ sym (ap (λ c. cond (c && test id) (Some (tree e.1)) (get_member (text_of_id id) ms)) is)
     at false false is t =
         ap (λ c. get_member (text_of_id id) (cond c (put (text_of_id e.0) (tree e.1) ms) ms)) t
         ∙ sym (ap (λ c. cond (c && test id) (Some (tree e.1)) (get_member (text_of_id id) ms)) is)
 
   abbrev pub AreInRange : List (Id × X) → Type 0
-  AreInRange = AllByRecursion (λ e. InRange e.0)
+  AreInRange = AllByRecursion (λ e. test e.0 ≡ true → InRange e.0)
 
   -- what some entries tell of an id: the last of them at the id counts
   abbrev told_by : Id → List (Id × X) → Option Data → Option Data

@@ -15,10 +15,10 @@ use Rattle.domain_documents.specs.Documents.{collection_tree, document_tree, is_
 use Rattle.domain_documents.specs.Entries.{entry_tree}
 use Rattle.domain_documents.specs.declared.home.Home.{Home}
 
--- each id is one that an `ObjectId` can be
+-- each id of the domain is one that an `ObjectId` can be
 pub record AreInRange (m : Objects) (h : Home) : Type 0 where
   pub root : InRange h.root
-  pub held : (id : Id) (o : Object) → get m id ≡ Some o → InRange id
+  pub held : (id : Id) (o : Object) → get m id ≡ Some o → id.domain ≡ h.number → InRange id
 
 -- what the collection of a kind has at an id: the domain's object there, where it is of this kind
 abbrev pub member_at : Objects → Home → Kind → Id → Option Object

@@ -1,3 +1,4 @@
 pub mod Adopted
 pub mod Faults
 pub mod Placing
+pub mod Laws

@@ -1,6 +1,6 @@
 //! Adoption.
 
-ghost use Rattle.std.specs.Prelude.{◌≡◌, ◌≢◌, ◌<◌, None, Some, IfOk, IfSome, OnOk};
+ghost use Rattle.std.specs.Prelude.{◌≡◌, ◌≢◌, ◌+◌, ◌<◌, ◌^◌, None, Some, IfOk, IfSome, OnOk};
 ghost use Rattle.std.specs.FinMap.{get};
 ghost use Rattle.object_ids.specs.IdValues.{Id};
 ghost use Rattle.domains.specs.Changes.{new_domain};
@@ -9,12 +9,14 @@ ghost use Rattle.service_core.specs.Records.{WorldStillSays};
 ghost use Rattle.service_core.specs.Steps.{IsGiven};
 ghost use Rattle.service_core.specs.Worlds.{seen};
 ghost use Rattle.fresh_objects.specs.Names.{with_root};
-ghost use Rattle.domain_imports.specs.Adopted.{counts_of, door_adopted, objects_adopted};
+ghost use Rattle.fresh_objects.specs.Renamed.{other_count};
+ghost use Rattle.domain_imports.specs.Adopted.{IsReadBack, counts_of, door_adopted, objects_adopted};
 ghost use Rattle.domain_imports.specs.Faults.{IsBlamed, OnRefusal, adopt_fault};
 ghost use Rattle.domain_imports.specs.Placing.{placed, placed_each};
 
 use crate::counts::{Counts, serials_needed};
 use crate::faults::AdoptFault;
+use document_round_trips::documents_read_back;
 use fresh_objects::{NewObject, NewObjects, Renamed, rename};
 use json_import::Loaded;
 use object_ids::{DomainPath, LimitKind, Name, ObjectId};
@@ -52,8 +54,13 @@ pub fn adopt(
     ensures others { OnOk result ((q : Id) → q.domain ≢ world.old.door.catalogue.next
         → get (seen world.new).objects q ≡ get (seen world.old).objects q) }
     ensures counts { IfOk result (λ counts. counts ≡ counts_of loaded) }
+
+    // What a document held is what the document at the path holds, under the fresh ids.
+    ensures document { OnOk result (IsReadBack world.old.door loaded (seen world.new) path.now) }
     ensures says { WorldStillSays world.old world.new }
 {
+    documents_read_back();
+    world.is_whole();
     may_adopt(world, path, &loaded)?;
     let counts = Counts::of(&loaded);
     make_domain(alloc, world, path, owner, loaded)?;
@@ -82,6 +89,7 @@ fn make_domain(
     owner: &Name,
     loaded: Loaded,
 ) -> Result<(), AllocError>
+    requires { world.old.door.serial + other_count loaded < 2 ^ 40 }
     ensures door { OnOk result (world.new.door ≡ door_adopted world.old.door path.now owner.now loaded) }
     ensures objects { OnOk result ((seen world.new).objects
         ≡ objects_adopted world.old.door loaded (seen world.old).objects) }

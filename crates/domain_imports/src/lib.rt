@@ -4,9 +4,11 @@
 mod adoption;
 mod counts;
 mod faults;
+mod laws;
 #[cfg(test)]
 mod tests;
 
 pub use adoption::adopt;
 pub use counts::Counts;
 pub use faults::AdoptFault;
+pub use laws::exports_are_loaded;

@@ -1,12 +1,13 @@
 -- Where the objects of a document stand.
-use Rattle.std.proofs.Common.{◌≡◌, ◌≢◌, ℕ, List, [], ◌∷◌, ◌++◌, Bool, true, false, map, cond, Option, Some, None, IsSome, is_some, is_eq, option_map, unwrap_or, refl, sym, ap, subst, ◌∙◌, arith}
+use Rattle.std.proofs.Common.{◌≡◌, ◌≢◌, ℕ, ◌+◌, ◌<◌, ◌⊎◌, inl, inr, List, [], ◌∷◌, ◌++◌, length, Less, Bool, true, false, map, cond, Option, Some, None, IsSome, is_some, is_eq, option_map, unwrap_or, refl, sym, ap, subst, ◌∙◌, arith}
 use Rattle.std.proofs.lemmas.Cmp.{tied_itself}
-use Rattle.std.proofs.lemmas.List.{map-append}
+use Rattle.std.proofs.lemmas.List.{length-map, map-append}
+use Rattle.std.proofs.lemmas.Simd.{map-map}
 use Rattle.std.specs.Cmp.{Equal-is}
 use Rattle.std.specs.Cmp.Lexicographic.{nat_list_cmp_total}
-use Rattle.std.specs.List.{AllByRecursion}
+use Rattle.std.specs.List.{AllByRecursion, range_with_len}
 use Rattle.std.specs.Ordering.{eq_by_cmp}
-use Rattle.std.specs.FinMap.{FinMap, empty, entries, get, get-remove, insert, keys, values}
+use Rattle.std.specs.FinMap.{FinMap, empty, entries, entries_sorted, get, get-empty, get-insert, get-remove, insert, keys, remove, values}
 use Rattle.text_maps.specs.Keyed.{text_order, with_values}
 use Rattle.text_maps.proofs.KeyedMaps.{exact_texts}
 use Rattle.text_maps.proofs.ValueMaps.{entries-values, get-values}
@@ -14,15 +15,19 @@ use Rattle.object_ids.specs.IdOrder.{id_order}
 use Rattle.object_ids.specs.IdValues.{Id}
 use Rattle.object_ids.specs.declared.ids.Kind.{Kind}
 use Rattle.object_ids.specs.declared.ids.Kind.TheVariants as kind
-use Rattle.hdf_values.proofs.PieceLemmas.{all_parts}
+use Rattle.object_ids.proofs.IdOrders.{id_order_once, id_order_total}
+use Rattle.hdf_values.proofs.PieceLemmas.{all_append, all_parts}
 use Rattle.attributes.proofs.MapLemmas.{each_entry}
 use Rattle.object_acts.specs.declared.objects.Object.{Object}
 use Rattle.json_import.specs.declared.loaded.Group.{Group}
 use Rattle.json_import.specs.declared.loaded.Loaded.{Loaded}
-use Rattle.fresh_objects.specs.Laws.{DatasetsStand, DatatypesStand, GroupsStand, OthersStay, RootStands, StandForOne, StandsAt}
-use Rattle.fresh_objects.specs.Names.{Names, behind, name_each, named, names_of, numbered_by, others, root_named, with_each, with_root}
-use Rattle.fresh_objects.specs.Renamed.{dataset_object, datatype_object, group_object, kind_of, objects_put, other_objects, root_object}
+use Rattle.fresh_objects.specs.Laws.{AreOfOne, DatasetsStand, DatatypesStand, GroupsStand, HasObject, IdsAreDistinct, IdsAreFresh, IdsHaveObjects, IsFresh, NothingElseStands, OthersStay, RootIsFirst, RootStands, SerialsRise, SerialsRun, StandForOne, StandsAt, other_texts}
+use Rattle.fresh_objects.specs.Names.{Names, behind, id_in, name_each, named, names_of, numbered_by, others, root_named, with_each, with_root}
+use Rattle.fresh_objects.specs.Renamed.{dataset_object, datatype_object, group_object, kind_of, objects_put, other_count, other_objects, root_object}
 use Rattle.fresh_objects.specs.declared.names.Naming.{Naming}
+use Rattle.fresh_objects.proofs.FreshLemmas.{rising as rising_serials}
+use Rattle.fresh_objects.proofs.FreshLemmas.{IsBefore, IsHeldIn, IsNamedBehind, IsText, all_behind, apart, before_behind, before_front, before_sorted, before_texts, entry_text, held_told, name_told, serials_follow, some_same, text_above, text_behind, text_front, text_named}
+use Rattle.fresh_objects.proofs.ObjectLemmas.{under_count}
 use Rattle.fresh_objects.proofs.StandingLemmas.{AreOnce, IsAbsent, Stands, absent_joined, all_stand, each_of, id_other, id_put, name_all, name_joined, name_kept, name_kind, object_kept, once_entries, once_joined, text_put}
 
 -- ---- a map that is seen otherwise
@@ -41,9 +46,18 @@ module _ {X Y : Type 0} where
   seen_at : (h : X → Y) (m : FinMap text_order X) (k : List ℕ) (x : X) → get m k ≡ Some x → get (with_values h m) k ≡ Some (h x)
   seen_at h m k x is = get-values nat_list_cmp_total h m k ∙ ap (option_map h) is
 
+  seen_from : (h : X → Y) (m : FinMap text_order X) (k : List ℕ) (y : Y) → get (with_values h m) k ≡ Some y → (x : X) × (get m k ≡ Some x) × (y ≡ h x)
+  seen_from h m k y e = at (get m k) refl (sym (get-values nat_list_cmp_total h m k) ∙ e) where
+    at : (found : Option X) → get m k ≡ found → option_map h found ≡ Some y → (x : X) × (get m k ≡ Some x) × (y ≡ h x)
+    at None is none = let both : None ≡ Some y = none in absurd (cc)
+    at (Some x) is some = (x, is, sym (some_same (h x) y some))
+
   values_listed : (h : X → Y) (es : List (List ℕ × X)) → map (λ (e : List ℕ × Y). e.1) (map (λ (e : List ℕ × X). (e.0, h e.1)) es) ≡ map h (map (λ (e : List ℕ × X). e.1) es)
   values_listed h [] = refl
   values_listed h (e ∷ es) = ap (λ ys. h e.1 ∷ ys) (values_listed h es)
+
+  keys_seen : (h : X → Y) (m : FinMap text_order X) → map (λ e. e.0) (entries (with_values h m)) ≡ keys m
+  keys_seen h m = ap (map (λ (e : List ℕ × Y). e.0)) (entries-values nat_list_cmp_total h m) ∙ map-map (λ (e : List ℕ × Y). e.0) (λ (e : List ℕ × X). (e.0, h e.1)) (entries m)
 
   values_seen : (h : X → Y) (m : FinMap text_order X) → map (λ e. e.1) (entries (with_values h m)) ≡ map h (values m)
   values_seen h m = ap (map (λ (e : List ℕ × Y). e.1)) (entries-values nat_list_cmp_total h m) ∙ values_listed h (entries m)
@@ -57,6 +71,12 @@ module _ {X : Type 0} where
 
   some_is : (o : Option X) (x : X) → o ≡ Some x → IsSome o
   some_is o x e = ap is_some e
+
+  pub other_is : (m : FinMap text_order X) (gone k : List ℕ) (x : X) → get (remove m gone) k ≡ Some x → get m k ≡ Some x
+  other_is m gone k x is = at (eq_by_cmp text_order k gone) (sym (get-remove nat_list_cmp_total m gone k) ∙ is) where
+    at : (b : Bool) → cond b None (get m k) ≡ Some x → get m k ≡ Some x
+    at true e = let both : None ≡ Some x = e in absurd (cc)
+    at false e = e
 
 -- ---- a document
 
@@ -98,6 +118,12 @@ module _ (l : Loaded) (root : Id) (m : FinMap id_order Object) where
       map-append (λ (e : List ℕ × Object). e.1) (entries groups) (entries datasets ++ entries datatypes)
       ∙ ap (λ os. map (λ (e : List ℕ × Object). e.1) (entries groups) ++ os) (map-append (λ (e : List ℕ × Object). e.1) (entries datasets) (entries datatypes))
       ∙ (λ i. values_seen (group_object names root) (others l) i ++ (values_seen dataset_object l.datasets i ++ values_seen datatype_object l.datatypes i))
+
+  texts_listed : map (λ e. e.0) listed ≡ other_texts l
+  texts_listed =
+      map-append (λ (e : List ℕ × Object). e.0) (entries groups) (entries datasets ++ entries datatypes)
+      ∙ ap (λ ts. map (λ (e : List ℕ × Object). e.0) (entries groups) ++ ts) (map-append (λ (e : List ℕ × Object). e.0) (entries datasets) (entries datatypes))
+      ∙ (λ i. keys_seen (group_object names root) (others l) i ++ (keys_seen dataset_object l.datasets i ++ keys_seen datatype_object l.datatypes i))
 
   -- ---- each text stands once
 
@@ -180,6 +206,244 @@ module _ (l : Loaded) (root : Id) (m : FinMap id_order Object) where
         each_of At groups at_parts.0 text (group_object names root g)
         (seen_at (group_object names root) (others l) text g
         (get-remove nat_list_cmp_total l.groups l.root text ∙ ap (λ b. cond b None (get l.groups text)) e ∙ is))
+
+    -- ---- which ids they have
+
+    abbrev has_own : List ℕ × Object → Type 0
+    has_own e = HasObject l root e.0 e.1
+
+    listed_have : AllByRecursion has_own listed
+    listed_have = all_append has_own (entries groups) (entries datasets ++ entries datatypes)
+        (each_entry (HasObject l root) groups (λ k o is.
+        let seen = seen_from (group_object names root) (others l) k o is in
+        inl (seen.0, other_is l.groups l.root k seen.0 seen.1, seen.2)))
+        (all_append has_own (entries datasets) (entries datatypes)
+        (each_entry (HasObject l root) datasets (λ k o is. inr (inl (seen_from dataset_object l.datasets k o is))))
+        (each_entry (HasObject l root) datatypes (λ k o is. inr (inr (seen_from datatype_object l.datatypes k o is)))))
+
+    listed_count : length listed ≡ other_count l
+    listed_count =
+        sym (length-map listed (λ (e : List ℕ × Object). e.1)) ∙ ap length objects_listed ∙ under_count names root (others l) l.datasets l.datatypes
+
+    abbrev is_behind : List ℕ × Object → Type 0
+    is_behind = IsNamedBehind kind_of (named l root) root (other_count l)
+
+    all_named : AllByRecursion is_behind listed
+    all_named =
+        subst (λ (n : Naming). AllByRecursion (IsNamedBehind kind_of n root (other_count l)) listed) named_listed
+        (subst (λ (many : ℕ). AllByRecursion (IsNamedBehind kind_of (name_all kind_of start listed) root many) listed) listed_count (all_behind kind_of listed start listed_once))
+
+    behind_fresh : (text : List ℕ) (o : Object) → is_behind (text, o) → IsFresh root (other_count l) (kind_of o) (id_in names root text)
+    behind_fresh text o h = subst (IsFresh root (other_count l) (kind_of o)) (sym (ap (λ i. unwrap_or i root) h.1)) (record {
+      same_kind = h.2.kind;
+      domain = h.2.domain;
+      run = h.2.run;
+      from = omega (arith, h.2.above);
+      within = h.2.within;
+    })
+
+    root_fresh : root.kind ≡ kind.Group → (g : Group) → IsFresh root (other_count l) (kind_of (group_object names root g)) (id_in names root l.root)
+    root_fresh is_group g = subst (IsFresh root (other_count l) kind.Group) (sym (ap (λ i. unwrap_or i root) root_name)) (record {
+      same_kind = is_group;
+      domain = refl;
+      run = refl;
+      from = omega arith;
+      within = omega arith;
+    })
+
+    parts_named : AllByRecursion is_behind (entries groups) × AllByRecursion is_behind (entries datasets ++ entries datatypes)
+    parts_named = all_parts is_behind (entries groups) (entries datasets ++ entries datatypes) all_named
+
+    rest_named : AllByRecursion is_behind (entries datasets) × AllByRecursion is_behind (entries datatypes)
+    rest_named = all_parts is_behind (entries datasets) (entries datatypes) parts_named.1
+
+    abbrev IsBehindAt : List ℕ → Object → Type 0
+    IsBehindAt text o = is_behind (text, o)
+
+    -- a group is the root, or one of the others
+    other_group : (text : List ℕ) (g : Group) → get l.groups text ≡ Some g → (text ≡ l.root) ⊎ (get groups text ≡ Some (group_object names root g))
+    other_group text g is = at (eq_by_cmp text_order text l.root) refl where
+      at : (b : Bool) → eq_by_cmp text_order text l.root ≡ b → (text ≡ l.root) ⊎ (get groups text ≡ Some (group_object names root g))
+      at true e = inl (exact_texts text l.root ((Equal-is (text_order text l.root)).0 e))
+      at false e = inr (seen_at (group_object names root) (others l) text g (get-remove nat_list_cmp_total l.groups l.root text ∙ ap (λ b. cond b None (get l.groups text)) e ∙ is))
+
+    group_fresh : root.kind ≡ kind.Group → (text : List ℕ) (g : Group) → (text ≡ l.root) ⊎ (get groups text ≡ Some (group_object names root g))
+        → IsFresh root (other_count l) (kind_of (group_object names root g)) (id_in names root text)
+    group_fresh is_group text g (inl same) =
+        subst (λ t. IsFresh root (other_count l) (kind_of (group_object names root g)) (id_in names root t)) (sym same) (root_fresh is_group g)
+    group_fresh is_group text g (inr is) = behind_fresh text (group_object names root g) (each_of IsBehindAt groups parts_named.0 text (group_object names root g) is)
+
+    abbrev FreshAt : List ℕ → Object → Type 0
+    FreshAt text o = IsFresh root (other_count l) (kind_of o) (id_in names root text)
+
+    fresh_at : root.kind ≡ kind.Group → (text : List ℕ) (o : Object) → HasObject l root text o → FreshAt text o
+    fresh_at is_group text o (inl h) = subst (FreshAt text) (sym h.2) (group_fresh is_group text h.0 (other_group text h.0 h.1))
+    fresh_at is_group text o (inr (inl h)) =
+        subst (FreshAt text) (sym h.2)
+        (behind_fresh text (dataset_object h.0) (each_of IsBehindAt datasets rest_named.0 text (dataset_object h.0) (seen_at dataset_object l.datasets text h.0 h.1)))
+    fresh_at is_group text o (inr (inr h)) =
+        subst (FreshAt text) (sym h.2)
+        (behind_fresh text (datatype_object h.0) (each_of IsBehindAt datatypes rest_named.1 text (datatype_object h.0) (seen_at datatype_object l.datatypes text h.0 h.1)))
+
+    -- ---- what is held
+
+    abbrev begun : FinMap id_order Object
+    begun = with_root m root (root_object l root)
+
+    abbrev numbered_by_text : FinMap id_order Object
+    numbered_by_text = with_each begun (numbered_by kind_of root (map (λ e. e.1) listed))
+
+    put_listed : numbered_by_text ≡ put
+    put_listed = ap (λ os. with_each begun (numbered_by kind_of root os)) objects_listed
+
+    abbrev IsToldBy : Id → Object → Type 0
+    IsToldBy id o = (get m id ≡ Some o) ⊎ ((text : List ℕ) × (id_in names root text ≡ id) × HasObject l root text o)
+
+    root_told : (found : Option Group) → get l.groups l.root ≡ found → (id : Id) (o : Object) → get (with_root m root (option_map (group_object names root) found)) id ≡ Some o → IsToldBy id o
+    root_told None there id o is = inl is
+    root_told (Some g) there id o is = at (eq_by_cmp id_order id root) refl (sym (get-insert id_order_total m root (group_object names root g) id) ∙ is) where
+      at : (b : Bool) → eq_by_cmp id_order id root ≡ b → cond b (Some (group_object names root g)) (get m id) ≡ Some o → IsToldBy id o
+      at true tie e =
+          let same : id ≡ root = id_order_once id root ((Equal-is (id_order id root)).0 tie) in
+          let value : group_object names root g ≡ o = some_same (group_object names root g) o e in
+          inr (l.root, ap (λ i. unwrap_or i root) root_name ∙ sym same, inl (g, there, sym value))
+      at false tie e = inl e
+
+    begun_told : (id : Id) (o : Object) → get begun id ≡ Some o → IsToldBy id o
+    begun_told id o is = root_told (get l.groups l.root) refl id o is
+
+    only_these : (id : Id) (o : Object) → get put id ≡ Some o → IsToldBy id o
+    only_these id o is = at (held_told kind_of (HasObject l root) listed start begun id o listed_once listed_have (ap (λ (n : FinMap id_order Object). get n id) put_listed ∙ is)) where
+      at : (get begun id ≡ Some o) ⊎ ((text : List ℕ) × (get (name_all kind_of start listed).names text ≡ Some id) × HasObject l root text o) → IsToldBy id o
+      at (inl before) = begun_told id o before
+      at (inr h) =
+          let named_so : get names h.0 ≡ Some id = ap (λ (n : Naming). get n.names h.0) (sym named_listed) ∙ h.1 in
+          inr (h.0, ap (λ i. unwrap_or i root) named_so, h.2)
+
+    root_held : (found : Option Group) → get l.groups l.root ≡ found → IsSome found → IsSome (get put root)
+    unfolding root_at
+    root_held None there some = absurd (let both : false ≡ true = some in cc)
+    root_held (Some g) there some = ap is_some (root_at g there).2
+
+    abbrev IsHeld : Id → Type 0
+    IsHeld = IsHeldIn kind_of root.domain put
+
+    root_is_held : IsHeld root
+    root_is_held = (refl, root_held (get l.groups l.root) refl one.root)
+
+    held_at : (text : List ℕ) (found : Option Id) → get names text ≡ found → IsHeld (unwrap_or found root)
+    held_at text None is = root_is_held
+    held_at text (Some id) is = at (name_told kind_of listed start begun text id (ap (λ (n : Naming). get n.names text) named_listed ∙ is)) where
+      first : (b : Bool) → cond b (Some root) None ≡ Some id → IsHeld id
+      first true e = subst IsHeld (some_same root id e) root_is_held
+      first false e = let both : None ≡ Some id = e in absurd (cc)
+
+      at : (get (insert (empty {X = Id} {R = text_order}) l.root root) text ≡ Some id) ⊎ IsHeldIn kind_of root.domain numbered_by_text id → IsHeld id
+      at (inl e) = first (eq_by_cmp text_order text l.root)
+          (sym (ap (cond (eq_by_cmp text_order text l.root) (Some root)) (get-empty text_order text)) ∙ sym (get-insert nat_list_cmp_total empty l.root root text) ∙ e)
+      at (inr e) = subst (λ (n : FinMap id_order Object). IsHeldIn kind_of root.domain n id) put_listed e
+
+    -- ---- no two texts stand for one id
+
+    has_text : (text : List ℕ) (o : Object) → HasObject l root text o → (text ≡ l.root) ⊎ IsText kind_of text listed
+    has_text text o (inl h) = at (other_group text h.0 h.1) where
+      at : (text ≡ l.root) ⊎ (get groups text ≡ Some (group_object names root h.0)) → (text ≡ l.root) ⊎ IsText kind_of text listed
+      at (inl same) = inl same
+      at (inr is) = inr (text_front kind_of (entries groups) (entries datasets ++ entries datatypes) text (entry_text kind_of groups text (group_object names root h.0) is))
+    has_text text o (inr (inl h)) = inr (
+        text_behind kind_of (entries groups) (entries datasets ++ entries datatypes) text
+        (text_front kind_of (entries datasets) (entries datatypes) text (entry_text kind_of datasets text (dataset_object h.0) (seen_at dataset_object l.datasets text h.0 h.1))))
+    has_text text o (inr (inr h)) = inr (
+        text_behind kind_of (entries groups) (entries datasets ++ entries datatypes) text
+        (text_behind kind_of (entries datasets) (entries datatypes) text (entry_text kind_of datatypes text (datatype_object h.0) (seen_at datatype_object l.datatypes text h.0 h.1))))
+
+    abbrev id_of_text : List ℕ → Id
+    id_of_text text = id_in names root text
+
+    text_id : (text : List ℕ) → IsText kind_of text listed → (get names text ≡ Some (id_of_text text)) × (root.serial < (id_of_text text).serial)
+    text_id text there =
+        let found = text_named kind_of (named l root) root (other_count l) listed text all_named there in
+        let same : id_in names root text ≡ found.0 = ap (λ i. unwrap_or i root) found.1 in (
+          found.1 ∙ ap Some (sym same),
+          subst (λ (i : Id). root.serial < i.serial) (sym same) (text_above kind_of (named l root) root (other_count l) listed text found.0 all_named there found.1),
+        )
+
+    not_root : (s t : List ℕ) → s ≡ l.root → IsText kind_of t listed → id_of_text s ≡ id_of_text t → ⊥
+    not_root s t first there same =
+        let above = (text_id t there).1 in
+        let root_id : id_of_text s ≡ root = ap (λ x. id_in names root x) first ∙ ap (λ i. unwrap_or i root) root_name in
+        let serial : (id_of_text t).serial ≡ root.serial = ap (λ (i : Id). i.serial) (sym same ∙ root_id) in
+        absurd (omega (arith, above, serial))
+
+    distinct_ids : (s t : List ℕ) → (s ≡ l.root) ⊎ IsText kind_of s listed → (t ≡ l.root) ⊎ IsText kind_of t listed → id_of_text s ≡ id_of_text t → s ≡ t
+    distinct_ids s t (inl first) (inl second) same = first ∙ sym second
+    distinct_ids s t (inl first) (inr there) same = absurd (not_root s t first there same)
+    distinct_ids s t (inr there) (inl first) same = absurd (not_root t s first there (sym same))
+    distinct_ids s t (inr one_there) (inr two_there) same =
+        let first = ap (λ (n : Naming). get n.names s) named_listed ∙ (text_id s one_there).0 ∙ ap Some same in
+        let second = ap (λ (n : Naming). get n.names t) named_listed ∙ (text_id t two_there).0 in
+        apart kind_of listed start s t (id_of_text t) listed_once one_there two_there first second
+
+    -- ---- their order
+
+    serials_behind : map (λ text. (id_in names root text).serial) (other_texts l) ≡ range_with_len (root.serial + 1) (other_count l)
+    serials_behind =
+        (λ i. map (λ text. (id_in (sym named_listed i).names root text).serial) (sym texts_listed i))
+        ∙ serials_follow kind_of root listed start listed_once
+        ∙ ap (range_with_len (root.serial + 1)) listed_count
+
+    some_value : {X : Type 0} (found : Option X) → IsSome found → (x : X) × (found ≡ Some x)
+    some_value None there = absurd (let both : false ≡ true = there in cc)
+    some_value (Some x) there = (x, refl)
+
+    seen_text : {X : Type 0} (h : X → Object) (c : FinMap text_order X) (text : List ℕ) → IsSome (get c text) → IsText kind_of text (entries (with_values h c))
+    seen_text h c text there = let x = some_value (get c text) there in entry_text kind_of (with_values h c) text (h x.0) (seen_at h c text x.0 x.1)
+
+    seen_before : {X : Type 0} (h : X → Object) (c : FinMap text_order X) (s t : List ℕ) → IsSome (get c s) → IsSome (get c t) → text_order s t ≡ Less → IsBefore kind_of s t (entries (with_values h c))
+    seen_before h c s t first second below =
+        before_sorted kind_of (entries (with_values h c)) s t (entries_sorted (with_values h c)) (seen_text h c s first) (seen_text h c t second) below
+
+    listed_before : (s t : List ℕ) → AreOfOne l s t → text_order s t ≡ Less → IsBefore kind_of s t listed
+    listed_before s t (inl h) below =
+        before_front kind_of (entries groups) (entries datasets ++ entries datatypes) s t (seen_before (group_object names root) (others l) s t h.0 h.1 below)
+    listed_before s t (inr (inl h)) below =
+        before_behind kind_of (entries groups) (entries datasets ++ entries datatypes) s t
+        (before_front kind_of (entries datasets) (entries datatypes) s t (seen_before dataset_object l.datasets s t h.0 h.1 below))
+    listed_before s t (inr (inr h)) below =
+        before_behind kind_of (entries groups) (entries datasets ++ entries datatypes) s t
+        (before_behind kind_of (entries datasets) (entries datatypes) s t (seen_before datatype_object l.datatypes s t h.0 h.1 below))
+
+    serials : (s t : List ℕ) → IsBefore kind_of s t listed → (id_of_text s).serial < (id_of_text t).serial
+    serials s t before =
+        let texts = before_texts kind_of listed s t before in
+        let first = ap (λ (n : Naming). get n.names s) named_listed ∙ (text_id s texts.0).0 in
+        let second = ap (λ (n : Naming). get n.names t) named_listed ∙ (text_id t texts.1).0 in
+        rising_serials kind_of listed start s t (id_of_text s) (id_of_text t) listed_once before first second
+
+    behind_root : (text : List ℕ) → IsSome (get (others l) text) → root.serial < (id_of_text text).serial
+    behind_root text there =
+        (text_id text (text_front kind_of (entries groups) (entries datasets ++ entries datatypes) text (seen_text (group_object names root) (others l) text there))).1
+
+pub serials_run : SerialsRun
+serials_run l root one = serials_behind l root empty one
+
+pub serials_rise : SerialsRise
+serials_rise l root one s t both below = serials l root empty one s t (listed_before l root empty one s t both below)
+
+pub root_first : RootIsFirst
+root_first l root one text there = behind_root l root empty one text there
+
+pub ids_fresh : IdsAreFresh
+ids_fresh l root is_group one text o has = fresh_at l root empty one is_group text o has
+
+pub ids_distinct : IdsAreDistinct
+ids_distinct l root one s t o p first second same = distinct_ids l root empty one s t (has_text l root empty one s o first) (has_text l root empty one t p second) same
+
+pub nothing_else : NothingElseStands
+nothing_else l root m one id o is = only_these l root m one id o is
+
+pub ids_held : IdsHaveObjects
+ids_held l root m one text = held_at l root m one text (get (names_of l root) text) refl
 
 pub root_stands : RootStands
 root_stands l root one = ap (λ i. unwrap_or i root) (root_name l root empty one)

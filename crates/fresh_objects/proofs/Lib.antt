@@ -1,3 +1,4 @@
+pub mod FreshLemmas
 pub mod LawLemmas
 pub mod LoadedLemmas
 pub mod NameLemmas

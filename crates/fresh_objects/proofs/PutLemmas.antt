@@ -18,12 +18,12 @@ module _ {Y : Type 0} where
   last_of : (f : Option Y) (y : Y) → None ≡ f → option_or f (Some y) ≡ Some y
   last_of f y none = ap (λ o. option_or o (Some y)) (sym none)
 
-  or_none : (f : Option Y) → option_or f None ≡ f
+  pub or_none : (f : Option Y) → option_or f None ≡ f
   or_none None = refl
   or_none (Some y) = refl
 
   -- what is found once entries with rising keys were put
-  get-put : (m : FinMap text_order Y) (es : List (List ℕ × Y)) → T (is_sorted text_order es) → (q : List ℕ) → get (put_pairs m es) q ≡ option_or (find text_order q es) (get m q)
+  pub get-put : (m : FinMap text_order Y) (es : List (List ℕ × Y)) → T (is_sorted text_order es) → (q : List ℕ) → get (put_pairs m es) q ≡ option_or (find text_order q es) (get m q)
   get-put m [] rising q = refl
   get-put m (e ∷ es) rising q =
       get-put (insert m e.0 e.1) es (halves _ _ rising).1 q

@@ -9,6 +9,6 @@ mod new_objects;
 mod renaming;
 mod taking;
 
-pub use laws::{documents_stand_for_one, objects_stand_at_their_ids};
+pub use laws::{documents_stand_for_one, ids_are_fresh, objects_stand_at_their_ids};
 pub use new_objects::NewObject;
 pub use renaming::{NewObjects, Renamed, rename};

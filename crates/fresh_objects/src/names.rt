@@ -1,7 +1,7 @@
 //! The ids that the objects of a document take.
 
-ghost use Rattle.std.specs.Prelude.{◌≡◌, IfOk, IfSome, OnOk, map, string_bytes};
-ghost use Rattle.std.specs.FinMap.{keys};
+ghost use Rattle.std.specs.Prelude.{◌≡◌, ◌+◌, ◌<◌, ◌^◌, IfOk, OnOk, length, map, string_bytes};
+ghost use Rattle.std.specs.FinMap.{keys, len};
 ghost use Rattle.object_ids.specs.declared.ids.Kind.TheVariants as kind;
 ghost use Rattle.fresh_objects.specs.Names.{behind, id_in, name_each, name_next, root_named};
 
@@ -10,9 +10,6 @@ use object_ids::{Kind, ObjectId};
 use std::alloc::{AllocError, Global};
 use std::collections::BTreeMap;
 use text_maps::TextMap;
-
-// The serials of a run are below 2^40.
-const SERIALS: u64 = 1_099_511_627_776;
 
 /// The ids of the objects of a document by the texts that stand for them there.
 #[derive(Drop)]
@@ -45,7 +42,7 @@ pub struct Naming {
 ///
 /// # Errors
 ///
-/// Where memory runs out, and where too few serials are left behind the root's.
+/// Only where memory runs out.
 pub fn name_objects(
     alloc: Global,
     root: ObjectId,
@@ -54,6 +51,7 @@ pub fn name_objects(
     datasets: &TextMap<Dataset>,
     datatypes: &TextMap<Datatype>,
 ) -> Result<FreshIds, AllocError>
+    requires { root.serial + (len groups.now + (len datasets.now + len datatypes.now)) < 2 ^ 40 }
     ensures root { IfOk result (λ ids. ids.root ≡ root) }
     ensures names { IfOk result (λ ids. ids.names
         ≡ (name_each kind.Datatype
@@ -79,6 +77,7 @@ fn root_named(alloc: Global, text: &str, root: ObjectId) -> Result<Naming, Alloc
 }
 
 fn name_each<V>(kind: Kind, objects: &TextMap<V>, naming: &mut Naming) -> Result<(), AllocError>
+    requires { naming.old.last.serial + len objects.now < 2 ^ 40 }
     ensures { OnOk result (naming.new ≡ name_each kind naming.old (keys objects.now)) }
 {
     name_tree(kind, objects.as_tree(), naming)
@@ -89,6 +88,7 @@ fn name_tree<V>(
     objects: &BTreeMap<String, V>,
     naming: &mut Naming,
 ) -> Result<(), AllocError>
+    requires { naming.old.last.serial + length objects.now.entries < 2 ^ 40 }
     ensures { OnOk result (naming.new
         ≡ name_each kind naming.old (map (λ e. string_bytes e.0) objects.now.entries)) }
 {
@@ -99,29 +99,24 @@ fn name_tree<V>(
 }
 
 fn name_next(kind: Kind, text: &str, naming: &mut Naming) -> Result<(), AllocError>
+    requires { naming.old.last.serial + 1 < 2 ^ 40 }
     ensures { OnOk result (naming.new ≡ name_next kind naming.old text.now) }
 {
-    let Some(id) = behind(&naming.last, kind) else {
-        return Err(AllocError);
-    };
+    let id = behind(&naming.last, kind);
     naming.names.put_copy(text, id)?;
     naming.last = id;
     Ok(())
 }
 
-// The id with the next serial, where one is left.
-fn behind(last: &ObjectId, kind: Kind) -> Option<ObjectId>
-    ensures { IfSome result (λ id. id ≡ behind last.now kind) }
+// The id with the next serial.
+fn behind(last: &ObjectId, kind: Kind) -> ObjectId
+    requires { last.now.serial + 1 < 2 ^ 40 }
+    ensures { result ≡ behind last.now kind }
 {
-    let serial = last.serial + 1;
-    if serial < SERIALS {
-        Some(ObjectId {
-            kind,
-            domain: last.domain,
-            run: last.run,
-            serial,
-        })
-    } else {
-        None
+    ObjectId {
+        kind,
+        domain: last.domain,
+        run: last.run,
+        serial: last.serial + 1,
     }
 }

@@ -1,6 +1,6 @@
 //! The objects of a document under fresh ids.
 
-ghost use Rattle.std.specs.Prelude.{◌≡◌, IfOk, length, option_map};
+ghost use Rattle.std.specs.Prelude.{◌≡◌, ◌+◌, ◌<◌, ◌^◌, IfOk, length, option_map};
 ghost use Rattle.fresh_objects.specs.Renamed.{group_object, objects_under};
 ghost use Rattle.fresh_objects.specs.Renamed.{other_count, other_objects, root_object};
 ghost use Rattle.fresh_objects.specs.Taking.{Gives};
@@ -70,8 +70,9 @@ impl NewObjects {
 ///
 /// # Errors
 ///
-/// Where memory runs out, and where fewer serials are left behind the root's than there are others.
+/// Only where memory runs out.
 pub fn rename(alloc: Global, root: ObjectId, loaded: Loaded) -> Result<Renamed, AllocError>
+    requires room { root.serial + other_count loaded < 2 ^ 40 }
     ensures root { IfOk result (λ r. r.root ≡ root_object loaded root) }
     ensures others { IfOk result (λ r. r.others ≡ other_objects loaded root) }
     ensures many { IfOk result (λ r. length r.others ≡ other_count loaded) }

@@ -6,6 +6,7 @@ use Rattle.domains.specs.Contents.{class_at}
 use Rattle.domains.specs.declared.classes.NodeClass.{NodeClass}
 use Rattle.domains.specs.declared.classes.NodeClass.TheVariants.{Folder, Domain}
 use Rattle.domain_documents.specs.Documents.{document_tree}
+use Rattle.domain_documents.specs.Printed.{ReadsAs}
 use Rattle.domain_documents.specs.declared.home.Home.{Home}
 use Rattle.service_core.specs.Steps.{World}
 use Rattle.json_export.specs.declared.faults.ExportFault.{ExportFault}
@@ -33,6 +34,10 @@ IsTooLong (Some tree) = 2 ^ 27 < length (compact_text tree)
 abbrev pub IsTextOf : List ℕ → Option Data → Type 0
 IsTextOf text None = ⊥
 IsTextOf text (Some tree) = text ≡ compact_text tree
+
+-- this is UTF-8, and is read as the document
+abbrev pub IsReadAs : List ℕ → Option Data → Type 0
+IsReadAs text found = (tree : Data) → found ≡ Some tree → ReadsAs text tree
 
 -- what is answered where there is a document, and where there is none; memory may run out
 abbrev pub Answers : {T : Type 0} → (T → Data → Type 0) → Result T ExportFault → Option Data → Type 0

@@ -6,7 +6,8 @@ ghost use Rattle.serde_json.specs.Written.{compact_text};
 ghost use Rattle.domain_documents.specs.Documents.{document_tree};
 ghost use Rattle.domain_documents.specs.Printed.{IsPrinted};
 ghost use Rattle.service_core.specs.Worlds.{seen};
-ghost use Rattle.json_export.specs.Documents.{Answers, IsTextOf, IsTooLong, doc, home_at, home_of};
+ghost use Rattle.json_export.specs.Documents.{Answers, IsReadAs, IsTextOf, IsTooLong, doc};
+ghost use Rattle.json_export.specs.Documents.{home_at, home_of};
 
 use crate::faults::ExportFault;
 use crate::worlds::Held;
@@ -33,7 +34,7 @@ pub fn document(alloc: Global, world: &World, path: &DomainPath) -> Result<Value
     Ok(tree)
 }
 
-/// The compact text of that document.
+/// The compact text of that document, which is read as the document, where it nests no deeper than is read.
 ///
 /// # Errors
 ///
@@ -41,6 +42,8 @@ pub fn document(alloc: Global, world: &World, path: &DomainPath) -> Result<Value
 pub fn document_text(alloc: Global, world: &World, path: &DomainPath) -> Result<String, ExportFault>
     ensures text { IfOk result
         (λ text. IsTextOf (string_bytes text) (doc (seen world.now) path.now)) }
+    ensures reads { IfOk result
+        (λ text. IsReadAs (string_bytes text) (doc (seen world.now) path.now)) }
     ensures short { IfOk result (λ text. length (string_bytes text) ≤ 2 ^ 27) }
     ensures none { (result ≡ Err ExportFault.NoDomain) ↔ (doc (seen world.now) path.now ≡ None) }
     ensures large { result ≡ Err ExportFault.TooLarge → IsTooLong (doc (seen world.now) path.now) }

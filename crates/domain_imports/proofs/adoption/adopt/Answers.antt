@@ -3,8 +3,13 @@ use Rattle.std.specs.FinMap.{get}
 use Rattle.service_core.specs.Worlds.{seen}
 use Rattle.fresh_objects.proofs.LawLemmas.{others_stay}
 use Rattle.domain_imports.specs.Adopted.{root_at}
+use Rattle.domain_imports.proofs.DocumentLemmas.{has_room, read_back}
 use Rattle.domain_imports.proofs.DomainLemmas.{domain_there}
 use Rattle.domain_imports.proofs.adoption.adopt.Goals as goal
+
+pub make_domain-requires : goal.make_domain-requires
+make_domain-requires c =
+    (has_room c.args.world.now.door c.args.path.now c.args.loaded c.is_whole.ensures.roots c.in_ok-may_adopt.ensures).left
 
 pub returns-clause-domain : goal.returns-clause-domain
 returns-clause-domain c =
@@ -14,3 +19,10 @@ pub returns-clause-others : goal.returns-clause-others
 returns-clause-others c = λ q other.
     let old = c.args.world.now in
     ap (λ m. get m q) c.in_ok-make_domain.ensures.objects ∙ others_stay c.args.loaded (root_at old.door) (seen old).objects q other
+
+pub returns-clause-document : goal.returns-clause-document
+returns-clause-document c =
+    let old = c.args.world.now in
+    let new = c.make_domain.new.world in
+    read_back c.documents_read_back.ensures.same (seen old) (seen new) c.args.path.now c.args.owner.now c.args.loaded c.is_whole.ensures.objects c.is_whole.ensures.roots c.in_ok-may_adopt.ensures
+    (domain_there old.door new.door c.args.path.now c.args.owner.now c.args.loaded c.in_ok-make_domain.ensures.door) c.in_ok-make_domain.ensures.objects

@@ -1,4 +1,4 @@
-use Rattle.std.proofs.Common.{◌≡◌, ◌<◌, IfSome, sym, ap, subst, ◌∙◌}
+use Rattle.std.proofs.Common.{◌≡◌, ◌+◌, ◌<◌, ◌^◌, IfSome, sym, ap, subst, ◌∙◌}
 use Rattle.std.specs.FinMap.{get}
 use Rattle.object_ids.specs.IdValues.{Id}
 use Rattle.object_acts.specs.Objects.{kind_of_body}
@@ -6,11 +6,16 @@ use Rattle.register.specs.Decided.{Door, domain_added}
 use Rattle.service_core.specs.Steps.{IsGiven}
 use Rattle.service_core.specs.Worlds.{State, seen}
 use Rattle.fresh_objects.specs.Names.{names_of, with_root}
-use Rattle.fresh_objects.specs.Renamed.{other_objects, root_object}
+use Rattle.fresh_objects.specs.Renamed.{other_count, other_objects, root_object}
 use Rattle.domain_imports.specs.Placing.{placed_each}
 use Rattle.domain_imports.proofs.DomainLemmas.{adopted_door, adopted_objects, below_next, root_given, root_kind, root_new}
 use Rattle.domain_imports.proofs.PlacingLemmas.{on_ok}
 use Rattle.domain_imports.proofs.adoption.make_domain.Goals as goal
+
+pub rename-requires : goal.rename-requires
+rename-requires c = record {
+  room = subst (λ (id : Id). id.serial + other_count c.args.loaded < 2 ^ 40) (sym c.in-Ok.ensures.root) c.requires;
+}
 
 pub put_root-requires-clause-given : goal.put_root-requires-clause-given
 put_root-requires-clause-given c =

@@ -1,7 +1,10 @@
-use Rattle.std.proofs.Common.{◌≡◌, OnOk, string_bytes, subst, sym}
+use Rattle.std.proofs.Common.{◌≡◌, OnOk, string_bytes, subst, sym, arith}
 use Rattle.fresh_objects.specs.Names.{name_each}
-use Rattle.fresh_objects.proofs.NameLemmas.{keys_keyed}
+use Rattle.fresh_objects.proofs.NameLemmas.{keys_keyed, many_keyed}
 use Rattle.fresh_objects.proofs.names.name_each.Goals as goal
+
+pub name_tree-requires : goal.name_tree-requires
+name_tree-requires g c = omega (arith, c.requires, many_keyed string_bytes c.args.objects.now c.as_tree.result.now.entries c.as_tree.ensures)
 
 pub returns : goal.returns
 returns g c =

@@ -1,10 +1,16 @@
-use Rattle.std.proofs.Common.{◌≡◌, ◌+◌, option_map, ap, ◌∙◌}
+use Rattle.std.proofs.Common.{◌≡◌, ◌+◌, ◌<◌, ◌^◌, option_map, sym, ap, subst, ◌∙◌}
 use Rattle.std.specs.FinMap.{get, keys, len, remove}
 use Rattle.object_ids.specs.declared.ids.Kind.TheVariants as kind
 use Rattle.fresh_objects.specs.Names.{name_each, names_of, root_named}
 use Rattle.fresh_objects.specs.Renamed.{group_object}
 use Rattle.fresh_objects.proofs.ObjectLemmas.{under_count}
 use Rattle.fresh_objects.proofs.renaming.rename.Goals as goal
+
+pub name_objects-requires : goal.name_objects-requires
+name_objects-requires c =
+    let l = c.args.loaded in
+    let rest = c.remove-top.ensures.rest ∙ ap (remove l.groups) c.text-2.ensures in
+    subst (λ groups. c.args.root.serial + (len groups + (len l.datasets + len l.datatypes)) < 2 ^ 40) (sym rest) c.requires.room
 
 pub returns-clause-root : goal.returns-clause-root
 returns-clause-root c =

@@ -1,0 +1,9 @@
+pub mod ValueLemmas
+pub mod PartLemmas
+pub mod ListLemmas
+pub mod EntryLemmas
+pub mod OrderLemmas
+pub mod HomeLemmas
+pub mod DocumentLemmas
+pub mod HeldLemmas
+pub mod DepthLemmas
