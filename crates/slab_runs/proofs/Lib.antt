@@ -1,0 +1,4 @@
+pub mod BoxLemmas
+pub mod WalkLemmas
+pub mod RunLemmas
+pub mod ChunkLemmas

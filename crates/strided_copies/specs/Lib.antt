@@ -1,0 +1,2 @@
+pub mod Strides
+pub use Rattle.hdf_values.specs.Nested
