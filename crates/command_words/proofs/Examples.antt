@@ -3,7 +3,7 @@ use Rattle.std.proofs.Common.{◌≡◌, List, [], ◌∷◌, Some, None, codes,
 use Rattle.command_words.specs.Lines.{Piece}
 use Rattle.command_words.specs.Reading.{pieces_of}
 use Rattle.command_words.specs.Numbers.{number_between}
-use Rattle.command_words.specs.Commands.{command_of, export, export_row, init_row}
+use Rattle.command_words.specs.Commands.{command_of, export, export_row, import, init_row}
 
 abbrev both : List Piece
 both = (codes "journal", codes "j") ∷ (codes "path", codes "/lab") ∷ []
@@ -26,6 +26,15 @@ a_place_by_its_name = refl
 
 an_export : command_of (codes "export" ∷ codes "/lab/" ∷ codes "--journal=j" ∷ []) ≡ Some (export (codes "/lab") (codes "j"))
 an_export = refl
+
+an_import : command_of (codes "import" ∷ codes "--owner" ∷ codes "bob" ∷ codes "/lab" ∷ []) ≡ Some (import (codes "/lab") (codes "hsds.journal") (codes "bob"))
+an_import = refl
+
+no_owner_named : command_of (codes "import" ∷ codes "/lab" ∷ []) ≡ Some (import (codes "/lab") (codes "hsds.journal") (codes "default"))
+no_owner_named = refl
+
+a_group_owns_nothing : command_of (codes "import" ∷ codes "/lab" ∷ codes "--owner=g:lab" ∷ []) ≡ None
+a_group_owns_nothing = refl
 
 no_path : command_of (codes "export" ∷ codes "lab" ∷ []) ≡ None
 no_path = refl

@@ -11,9 +11,9 @@ use Rattle.clap.specs.Lexer.{long_of}
 use Rattle.clap.specs.Walk.{Held, Row as Found, Rule, Step, Waiting, after_flag, after_step}
 use Rattle.clap.specs.Walk.{arg_by_index, arg_by_long, idle, is_pending, long_met, long_or_other}
 use Rattle.clap.specs.Walk.{next, option, option_word, positional_held, pushed, reacted, settled}
-use Rattle.clap.specs.Walk.{short_or_plain, to_positional, trailing, used, value, walked, word_met}
+use Rattle.clap.specs.Walk.{short_or_plain, subcommand_met, to_positional, trailing, used, value, walked, word_met}
 use Rattle.clap.specs.Simple.{Shape, new_shape}
-use Rattle.clap.specs.Takes.{flag_word_passes, long_passes, bundle_passes, positional_passes}
+use Rattle.clap.specs.Takes.{flag_word_passes, long_passes, bundle_passes, other_passes, positional_passes}
 use Rattle.clap.specs.Takes.{settle_passes, step_passes, turn_passes, use_passes}
 use Rattle.command_words.specs.Lines.{Text, Piece, has_piece}
 use Rattle.command_words.proofs.Steps.{IsKnown, IsPending, IsPlain, dashes, held_for, held_open}
@@ -29,6 +29,19 @@ leaf name c = record (new_shape name) {
   disable_help_subcommand = true;
   is_built = true;
 }
+
+-- a word that isn't two hyphens passes where the option that it may be does, and the step that it makes
+word_passes : (name : Text) (c : List Rule) (h : Held) (waiting : Waiting) (k : ℕ) (word : Text) (o : Option (Text × Option Text)) (m : Held × Step)
+    → subcommand_met [] waiting word ≡ None → bytes_eq word dashes ≡ false → long_of word ≡ o
+    → word_met c [] false waiting k word h ≡ m → flag_word_passes c false o word h ≡ true
+    → step_passes (leaf name c) k m.0 m.1 ≡ true
+    → turn_passes (leaf name c) [] (record { held = h; waiting = waiting; position = k; is_trailing = false; stopped = None }) word ≡ true
+word_passes name c h waiting k word o m none other is met flag step = and_from _ _
+    (ap (λ (s : Option Text). other_passes (leaf name c) s word h) none
+    ∙ ap (λ (b : Bool). b || flag_word_passes c false (long_of word) word h) other
+    ∙ ap (λ (o : Option (Text × Option Text)). flag_word_passes c false o word h) is
+    ∙ flag)
+    (ap (λ (m : Held × Step). step_passes (leaf name c) k m.0 m.1) met ∙ step)
 
 module _ (name : Text) (c : List Rule) (g : List Piece) (p : Option Piece) (k : ℕ) (word : Text) (ok : IsPending c g p) where
   abbrev h : Held
@@ -55,13 +68,12 @@ module _ (name : Text) (c : List Rule) (g : List Piece) (p : Option Piece) (k : 
         ∙ ap (λ (x : Held). record (stand g p k) { held = x; waiting = idle }) reacted_is
 
     pub joined_passes : turn_passes (leaf name c) [] (stand g p k) word ≡ true
-    joined_passes = and_from _ _
-        (ap (λ (b : Bool). b || flag_word_passes c false (long_of word) word h) no
-        ∙ ap (λ (o : Option (Text × Option Text)). flag_word_passes c false o word h) is
-        ∙ ap (λ (a : Option Rule). long_passes c false a (Some v) h) found
+    joined_passes =
+        word_passes name c h idle k word (Some (id, Some v)) (reacted c (option_rule id) (v ∷ []) h, next idle) refl no is joined_met
+        (ap (λ (a : Option Rule). long_passes c false a (Some v) h) found
         ∙ and_from _ _ (settle_true c g p ok)
         (ap (λ (x : Held). use_passes false (option_rule id) (v ∷ []) x.rows) (settled_is c g p ok) ∙ use_new id v (g ++ listed p) new))
-        (ap (λ (m : Held × Step). step_passes (leaf name c) k m.0 m.1) joined_met)
+        refl
 
   -- `--id`
   module _ (id : Text) (no : bytes_eq word dashes ≡ false) (is : long_of word ≡ Some (id, None))
@@ -79,12 +91,10 @@ module _ (name : Text) (c : List Rule) (g : List Piece) (p : Option Piece) (k : 
         ∙ ap (λ (x : Held). record (stand g p k) { held = record x { pending = Some (id, []) }; waiting = option id }) (settled_is c g p ok)
 
     pub opened_passes : turn_passes (leaf name c) [] (stand g p k) word ≡ true
-    opened_passes = and_from _ _
-        (ap (λ (b : Bool). b || flag_word_passes c false (long_of word) word h) no
-        ∙ ap (λ (o : Option (Text × Option Text)). flag_word_passes c false o word h) is
-        ∙ ap (λ (a : Option Rule). long_passes c false a None h) found
-        ∙ settle_true c g p ok)
-        (ap (λ (m : Held × Step). step_passes (leaf name c) k m.0 m.1) opened_met)
+    opened_passes =
+        word_passes name c h idle k word (Some (id, None)) (record (settled c h) { pending = Some (id, []) }, next (option id)) refl no is opened_met
+        (ap (λ (a : Option Rule). long_passes c false a None h) found ∙ settle_true c g p ok)
+        refl
 
   -- PATH or N
   module _ (id : Text) (plain : IsPlain word) (first : k ≡ 1) (found : arg_by_index c 1 ≡ Some (place_rule id)) where
@@ -110,12 +120,10 @@ module _ (name : Text) (c : List Rule) (g : List Piece) (p : Option Piece) (k : 
         ∙ ap₂ (λ (x : Held) (j : ℕ). record { held = x; waiting = idle; position = min (j + 1) 18446744073709551615; is_trailing = false; stopped = None }) place_held first
 
     pub place_passes : turn_passes (leaf name c) [] (stand g p k) word ≡ true
-    place_passes = and_from _ _
-        (ap (λ (b : Bool). b || flag_word_passes c false (long_of word) word h) plain.no_dashes
-        ∙ ap (λ (o : Option (Text × Option Text)). flag_word_passes c false o word h) plain.no_long
-        ∙ ap (λ (o : Option Text). option_map_or (λ flags. bundle_passes c false flags h) o true) plain.no_short)
-        (ap (λ (m : Held × Step). step_passes (leaf name c) k m.0 m.1) place_met
-        ∙ ap (λ (a : Option Rule). option_map_or (λ a. positional_passes c false a h) a false) found_here
+    place_passes =
+        word_passes name c h idle k word None (h, value) refl plain.no_dashes plain.no_long place_met
+        (ap (λ (o : Option Text). option_map_or (λ flags. bundle_passes c false flags h) o true) plain.no_short)
+        (ap (λ (a : Option Rule). option_map_or (λ a. positional_passes c false a h) a false) found_here
         ∙ ap (λ (b : Bool). b || settle_passes c false h) (and-false (is_pending (place_rule id) h.pending))
         ∙ settle_true c g p ok)
 
@@ -141,8 +149,7 @@ module _ (name : Text) (c : List Rule) (g : List Piece) (k : ℕ) (word id : Tex
   value_taken = ap (λ (m : Held × Step). after_step c word (wait g id k) m.0 m.1) value_met
 
   pub value_passes : turn_passes (leaf name c) [] (wait g id k) word ≡ true
-  value_passes = and_from _ _
-      (ap (λ (b : Bool). b || flag_word_passes c false (long_of word) word (held_open g id)) plain.no_dashes
-      ∙ ap (λ (o : Option (Text × Option Text)). flag_word_passes c false o word (held_open g id)) plain.no_long
-      ∙ ap (λ (o : Option Text). option_map_or (λ flags. bundle_passes c false flags (held_open g id)) o true) plain.no_short)
-      (ap (λ (m : Held × Step). step_passes (leaf name c) k m.0 m.1) value_met)
+  value_passes =
+      word_passes name c (held_open g id) (option id) k word None (held_for g (Some (id, word)), next idle) refl plain.no_dashes plain.no_long value_met
+      (ap (λ (o : Option Text). option_map_or (λ flags. bundle_passes c false flags (held_open g id)) o true) plain.no_short)
+      refl

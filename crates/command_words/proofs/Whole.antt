@@ -19,9 +19,9 @@ use Rattle.clap.specs.Takes.{step_passes, takes, turn_passes, walk_passes}
 use Rattle.clap.proofs.OnLiterals.{clap_on_literals}
 use Rattle.command_words.specs.Lines.{Text, Row, Piece}
 use Rattle.command_words.specs.Reading.{pieces_of}
-use Rattle.command_words.specs.Commands.{Verb, command_of, export_row, init_row, meaning_of}
-use Rattle.command_words.specs.Commands.{pieces_in, session_row, values_of, verb_named, verbs}
-use Rattle.command_words.specs.Commands.{verify_row}
+use Rattle.command_words.specs.Commands.{Verb, command_of, export_row, import_row, init_row}
+use Rattle.command_words.specs.Commands.{meaning_of, pieces_in, session_row, values_of}
+use Rattle.command_words.specs.Commands.{verb_named, verbs, verify_row}
 use Rattle.command_words.specs.Apps.{command_found, found_values, hsds_app}
 use Rattle.command_words.proofs.Steps.{rows_for, rules_of}
 use Rattle.command_words.proofs.Spelled.{is_option_name}
@@ -125,11 +125,14 @@ session_named = record { apart = λ n e. cc; options = refl; met = refl; found =
 export_named : Named export_row.name export_row
 export_named = record { apart = λ n e. cc; options = refl; met = refl; found = refl }
 
+import_named : Named import_row.name import_row
+import_named = record { apart = λ n e. cc; options = refl; met = refl; found = refl }
+
 verify_named : Named verify_row.name verify_row
 verify_named = record { apart = λ n e. cc; options = refl; met = refl; found = refl }
 
 all_named : AllNamed verbs
-all_named = (init_named, (session_named, (export_named, (verify_named, tt))))
+all_named = (init_named, (session_named, (export_named, (import_named, (verify_named, tt)))))
 
 -- a verb that a name finds has this name, and is one of them
 named_in : (list : List Verb) (name : Text) (verb : Verb) → AllNamed list

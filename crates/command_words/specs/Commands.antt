@@ -4,19 +4,22 @@
 --     pieces_in words      the options behind a command's name, with their values, or None
 --     command_of words      the command that the words are, or None
 --     IsCommand words command      that this is the command, by the parts of its line
-use Rattle.std.specs.Prelude.{◌≡◌, ℕ, List, [], ◌∷◌, Option, Some, None, codes, find, map, unwrap_or}
-use Rattle.std.specs.Prelude.{option_map, option_and_then}
+use Rattle.std.specs.Prelude.{◌≡◌, ℕ, Bool, not, ◌&&◌, nat_eq, List, [], ◌∷◌, Option, Some, None, codes}
+use Rattle.std.specs.Prelude.{find, map, unwrap_or, option_map, option_and_then, if◌then◌else◌}
+use Rattle.std.specs.List.{starts_with}
 use Rattle.std.specs.Str.{bytes_eq}
+use Rattle.object_ids.specs.Names.{is_name}
 use Rattle.object_ids.specs.Paths.{path_of}
 use Rattle.command_words.specs.Lines.{Text, Row, Piece, Part, IsLine, piece_of}
 use Rattle.command_words.specs.Reading.{pieces_of, value_of}
 use Rattle.command_words.specs.Numbers.{number_between}
 
--- the path of a domain, the files of the configuration and of the journal, and the number of lanes
+-- the files of the configuration and of the journal, the number of lanes, the path of a domain, and its owner
 pub data Command : Type 0 where
   init : Text → Text → ℕ → Command
   session : Text → Text → Command
   export : Text → Text → Command
+  import : Text → Text → Text → Command
   verify : Text → Command
 
 -- the value of each name, where a line has one
@@ -53,6 +56,17 @@ lanes_in values = lanes_of (values (codes "lanes"))
 abbrev pub path_in : Values → Option Text
 path_in values = option_and_then path_of (values (codes "path"))
 
+-- an owner as a configuration has one: `default`, or a user's name of at most 255 bytes, which doesn't begin with `g:`
+abbrev pub is_owner : Text → Bool
+is_owner name = is_name 255 name && not (starts_with nat_eq name (codes "g:"))
+
+abbrev pub owner_of : Text → Option Text
+owner_of name = if is_owner name then Some name else None
+
+-- `--owner U`, and `default` without it
+abbrev pub owner_in : Values → Option Text
+owner_in values = owner_of (text_in (codes "owner") (codes "default") values)
+
 -- `init --config F --journal F --lanes N`
 abbrev pub init_row : Row
 init_row = record {
@@ -86,6 +100,18 @@ export_row = record {
 abbrev pub export_of : Values → Option Command
 export_of values = option_map (λ path. export path (journal_in values)) (path_in values)
 
+-- `import PATH --journal F --owner U`
+abbrev pub import_row : Row
+import_row = record {
+  name = codes "import";
+  options = codes "journal" ∷ codes "owner" ∷ [];
+  place = Some (codes "path");
+}
+
+abbrev pub import_of : Values → Option Command
+import_of values =
+    option_and_then (λ path. option_map (import path (journal_in values)) (owner_in values)) (path_in values)
+
 -- `verify --journal F`
 abbrev pub verify_row : Row
 verify_row = record { name = codes "verify"; options = codes "journal" ∷ []; place = None }
@@ -98,6 +124,7 @@ verbs =
     record { row = init_row; meaning = init_of }
     ∷ record { row = session_row; meaning = session_of }
     ∷ record { row = export_row; meaning = export_of }
+    ∷ record { row = import_row; meaning = import_of }
     ∷ record { row = verify_row; meaning = verify_of }
     ∷ []
 

@@ -2,11 +2,14 @@
 use Rattle.std.specs.Prelude.{◌≡◌, ◌≤◌, ⊤, Option, Some, None, Result, Ok, Err, map, option_map}
 use Rattle.command_words.specs.Lines as line
 use Rattle.command_words.specs.Reading.{State}
+use Rattle.object_ids.specs.declared.names.NameFault.{NameFault}
+use Rattle.object_ids.specs.declared.names.NameFault.TheVariants as name
 use Rattle.object_ids.specs.declared.paths.PathFault.{PathFault}
 use Rattle.object_ids.specs.declared.paths.PathFault.TheVariants as path
-use Rattle.command_words.specs.Commands.{Command, init, session, export, verify}
+use Rattle.command_words.specs.Commands.{Command, init, session, export, import, verify}
 use Rattle.command_words.specs.declared.command.Wanted.{Wanted}
-use Rattle.command_words.specs.declared.command.Wanted.TheVariants.{Init, Session, Export, Verify}
+use Rattle.command_words.specs.declared.command.Wanted.TheVariants.{Init, Session, Export, Import}
+use Rattle.command_words.specs.declared.command.Wanted.TheVariants.{Verify}
 use Rattle.command_words.specs.declared.command.WordsFault.{WordsFault}
 use Rattle.command_words.specs.declared.command.WordsFault.TheVariants.{Refused, NoMemory}
 use Rattle.command_words.specs.declared.row.Row.{Row}
@@ -17,6 +20,7 @@ abbrev pub seen : Wanted → Command
 seen (Init config journal lanes) = init config.now journal.now lanes
 seen (Session config journal) = session config.now journal.now
 seen (Export path journal) = export path journal.now
+seen (Import path journal owner) = import path journal.now owner
 seen (Verify journal) = verify journal.now
 
 -- the words are this command, or none; or memory ran out
@@ -30,11 +34,17 @@ abbrev pub of_path : PathFault → WordsFault
 of_path path.BadPath = Refused
 of_path path.NoMemory = NoMemory
 
+-- why a name isn't read
+abbrev pub of_name : NameFault → WordsFault
+of_name name.BadName = Refused
+of_name name.NoMemory = NoMemory
+
 -- a new journal's world has 1 to 16 lanes
 abbrev pub HasLanes : Wanted → Type 0
 HasLanes (Init config journal lanes) = (1 ≤ lanes) × (lanes ≤ 16)
 HasLanes (Session config journal) = Unit {0}
 HasLanes (Export path journal) = Unit {0}
+HasLanes (Import path journal owner) = Unit {0}
 HasLanes (Verify journal) = Unit {0}
 
 abbrev pub row_of : Row → line.Row

@@ -1,4 +1,5 @@
-ghost use Rattle.std.specs.Prelude.{◌≡◌, ◌≤◌, true, false, is_some, Ok, IfOk, IfErr, IfSome, map};
+ghost use Rattle.std.specs.Prelude.{◌≡◌, ◌≤◌, true, false, is_some, Some, None, Ok, IfOk, IfErr, IfSome};
+ghost use Rattle.std.specs.Prelude.{IsErrOf, map};
 ghost use Rattle.std.specs.Prelude.{string_bytes};
 ghost use Rattle.std.specs.Prelude.{option_map, option_and_then};
 ghost use Rattle.clap.specs.Words.{app_of, rule_of, found_of, rows_of, first_of, kind_of};
@@ -7,19 +8,21 @@ ghost use Rattle.clap.specs.Simple.{new_rule, subcommand_of, with_subcommand};
 ghost use Rattle.clap.specs.declared.builder.Command.TheViews.{out-Command as fields_of};
 ghost use Rattle.command_words.specs.Apps.{given_option, app_for, bare_app, hsds_app};
 ghost use Rattle.command_words.specs.Apps.{command_found, found_values};
-ghost use Rattle.command_words.specs.Commands.{config_in, export_of, export_row, init_of, init_row};
-ghost use Rattle.command_words.specs.Commands.{journal_in, lanes_in, pieces_in, session_of};
-ghost use Rattle.command_words.specs.Commands.{session_row, text_in, verify_of, verify_row};
+ghost use Rattle.command_words.specs.Commands.{config_in, export_of, export_row, import_of, import_row};
+ghost use Rattle.command_words.specs.Commands.{init_of, init_row, journal_in, lanes_in, owner_in, owner_of};
+ghost use Rattle.command_words.specs.Commands.{path_in, pieces_in, session_of, session_row, text_in};
+ghost use Rattle.command_words.specs.Commands.{verify_of, verify_row};
 ghost use Rattle.command_words.specs.Seen.{Answers, HasLanes};
 
 use crate::command::{
-    DEFAULT_CONFIG, DEFAULT_JOURNAL, DEFAULT_LANES, MAX_LANES, Wanted, WordsFault,
+    DEFAULT_CONFIG, DEFAULT_JOURNAL, DEFAULT_LANES, DEFAULT_OWNER, MAX_LANES, MAX_OWNER_LEN,
+    Wanted, WordsFault,
 };
 use crate::number::number_between;
-use crate::row::{EXPORT, INIT, SESSION, VERIFY};
+use crate::row::{EXPORT, IMPORT, INIT, SESSION, VERIFY};
 use clap::error::ErrorKind;
 use clap::{Arg, ArgMatches, Command, Error};
-use object_ids::read_path;
+use object_ids::{DomainPath, Name, read_path};
 use std::alloc::{AllocError, Global};
 
 /// What `clap` reads of the words. Where they are a line of a command's row it fails only for want
@@ -54,6 +57,7 @@ fn hsds_app<'a>(alloc: Global) -> Result<Command<'a>, AllocError>
     let app = with_command(app, init_app(alloc)?)?;
     let app = with_command(app, session_app(alloc)?)?;
     let app = with_command(app, export_app(alloc)?)?;
+    let app = with_command(app, import_app(alloc)?)?;
     with_command(app, verify_app(alloc)?)
 }
 
@@ -103,6 +107,16 @@ fn export_app<'a>(alloc: Global) -> Result<Command<'a>, AllocError>
         .arg(place(alloc, "path"))
 }
 
+fn import_app<'a>(alloc: Global) -> Result<Command<'a>, AllocError>
+    ensures { IfOk result (λ c.
+        (app_of c ≡ app_for import_row) × ((fields_of c).has_globals ≡ false)) }
+{
+    Command::new(alloc, IMPORT.name)
+        .arg(option(alloc, "journal"))?
+        .arg(option(alloc, "owner"))?
+        .arg(place(alloc, "path"))
+}
+
 fn verify_app<'a>(alloc: Global) -> Result<Command<'a>, AllocError>
     ensures { IfOk result (λ c.
         (app_of c ≡ app_for verify_row) × ((fields_of c).has_globals ≡ false)) }
@@ -142,6 +156,9 @@ fn command_from<'a>(
     if name == EXPORT.name {
         return export_from(alloc, matches);
     }
+    if name == IMPORT.name {
+        return import_from(alloc, matches);
+    }
     if name == VERIFY.name {
         return Ok(verify_from(matches));
     }
@@ -177,13 +194,21 @@ fn export_from<'a>(alloc: Global, matches: &ArgMatches<'a>) -> Result<Wanted<'a>
     ensures command { Answers result (export_of (found_values (rows_of (found_of matches.now)))) }
     ensures lanes { IfOk result HasLanes }
 {
-    match value_in(matches, "path") {
-        Some(text) => Ok(Wanted::Export {
-            path: read_path(alloc, text)?,
-            journal: journal_from(matches),
-        }),
-        None => Err(WordsFault::Refused),
-    }
+    Ok(Wanted::Export {
+        path: path_from(alloc, matches)?,
+        journal: journal_from(matches),
+    })
+}
+
+fn import_from<'a>(alloc: Global, matches: &ArgMatches<'a>) -> Result<Wanted<'a>, WordsFault>
+    ensures command { Answers result (import_of (found_values (rows_of (found_of matches.now)))) }
+    ensures lanes { IfOk result HasLanes }
+{
+    Ok(Wanted::Import {
+        path: path_from(alloc, matches)?,
+        journal: journal_from(matches),
+        owner: owner_from(alloc, matches)?,
+    })
 }
 
 fn verify_from<'a>(matches: &ArgMatches<'a>) -> Wanted<'a>
@@ -206,6 +231,35 @@ fn journal_from<'a>(matches: &ArgMatches<'a>) -> &'a str
     ensures { result.now ≡ journal_in (found_values (rows_of (found_of matches.now))) }
 {
     value_or(matches, "journal", DEFAULT_JOURNAL)
+}
+
+fn path_from(alloc: Global, matches: &ArgMatches) -> Result<DomainPath, WordsFault>
+    ensures ok { IfOk result (λ p. path_in (found_values (rows_of (found_of matches.now))) ≡ Some p) }
+    ensures refused { IsErrOf result WordsFault.Refused
+        → path_in (found_values (rows_of (found_of matches.now))) ≡ None }
+{
+    match value_in(matches, "path") {
+        Some(text) => Ok(read_path(alloc, text)?),
+        None => Err(WordsFault::Refused),
+    }
+}
+
+fn owner_from(alloc: Global, matches: &ArgMatches) -> Result<Name, WordsFault>
+    ensures ok { IfOk result (λ n. owner_in (found_values (rows_of (found_of matches.now))) ≡ Some n) }
+    ensures refused { IsErrOf result WordsFault.Refused
+        → owner_in (found_values (rows_of (found_of matches.now))) ≡ None }
+{
+    owner_named(alloc, value_or(matches, "owner", DEFAULT_OWNER))
+}
+
+fn owner_named(alloc: Global, text: &str) -> Result<Name, WordsFault>
+    ensures ok { IfOk result (λ n. owner_of text.now ≡ Some n) }
+    ensures refused { IsErrOf result WordsFault.Refused → owner_of text.now ≡ None }
+{
+    if text.starts_with("g:") {
+        return Err(WordsFault::Refused);
+    }
+    Ok(Name::read(alloc, text, MAX_OWNER_LEN)?)
 }
 
 fn lanes_from(matches: &ArgMatches) -> Option<u32>

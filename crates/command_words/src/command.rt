@@ -1,6 +1,6 @@
 ghost use Rattle.std.specs.Prelude.{◌≡◌};
 
-use object_ids::{DomainPath, PathFault};
+use object_ids::{DomainPath, Name, NameFault, PathFault};
 use std::alloc::AllocError;
 
 /// The configuration's file where no option names one.
@@ -8,6 +8,12 @@ pub const DEFAULT_CONFIG: &str = "hsds.toml";
 
 /// The journal's file where no option names one.
 pub const DEFAULT_JOURNAL: &str = "hsds.journal";
+
+/// The owner of a new domain where no option names one.
+pub const DEFAULT_OWNER: &str = "default";
+
+/// The most bytes of an owner's name.
+pub const MAX_OWNER_LEN: usize = 255;
 
 /// How many lanes a new journal's world has where no option says it.
 pub const DEFAULT_LANES: u32 = 4;
@@ -44,6 +50,15 @@ pub enum Wanted<'a> {
         /// The journal's file.
         journal: WordText<'a>,
     },
+    /// `import`: make a domain of a document from the standard input.
+    Import {
+        /// The path of the new domain.
+        path: DomainPath,
+        /// The journal's file.
+        journal: WordText<'a>,
+        /// The owner of the new domain.
+        owner: Name,
+    },
     /// `verify`: say what the journal holds.
     Verify {
         /// The journal's file.
@@ -79,6 +94,19 @@ impl From<PathFault> for WordsFault {
         match fault {
             PathFault::BadPath => WordsFault::Refused,
             PathFault::NoMemory => WordsFault::NoMemory,
+        }
+    }
+}
+
+impl From<NameFault> for WordsFault {
+    ghost use Rattle.command_words.specs.Seen.{of_name};
+
+    ghost from_gives = { λ fault e. e ≡ of_name fault };
+
+    fn from(fault: NameFault) -> WordsFault {
+        match fault {
+            NameFault::BadName => WordsFault::Refused,
+            NameFault::NoMemory => WordsFault::NoMemory,
         }
     }
 }

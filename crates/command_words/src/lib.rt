@@ -10,7 +10,8 @@ mod row;
 mod words;
 
 pub use command::{
-    DEFAULT_CONFIG, DEFAULT_JOURNAL, DEFAULT_LANES, MAX_LANES, Wanted, WordText, WordsFault,
+    DEFAULT_CONFIG, DEFAULT_JOURNAL, DEFAULT_LANES, DEFAULT_OWNER, MAX_LANES, MAX_OWNER_LEN,
+    Wanted, WordText, WordsFault,
 };
 pub use words::wanted;
 

@@ -32,6 +32,13 @@ pub const EXPORT: Row<'static> = Row {
     place: Some("path"),
 };
 
+/// `import`
+pub const IMPORT: Row<'static> = Row {
+    name: "import",
+    options: &["journal", "owner"],
+    place: Some("path"),
+};
+
 /// `verify`
 pub const VERIFY: Row<'static> = Row {
     name: "verify",
@@ -51,6 +58,9 @@ pub fn row_named(name: &str) -> Option<Row<'static>>
     }
     if name == EXPORT.name {
         return Some(EXPORT);
+    }
+    if name == IMPORT.name {
+        return Some(IMPORT);
     }
     if name == VERIFY.name {
         return Some(VERIFY);

@@ -1,4 +1,4 @@
-use crate::{DEFAULT_CONFIG, DEFAULT_JOURNAL, Wanted, WordsFault, wanted};
+use crate::{DEFAULT_CONFIG, DEFAULT_JOURNAL, DEFAULT_OWNER, Wanted, WordsFault, wanted};
 use std::alloc::{AllocError, Global};
 use std::test::Fail;
 
@@ -32,6 +32,11 @@ fn text_of(alloc: Global, command: &Wanted) -> Result<String, AllocError> {
         Wanted::Export { path, journal } => {
             format!(in alloc; "export {} {journal}", path.text())
         }
+        Wanted::Import {
+            path,
+            journal,
+            owner,
+        } => { format!(in alloc; "import {} {journal} {}", path.text(), owner.text()) }
         Wanted::Verify { journal } => format!(in alloc; "verify {journal}"),
     }
 }
@@ -116,6 +121,42 @@ fn a_path_stands_at_its_place(rt: HostRuntime) -> Result<(), Fail> {
 }
 
 #[test]
+fn a_new_domain_has_an_owner(rt: HostRuntime) -> Result<(), Fail> {
+    let alloc = rt.alloc();
+    for (line, command) in [
+        (
+            "import|/home/y27|--owner|bob",
+            "import /home/y27 hsds.journal bob",
+        ),
+        ("import|/lab", "import /lab hsds.journal default"),
+        (
+            "import|--owner=default|/lab/",
+            "import /lab hsds.journal default",
+        ),
+        ("import|--owner|g|/lab", "import /lab hsds.journal g"),
+        ("import|--journal=j|/lab|--owner=a b", "import /lab j a b"),
+    ] {
+        assert!(rt; is_read(alloc, line, Some(command))?, "{line}");
+    }
+    for line in OWNERS_REFUSED.split('\n') {
+        assert!(rt; is_read(alloc, line, None)?, "{line}");
+    }
+    assert!(rt; is_read(alloc, owned(alloc, 256)?.as_str(), None)?);
+    assert!(rt; read(alloc, owned(alloc, 255)?.as_str())?.is_some());
+    assert_eq!(rt; DEFAULT_OWNER, "default");
+    Ok(())
+}
+
+/// The line of an import whose owner has a name of so many bytes.
+fn owned(alloc: Global, bytes: usize) -> Result<String, AllocError> {
+    let mut line = String::from_str(alloc, "import|/lab|--owner|")?;
+    for _ in 0..bytes {
+        line.push('a')?;
+    }
+    Ok(line)
+}
+
+#[test]
 fn other_words_are_refused(rt: HostRuntime) -> Result<(), Fail> {
     let alloc = rt.alloc();
     let none = Vec::new(alloc);
@@ -142,6 +183,22 @@ init|--lanes|4294967300
 init|--lanes|4|--lanes|4
 init|--lanes=4|--lanes=4
 init|4";
+
+/// A row a line: owners that are no names of users, and lines without a path.
+const OWNERS_REFUSED: &str = "import
+import|--owner|bob
+import|/lab|--owner|g:
+import|/lab|--owner=g:lab
+import|/lab|--owner=a\u{7f}
+import|/lab|--owner|
+import|/lab|--owner=
+import|/lab|--owner|-bob
+import|/lab|--owner
+import|/lab|--owner|bob|--owner|bob
+import|/lab|--config|c
+import|lab|--owner|bob
+import|/lab|/lab
+export|/lab|--owner|bob";
 
 /// A row a line: no path, or more than one; and texts that are none.
 const PATHS_REFUSED: &str = "export
@@ -225,5 +282,5 @@ sess
 serve
 exports|/home/lab
 /home/lab|export
-import|/home/lab
+imports|/home/lab
 sample|1";

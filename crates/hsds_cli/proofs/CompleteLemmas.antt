@@ -1,10 +1,15 @@
 -- A command that finds what it needs ends as it should, or for want of memory.
-use Rattle.std.proofs.Common.{◌≡◌, ◌≢◌, ◌⊎◌, inl, inr, ℕ, ◌++◌, ◌∙◌, List, Option, Some, None, Result, Ok, Err, refl, sym, ap}
+use Rattle.std.proofs.Common.{◌≡◌, ◌≢◌, ◌⊎◌, inl, inr, ℕ, ◌≤◌, ◌++◌, ◌∙◌, List, length, Option, Some, None, Result, Ok, Err, refl, sym, ap, subst, append-nil, length-append, arith}
 use Rattle.std.specs.Io.KnownBytes.{Consumes}
 use Rattle.edge_traits.specs.declared.disk.Disk.{Ghosts}
-use Rattle.command_words.specs.Commands.{Command, export, init, session, verify}
+use Rattle.command_words.specs.Commands.{Command, export, import, init, session, verify}
 use Rattle.flush_journal.specs.declared.why.Why.{Why}
 use Rattle.flush_journal.specs.declared.why.Why.TheVariants as why
+use Rattle.json_import.specs.Loads.{LoadsText}
+use Rattle.json_import.specs.Texts.{most_bytes}
+use Rattle.kept_imports.specs.Documents.{IsRefused}
+use Rattle.kept_journals.specs.Opening.{IsOf}
+use Rattle.kept_sessions.specs.Sessions.{IsRecovered}
 use Rattle.link_service.specs.Links.{IsPeaceful, IsTranscript, spellings}
 use Rattle.link_service.specs.declared.end.LinkEnd.{LinkEnd}
 use Rattle.link_service.specs.declared.end.LinkEnd.TheVariants as end
@@ -13,8 +18,11 @@ use Rattle.rest_session.specs.Sessions.{IsServed}
 use Rattle.kept_sessions.specs.declared.outcome.Closed.{Closed}
 use Rattle.hsds_cli.specs.declared.status.Status.{Status}
 use Rattle.hsds_cli.specs.declared.status.Status.TheVariants.{Done, Words, Configuration, ReadFault, WriteFault, DiskFault, NotAJournal, Refused, JournalExists, InputCut, UsedUp, Budget, NoMemory}
-use Rattle.hsds_cli.specs.Completeness.{IsConfigured, IsUndisturbed, IsWholeInput}
+use Rattle.service_core.specs.Steps.{World}
+use Rattle.source_texts.specs.Texts.{IsLongText, IsWholeText}
+use Rattle.hsds_cli.specs.Completeness.{HasAdoptable, IsConfigured, IsUndisturbed, IsWholeInput}
 use Rattle.hsds_cli.specs.Exports.{IsExported}
+use Rattle.hsds_cli.specs.Imports.{IsImported}
 use Rattle.hsds_cli.specs.Makings.{IsInit}
 use Rattle.hsds_cli.specs.Openings.{IsSession, IsVerified, Serves, status_after}
 use Rattle.hsds_cli.specs.Runs.{IsCommanded}
@@ -36,6 +44,31 @@ spelled text is none = by text is.told none where
   by (Some x) told none =
       let same : x ≡ is.bytes = cc in
       let no : None ≡ Some is.config = sym none ∙ ap configured same ∙ is.spelled in cc
+
+-- a text that was read is the one that is told, and no longer than it may be
+whole_is : (left after : Option (List ℕ)) (bytes text : List ℕ) → left ≡ Some text → IsWholeText most_bytes left after bytes → bytes ≡ text
+whole_is None after bytes text told whole = let wrong : None ≡ Some text = told in cc
+whole_is (Some x) None bytes text told whole = absurd whole.taken
+whole_is (Some x) (Some y) bytes text told whole =
+    let same : x ≡ text = cc in
+    sym (append-nil bytes) ∙ ap (λ (l : List ℕ). bytes ++ l) (sym whole.end) ∙ sym whole.taken ∙ same
+
+not_long : (left after : Option (List ℕ)) (text : List ℕ) → left ≡ Some text → length text ≤ most_bytes → IsLongText most_bytes left after → ⊥
+not_long None after text told short long = let wrong : None ≡ Some text = told in cc
+not_long (Some x) None text told short long = absurd long.1
+not_long (Some x) (Some y) text told short (front, taken, past) =
+    let same : x ≡ text = cc in
+    omega (arith, short, past, ap length (sym same ∙ taken), length-append front y)
+
+-- a document that may be adopted isn't refused
+accepted : (file path : List ℕ) (left after : Option (List ℕ)) (w : World) → HasAdoptable file path left → IsOf file (λ c. IsRecovered c.held w) → IsRefused left after w path → ⊥
+accepted file path left after w has kept (inl (inl long)) = not_long left after has.text has.told has.loads.short long
+accepted file path left after w has kept (inl (inr (bytes, whole, none))) =
+    none has.document (subst (λ (l : List ℕ). LoadsText l has.document) (sym (whole_is left after bytes has.text has.told whole)) has.loads)
+accepted file path left after w has kept (inr (l, cause, document, is)) =
+    let loads : LoadsText has.text l = subst (λ (t : List ℕ). LoadsText t l) (whole_is left after document.text has.text has.told document.whole) document.loads in
+    let wrong : None ≡ Some cause = sym (has.free w kept l loads) ∙ is in
+    cc
 
 -- a peaceful end is no cut, and none of the budget
 peaceful_status : (e : LinkEnd) (last : Result ℕ Why) → IsPeaceful e → (status_after e last ≢ InputCut) × (status_after e last ≢ Budget)
@@ -116,13 +149,29 @@ module _ {D : Type 0} (met : Ghosts D) (honest : met.honest) (sides : Sides) (be
   of_export path journal DiskFault h u = absurd (u.calm.disk h.0)
   of_export path journal NotAJournal h u = absurd (u.finds.0.world (h.0 honest))
   of_export path journal UsedUp h u = absurd (u.finds.0.run (h.0 honest))
-  of_export path journal Refused h u = absurd (u.finds.1 h.world (h.recovered honest) h.whole h.withheld)
+  of_export path journal Refused h u = absurd (u.finds.1 h.world (h.recovered honest) h.withheld)
   of_export path journal Words h u = absurd h
   of_export path journal Configuration h u = absurd h
   of_export path journal ReadFault h u = absurd h
   of_export path journal JournalExists h u = absurd h
   of_export path journal InputCut h u = absurd h
   of_export path journal Budget h u = absurd h
+
+  of_import : (path journal owner : List ℕ) (status : Status) → IsImported met path owner sides before after status → IsUndisturbed met (import path journal owner) sides before after closed → IsEnd status
+  of_import path journal owner Done h u = inl refl
+  of_import path journal owner NoMemory h u = inr refl
+  of_import path journal owner ReadFault h u = absurd (u.calm.input h.0)
+  of_import path journal owner WriteFault h u = absurd (u.calm.out h.0)
+  of_import path journal owner DiskFault h u = absurd (u.calm.disk h.0)
+  of_import path journal owner NotAJournal h u = absurd (u.finds.0.world (h.0 honest))
+  of_import path journal owner Refused h u = absurd (accepted (met.reads before) path sides.left_before sides.left_after h.0.first u.finds.1 (h.0.alone.recovered honest) h.1)
+  of_import path journal owner UsedUp (inl (none, same)) u = absurd (u.finds.0.run (none honest))
+  of_import path journal owner UsedUp (inr stopped) u = absurd (u.room stopped)
+  of_import path journal owner Words h u = absurd h
+  of_import path journal owner Configuration h u = absurd h
+  of_import path journal owner JournalExists h u = absurd h
+  of_import path journal owner InputCut h u = absurd h
+  of_import path journal owner Budget h u = absurd h
 
   of_session : (config journal : List ℕ) (status : Status) → IsSession met sides before after closed status → IsUndisturbed met (session config journal) sides before after closed → IsEnd status
   of_session config journal Done h u = inl refl
@@ -145,4 +194,5 @@ module _ {D : Type 0} (met : Ghosts D) (honest : met.honest) (sides : Sides) (be
   complete (init config journal lanes) status h u = of_init lanes config journal status h.0 u
   complete (session config journal) status h u = of_session config journal status h u
   complete (export path journal) status h u = of_export path journal status h.0 u
+  complete (import path journal owner) status h u = of_import path journal owner status h.0 u
   complete (verify journal) status h u = of_verify journal status h.0 u

@@ -2,6 +2,7 @@ mod ClosedLemmas
 mod CompleteLemmas
 mod Configurations
 mod ExportLemmas
+mod ImportLemmas
 mod InitLemmas
 mod Printing
 mod SessionLemmas

@@ -79,7 +79,7 @@ module _ {D : Type 0} (met : Ghosts D) (sides : Sides) (before after : D) where
     spelled = spelled;
     first = e.0;
     tokens = e.1 ∙ known;
-    recovered = e.2;
+    begun = e.2;
     link_closed = closed;
     is_closed = refl;
     last = last;

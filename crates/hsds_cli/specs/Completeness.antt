@@ -2,16 +2,18 @@
 --     Finds met command sides before      what the command needs stands there
 --     IsCalm met sides before after      no count of faults rose
 --     MeetsRoom met command sides before after closed      a keeping was refused for want of room
-use Rattle.std.specs.Prelude.{◌≡◌, ◌≢◌, ◌⊎◌, ℕ, ◌<◌, List, take, length, Option, Some, Err}
-use Rattle.described_worlds.specs.Told.{AreWhole}
+use Rattle.std.specs.Prelude.{◌≡◌, ◌≢◌, ◌⊎◌, ℕ, ◌<◌, List, take, length, Option, Some, None, Err}
+use Rattle.domain_imports.specs.Faults.{adopt_fault}
 use Rattle.edge_traits.specs.Causes.{Rose}
 use Rattle.edge_traits.specs.declared.disk.Disk.{Ghosts}
-use Rattle.command_words.specs.Commands.{Command, export, init, session, verify}
+use Rattle.command_words.specs.Commands.{Command, export, import, init, session, verify}
 use Rattle.configuration.specs.declared.config.Config.{Config}
 use Rattle.flush_journal.specs.Files.{magic}
 use Rattle.flush_journal.specs.declared.why.Why.TheVariants as why
 use Rattle.http_wire.specs.Messages.{RequestMessage}
 use Rattle.json_export.specs.Documents.{doc}
+use Rattle.json_import.specs.Loads.{LoadsText}
+use Rattle.json_import.specs.declared.loaded.Loaded.{Loaded}
 use Rattle.kept_journals.specs.Opening.{IsOf}
 use Rattle.kept_sessions.specs.Sessions.{IsRecovered, IsUnbegun}
 use Rattle.kept_sessions.specs.declared.outcome.Closed.{Closed}
@@ -20,6 +22,7 @@ use Rattle.link_service.specs.declared.end.TheConstants.{BUDGET}
 use Rattle.hsds_cli.specs.declared.status.Status.TheVariants.{UsedUp}
 use Rattle.service_core.specs.Steps.{World}
 use Rattle.hsds_cli.specs.Exports.{IsWithheld}
+use Rattle.hsds_cli.specs.Imports.{IsStopped}
 use Rattle.hsds_cli.specs.Makings.{MakesNone}
 use Rattle.hsds_cli.specs.Openings.{HasNoRun, HasNoWorld, Serves}
 use Rattle.hsds_cli.specs.Sides.{ConfigFailed, InputFailed, OutFailed, Sides, configured}
@@ -45,12 +48,21 @@ pub record IsOpenable (file : List ℕ) : Type 0 where
 
 -- the world that the journal keeps has a document at the path that may be given
 abbrev pub HasDocument : List ℕ → List ℕ → Type 0
-HasDocument file path = (w : World) → IsOf file (λ c. IsRecovered c.held w) → AreWhole w.objects → IsWithheld (doc w path) → ⊥
+HasDocument file path = (w : World) → IsOf file (λ c. IsRecovered c.held w) → IsWithheld (doc w path) → ⊥
+
+-- the input is told, its text holds a document, and nothing speaks against that as a new domain at the path of the world that the journal keeps
+pub record HasAdoptable (file path : List ℕ) (left : Option (List ℕ)) : Type 0 where
+  pub text : List ℕ
+  pub told : left ≡ Some text
+  pub document : Loaded
+  pub loads : LoadsText text document
+  pub free : (w : World) → IsOf file (λ c. IsRecovered c.held w) → (l : Loaded) → LoadsText text l → adopt_fault w.door path l ≡ None
 
 abbrev pub Finds : {D : Type 0} (met : Ghosts D) → Command → Sides → D → Type 0
 Finds met (init config journal lanes) sides before = IsConfigured sides.text × (take 8 (met.reads before) ≢ magic)
 Finds met (session config journal) sides before = IsConfigured sides.text × IsOpenable (met.reads before) × IsWholeInput sides.left_before
 Finds met (export path journal) sides before = IsOpenable (met.reads before) × HasDocument (met.reads before) path
+Finds met (import path journal owner) sides before = IsOpenable (met.reads before) × HasAdoptable (met.reads before) path sides.left_before
 Finds met (verify journal) sides before = IsOpenable (met.reads before)
 
 pub record IsCalm {D : Type 0} (met : Ghosts D) (sides : Sides) (before after : D) : Type 0 where
@@ -66,6 +78,8 @@ MeetsRoom met (session config journal) sides before after closed =
     ((end : ℕ) × (need : ℕ) × (room : ℕ) × IsUnbegun met before after (why.JournalFull end need room))
     ⊎ ((s : Serves met sides before after closed UsedUp) × (end : ℕ) × (need : ℕ) × (room : ℕ) × (s.last ≡ Err (why.JournalFull end need room)))
 MeetsRoom met (export path journal) sides before after closed = ⊥
+MeetsRoom met (import path journal owner) sides before after closed =
+    (end : ℕ) × (need : ℕ) × (room : ℕ) × IsStopped met path owner sides before after (why.JournalFull end need room)
 MeetsRoom met (verify journal) sides before after closed = ⊥
 
 -- the command finds what it needs, nothing fails, and each keeping has room

@@ -1,16 +1,20 @@
 -- What `export` does with the journal that stands on a disk.
 --     document_line tree      the text of a document, and a line feed
---     IsGiven, IsWithheld found      the document may be given, or there is none that may
+--     IsGiven, IsWithheld found      the document may be given, and is read back, or there is none that may
+--     AreLoaded world path tree      what is printed of it is loaded as what the domain holds
 --     Exports, ExportsNone      the document of the world that the journal keeps was printed, or refused
 --     IsExported met path ..      what `export` does, by its status
 use Rattle.std.specs.Prelude.{◌≡◌, ◌⊎◌, ◌^◌, ◌≤◌, ⊤, ℕ, List, [], ◌∷◌, ◌++◌, take, length, Option, Some, None}
 use Rattle.std.specs.Io.KnownBytes.{Appends, Keeps}
 use Rattle.serde_json.specs.Data.{Data}
 use Rattle.serde_json.specs.Written.{compact_text}
-use Rattle.described_worlds.specs.Told.{AreWhole}
+use Rattle.document_round_trips.specs.Held.{held_in}
+use Rattle.domain_documents.specs.Printed.{ReadsAs}
+use Rattle.domain_documents.specs.declared.home.Home.{Home}
 use Rattle.edge_traits.specs.Causes.{Rose}
 use Rattle.edge_traits.specs.declared.disk.Disk.{Ghosts}
-use Rattle.json_export.specs.Documents.{IsTooLong, doc}
+use Rattle.json_export.specs.Documents.{IsTooLong, doc, home_at}
+use Rattle.json_import.specs.Loads.{LoadsText}
 use Rattle.kept_journals.specs.Opening.{IsOf}
 use Rattle.kept_sessions.specs.Sessions.{IsRecovered}
 use Rattle.service_core.specs.Steps.{World}
@@ -24,9 +28,18 @@ use Rattle.hsds_cli.specs.Sides.{IsUntouched, OutFailed, Sides}
 abbrev pub document_line : Data → List ℕ
 document_line tree = compact_text tree ++ 10 ∷ []
 
--- this is the document, and its text isn't too long
-abbrev pub IsGiven : Option Data → Data → Type 0
-IsGiven found tree = (found ≡ Some tree) × (length (compact_text tree) ≤ 2 ^ 27)
+-- this is the document; its text isn't too long, and is read as the document
+pub record IsGiven (found : Option Data) (tree : Data) : Type 0 where
+  pub is : found ≡ Some tree
+  pub short : length (compact_text tree) ≤ 2 ^ 27
+  pub reads : ReadsAs (compact_text tree) tree
+
+-- its text, and its line where that isn't too long, is loaded as what the domain at the path holds
+abbrev pub AreLoaded : World → List ℕ → Data → Type 0
+AreLoaded world path tree =
+    (home : Home) → home_at world path ≡ Some home
+    → LoadsText (compact_text tree) (held_in world.objects home)
+    × (length (document_line tree) ≤ 2 ^ 27 → LoadsText (document_line tree) (held_in world.objects home))
 
 -- there is no document, or its text is too long
 abbrev pub IsWithheld : Option Data → Type 0
@@ -36,9 +49,9 @@ IsWithheld found = (found ≡ None) ⊎ IsTooLong found
 pub record Exports {D : Type 0} (met : Ghosts D) (path : List ℕ) (sides : Sides) (before : D) : Type 0 where
   pub world : World
   pub recovered : met.honest → IsOf (met.reads before) (λ c. IsRecovered c.held world)
-  pub whole : AreWhole world.objects
   pub tree : Data
   pub given : IsGiven (doc world path) tree
+  pub loads : met.honest → AreLoaded world path tree
   pub printed : ℕ
   pub left : Keeps sides.left_before sides.left_after
   pub appended : Appends sides.held_before sides.held_after (take printed (document_line tree))
@@ -47,7 +60,6 @@ pub record Exports {D : Type 0} (met : Ghosts D) (path : List ℕ) (sides : Side
 pub record ExportsNone {D : Type 0} (met : Ghosts D) (path : List ℕ) (sides : Sides) (before : D) : Type 0 where
   pub world : World
   pub recovered : met.honest → IsOf (met.reads before) (λ c. IsRecovered c.held world)
-  pub whole : AreWhole world.objects
   pub withheld : IsWithheld (doc world path)
   pub untouched : IsUntouched sides
 

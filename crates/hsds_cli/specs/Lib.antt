@@ -1,9 +1,9 @@
 pub mod Status
-pub mod Texts
 pub mod Lines
 pub mod Sides
 pub mod Makings
 pub mod Openings
 pub mod Exports
+pub mod Imports
 pub mod Runs
 pub mod Completeness

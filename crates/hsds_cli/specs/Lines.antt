@@ -2,6 +2,7 @@
 use Rattle.std.specs.Prelude.{ℕ, ◌≤◌, List, [], ◌∷◌, ◌++◌, length, take, Option, codes, decimal}
 use Rattle.std.specs.Io.KnownBytes.{Appends, Keeps}
 use Rattle.edge_traits.specs.Causes.{Rose}
+use Rattle.domain_imports.specs.declared.counts.Counts.{Counts}
 use Rattle.domains.specs.Changes.{domain_count, folder_count}
 use Rattle.domains.specs.Contents.{Contents}
 use Rattle.flush_journal.specs.declared.report.Report.{Report}
@@ -21,6 +22,10 @@ abbrev pub verify_line : Report → ℕ → List ℕ
 verify_line r run =
     codes "version " ++ decimal r.version ++ codes ", lanes " ++ decimal r.lanes ++ codes ", run " ++ decimal run ++ codes ", batches " ++ decimal r.batches ++ codes ", end " ++ decimal r.end
     ++ 10 ∷ []
+
+-- what `import` prints of how much the document held
+abbrev pub import_line : Counts → List ℕ
+import_line c = codes "groups " ++ decimal c.groups ++ codes ", datasets " ++ decimal c.datasets ++ codes ", datatypes " ++ decimal c.datatypes ++ 10 ∷ []
 
 -- the line was written, or the output had a fault and has a front of it
 abbrev pub IsPrinted : List ℕ → Option (List ℕ) → Option (List ℕ) → ℕ → ℕ → Status → Type 0

@@ -12,7 +12,7 @@ use Rattle.flush_journal.specs.declared.why.Why.TheVariants as why
 use Rattle.kept_journals.specs.Opening.{IsOf}
 use Rattle.kept_journals.specs.declared.faults.OpenFault.{OpenFault}
 use Rattle.kept_journals.specs.declared.faults.OpenFault.TheVariants as fault
-use Rattle.kept_sessions.specs.Sessions.{HoldsHeld, IsLinkKept, IsRecovered, IsUnbegun, LeavesSince}
+use Rattle.kept_sessions.specs.Sessions.{HoldsHeld, IsBegun, IsLinkKept, IsUnbegun, LeavesSince}
 use Rattle.kept_sessions.specs.declared.outcome.Closed.{Closed}
 use Rattle.kept_sessions.specs.declared.outcome.Outcome.{Outcome}
 use Rattle.kept_sessions.specs.declared.outcome.Outcome.TheVariants as outcome
@@ -23,7 +23,6 @@ use Rattle.register.specs.Kept.{IsUsedUp}
 use Rattle.rest_session.specs.Sessions.{Served}
 use Rattle.service_core.specs.Records.{DescribesWorld, IsWorldFault}
 use Rattle.service_core.specs.Steps.{World}
-use Rattle.service_core.specs.Worlds.{seen}
 use Rattle.hsds_cli.specs.declared.status.Status.{Status}
 use Rattle.hsds_cli.specs.declared.status.Status.TheVariants.{Done, Words, Configuration, ReadFault, WriteFault, DiskFault, NotAJournal, Refused, JournalExists, InputCut, UsedUp, Budget, NoMemory}
 use Rattle.hsds_cli.specs.Lines.{verify_line}
@@ -124,7 +123,7 @@ pub record Serves {D : Type 0} (met : Ghosts D) (sides : Sides) (before after : 
   pub spelled : Spells sides.text config
   pub first : Served met
   pub tokens : first.tokens ≡ config.tokens
-  pub recovered : met.honest → IsOf (met.reads before) (λ c. IsRecovered c.held (seen first.world))
+  pub begun : met.honest → IsOf (met.reads before) (λ c. IsBegun c first)
   pub link_closed : Closed
   pub is_closed : closed ≡ Some link_closed
   pub last : Result ℕ Why

@@ -2,12 +2,13 @@
 use Rattle.std.specs.Prelude.{◌≡◌, ◌⊎◌, ℕ, List, Option, Some, None, ⊤}
 use Rattle.edge_traits.specs.Causes.{Rose}
 use Rattle.edge_traits.specs.declared.disk.Disk.{Ghosts}
-use Rattle.command_words.specs.Commands.{Command, command_of, export, init, session, verify}
+use Rattle.command_words.specs.Commands.{Command, command_of, export, import, init, session, verify}
 use Rattle.flush_journal.specs.Unchanged.{SameBytes}
 use Rattle.kept_sessions.specs.declared.outcome.Closed.{Closed}
 use Rattle.hsds_cli.specs.declared.status.Status.{Status}
 use Rattle.hsds_cli.specs.declared.status.Status.TheVariants.{Words, Configuration, ReadFault, NoMemory}
 use Rattle.hsds_cli.specs.Exports.{IsExported}
+use Rattle.hsds_cli.specs.Imports.{IsImported}
 use Rattle.hsds_cli.specs.Makings.{IsAsBefore, IsInit}
 use Rattle.hsds_cli.specs.Openings.{IsSession, IsVerified}
 use Rattle.hsds_cli.specs.Sides.{Sides, SpellsNone}
@@ -23,6 +24,7 @@ IsCommanded met (Some (init config journal lanes)) sides before after closed sta
 IsCommanded met (Some (session config journal)) sides before after closed status = IsSession met sides before after closed status
 IsCommanded met (Some (export path journal)) sides before after closed status =
     IsExported met path sides before after status × (met.honest → SameBytes met before after) × (closed ≡ None)
+IsCommanded met (Some (import path journal owner)) sides before after closed status = IsImported met path owner sides before after status × (closed ≡ None)
 IsCommanded met (Some (verify journal)) sides before after closed status =
     IsVerified met sides before after status × (met.honest → SameBytes met before after) × (closed ≡ None)
 

@@ -6,7 +6,7 @@ use Rattle.edge_traits.specs.declared.sink.Sink.{Ghosts as Sinks}
 use Rattle.edge_traits.specs.declared.source.Source.{Ghosts as Sources}
 use Rattle.configuration.specs.declared.config.Config.{Config}
 use Rattle.configuration.specs.Configured.{config_of, document_in}
-use Rattle.hsds_cli.specs.declared.text.TheConstants.{CONFIG_LIMIT}
+use Rattle.hsds_cli.specs.declared.configured.TheConstants.{CONFIG_LIMIT}
 
 -- the configuration that a text within the limit spells
 abbrev pub configured : List ℕ → Option Config

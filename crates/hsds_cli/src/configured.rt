@@ -6,10 +6,13 @@ ghost use Rattle.hsds_cli.specs.Runs.{IsRefusal};
 ghost use Rattle.hsds_cli.specs.Sides.{Spells};
 
 use crate::status::Status;
-use crate::text::read_text;
 use configuration::{Config, read_config};
 use edge_traits::Source;
+use source_texts::read_text;
 use std::alloc::Global;
+
+/// The most bytes of a configuration.
+pub const CONFIG_LIMIT: usize = 1 << 20;
 
 /// The configuration that a source spells.
 pub fn configured<C: Source>(alloc: Global, config: &mut C) -> Result<Config, Status>
@@ -20,6 +23,6 @@ pub fn configured<C: Source>(alloc: Global, config: &mut C) -> Result<Config, St
         (C.faults config.old) (C.faults config.new) status) }
     ensures later { C.faults config.old ≤ C.faults config.new }
 {
-    let text = read_text(alloc, config)?;
+    let text = read_text(alloc, config, CONFIG_LIMIT)?;
     Ok(read_config(alloc, text.as_slice())?)
 }

@@ -1,6 +1,7 @@
 //! Exchanges over one link: requests, and what they are to be answered.
 //!
-//! In the texts `~` stands for the middle of the id of an object that was made in run 1, and `#` for that of the root.
+//! In the texts `~` stands for the middle of the id of an object that was made in run 1, `#` for that of the root, and `@` for that
+//! of an object of domain 2 that was made in run 1.
 
 use crate::tests::{LAB, plain, session};
 use std::alloc::{AllocError, Global};
@@ -9,6 +10,9 @@ use std::test::Fail;
 const MADE: &str = "-00000000-0001-8000-8000-01000000000";
 
 const ROOT: &str = "-00000000-0001-8000-8000-000000000000";
+
+/// The middle of an id of domain 2 in run 1.
+pub const SECOND: &str = "-00000000-0002-8000-8000-01000000000";
 
 pub const OK: &str = "200 OK";
 
@@ -44,7 +48,8 @@ pub struct Exchange {
 
 /// A text with the ids that it stands for.
 pub fn spelled(alloc: Global, text: &str) -> Result<String, AllocError> {
-    text.replace(alloc, "~", MADE)?.replace(alloc, "#", ROOT)
+    let text = text.replace(alloc, "~", MADE)?;
+    text.replace(alloc, "#", ROOT)?.replace(alloc, "@", SECOND)
 }
 
 /// The bytes of an answer, of which the status tells further lines.

@@ -10,6 +10,7 @@ use crate::command_end::CommandEnd;
 use crate::operate::{opening_status, print};
 use crate::status::Status;
 use described_worlds::objects_are_whole;
+use domain_imports::exports_are_loaded;
 use edge_traits::{Disk, Sink};
 use json_export::document_text;
 use kept_journals::{OpenRefused, Opened, open_world};
@@ -52,6 +53,7 @@ pub fn export<K: Sink, D: Disk>(
         },
     };
     objects_are_whole(&world);
+    exports_are_loaded();
     let status = tell(alloc, &world, path, out);
     CommandEnd {
         status,

@@ -243,7 +243,7 @@ fn the_last_run_is_used_once(rt: HostRuntime) -> Result<(), Fail> {
 // ---- faults of the disk
 
 /// The numbers of many calls, from one on.
-fn from_on(alloc: Global, first: u64) -> Result<Vec<u64>, AllocError> {
+pub fn from_on(alloc: Global, first: u64) -> Result<Vec<u64>, AllocError> {
     let mut calls = Vec::new(alloc);
     for call in first..first.saturating_add(40) {
         calls.push(call)?;

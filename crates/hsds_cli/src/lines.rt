@@ -3,8 +3,9 @@
 ghost use Rattle.std.specs.Prelude.{◌≡◌, ◌≤◌, ℕ, take, length, string_bytes, IfOk, OnOk, OnErr};
 ghost use Rattle.std.specs.Io.KnownBytes.{Appends};
 ghost use Rattle.edge_traits.specs.Causes.{HasCause};
-ghost use Rattle.hsds_cli.specs.Lines.{made_line, verify_line};
+ghost use Rattle.hsds_cli.specs.Lines.{import_line, made_line, verify_line};
 
+use domain_imports::Counts;
 use flush_journal::Report;
 use std::alloc::{AllocError, Global};
 
@@ -31,4 +32,16 @@ pub fn report_line(alloc: Global, report: Report, run: u32) -> Result<String, Al
         end,
     } = report;
     format!(in alloc; "version {version}, lanes {lanes}, run {run}, batches {batches}, end {end}\n")
+}
+
+/// What `import` prints of how much the document held.
+pub fn counts_line(alloc: Global, counts: Counts) -> Result<String, AllocError>
+    ensures { IfOk result (λ line. string_bytes line ≡ import_line counts) }
+{
+    let Counts {
+        groups,
+        datasets,
+        datatypes,
+    } = counts;
+    format!(in alloc; "groups {groups}, datasets {datasets}, datatypes {datatypes}\n")
 }

@@ -103,8 +103,8 @@ fn closed_by(outcome: &Outcome) -> Option<Closed>
     }
 }
 
-// The status where the journal refused a batch.
-fn refusal_status(why: Why) -> Status
+/// The status where the journal refused a batch.
+pub fn refusal_status(why: Why) -> Status
     ensures { result ≡ refusal_status why }
 {
     match why {

@@ -2,9 +2,9 @@ ghost use Rattle.std.specs.Prelude.{◌≡◌};
 ghost use Rattle.hsds_cli.specs.Status.{config_status, export_status, number_of, text_status, word_of};
 ghost use Rattle.hsds_cli.specs.declared.status.Status.{Status};
 
-use crate::text::TextFault;
 use configuration::ConfigFault;
 use json_export::ExportFault;
+use source_texts::TextFault;
 
 /// How a run of the program ends.
 #[derive(Clone, Copy, Debug, PartialEq, Eq)]
@@ -23,7 +23,7 @@ pub enum Status {
     DiskFault,
     /// No world stands on the disk.
     NotAJournal,
-    /// No document is given.
+    /// No document is given, or one isn't taken.
     Refused,
     /// A journal stands on the disk already.
     JournalExists,

@@ -13,6 +13,7 @@ returns c =
     let init = c.in_ok-app.ensures ∙ ap₂ both c.bare_app-app.ensures.app c.in_ok-init_app.ensures.0 in
     let session = c.in_ok-app-2.ensures ∙ ap₂ both init c.in_ok-session_app.ensures.0 in
     let export = c.in_ok-app-3.ensures ∙ ap₂ both session c.in_ok-export_app.ensures.0 in
-    IfOk-weaker c.with_command-4.result _ _
-    (λ app is. is ∙ ap₂ both export c.in_ok-verify_app.ensures.0)
-    c.with_command-4.ensures
+    let import = c.in_ok-app-4.ensures ∙ ap₂ both export c.in_ok-import_app.ensures.0 in
+    IfOk-weaker c.with_command-5.result _ _
+    (λ app is. is ∙ ap₂ both import c.in_ok-verify_app.ensures.0)
+    c.with_command-5.ensures

@@ -41,6 +41,6 @@ returns-clause-exported g c = λ text left config input.
       out_before = g.K.Sink.faults c.args.out.now;
       out_after = g.K.Sink.faults c.tell-status.new.out;
     } in
-    exported g.D.Disk c.args.path.now sides c.args.disk c.into_disk.result (seen c.in-Ok.field-0.world)
-    (λ honest. let o = c.in-Ok.ensures.opened honest in (o.0, o.1, recovered o.0.held o.0.lanes c.in-Ok.field-0.world o.3))
-    c.objects_are_whole.ensures (keeps left left refl) c.tell-status.result c.tell-status.ensures.told
+    exported g.D.Disk c.args.path.now sides c.args.disk c.into_disk.result c.exports_are_loaded.ensures.loads c.exports_are_loaded.ensures.line (seen c.in-Ok.field-0.world)
+    (λ honest. let o = c.in-Ok.ensures.opened honest in (o.0, o.1, recovered o.0.held o.0.lanes c.in-Ok.field-0.world o.3 c.objects_are_whole.ensures))
+    (keeps left left refl) c.tell-status.result c.tell-status.ensures.told
