@@ -8,8 +8,8 @@ use Rattle.hyperslab.specs.Selected.{IsSlab, cell_at, extents}
 use Rattle.hyperslab.specs.declared.Slab.{Slab}
 use Rattle.hyperslab.proofs.CellLemmas.{cell_once}
 use Rattle.hdf_values.specs.Nested.{piece_at}
-use Rattle.slab_runs.specs.Runs.{AreAll, AreBoxed, AreOnce, AreRuns, InBox, IsBoxed, inner, place_at, offset_at, run_at}
-use Rattle.slab_runs.specs.declared.runs.Run.{Run}
+use Rattle.hyperslab.specs.Runs.{AreAll, AreBoxed, AreOnce, AreRuns, InBox, IsBoxed, inner, place_at, offset_at, run_at}
+use Rattle.hyperslab.specs.declared.runs.Run.{Run}
 use Rattle.box_copies.specs.Boxes.{AreFilled, AreRead, AreWritten, offset}
 use Rattle.box_copies.specs.Moves.{AreDistinct, AreFit, AreMoved, in_box, in_selection, source_of}
 use Rattle.box_copies.specs.declared.moves.Way.TheVariants.{Fill}

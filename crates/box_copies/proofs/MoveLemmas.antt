@@ -3,8 +3,8 @@ use Rattle.std.proofs.Common.{◌≡◌, ℕ, ◌+◌, ◌<◌, List, ◌∷◌,
 use Rattle.std.proofs.lemmas.Bool.{cases_lt}
 use Rattle.std.proofs.lemmas.List.{drop_more, length-drop}
 use Rattle.hdf_values.specs.Nested.{piece_at}
-use Rattle.slab_runs.specs.Runs.{run_at}
-use Rattle.slab_runs.specs.declared.runs.Run.{Run}
+use Rattle.hyperslab.specs.Runs.{run_at}
+use Rattle.hyperslab.specs.declared.runs.Run.{Run}
 use Rattle.strided_copies.specs.Strides.{AreCopied, AreKept, nth}
 use Rattle.strided_copies.specs.declared.copies.Strided.{Strided}
 use Rattle.box_copies.specs.Moves.{AreDistinct, AreMovedTo}

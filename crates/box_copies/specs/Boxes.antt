@@ -6,7 +6,7 @@ use Rattle.hyperslab.specs.Selected.{IsSlab, cell_at, extents}
 use Rattle.hyperslab.specs.declared.Slab.{Slab}
 use Rattle.chunk_layout.specs.Chunks.{IsChunk}
 use Rattle.hdf_values.specs.Nested.{piece_at}
-use Rattle.slab_runs.specs.Runs.{InBox, offset_from}
+use Rattle.hyperslab.specs.Runs.{InBox, offset_from}
 
 -- a selection, and a box of as many axes
 pub record IsBox (s : Slab) (origin dims : List ℕ) : Type 0 where

@@ -1,8 +1,8 @@
 -- Copies of runs, from elements a stride apart to others.
 use Rattle.std.specs.Prelude.{◌≡◌, ℕ, ◌<◌, ◌≤◌, List, length}
 use Rattle.hdf_values.specs.Nested.{piece_at}
-use Rattle.slab_runs.specs.Runs.{IsStep, run_at}
-use Rattle.slab_runs.specs.declared.runs.Run.{Run}
+use Rattle.hyperslab.specs.Runs.{IsStep, run_at}
+use Rattle.hyperslab.specs.declared.runs.Run.{Run}
 use Rattle.strided_copies.specs.Strides.{Fit, nth}
 use Rattle.strided_copies.specs.declared.copies.Strided.{Strided}
 use Rattle.box_copies.specs.declared.moves.Way.{Way}

@@ -8,7 +8,6 @@ ghost use Rattle.box_copies.specs.Boxes.{AreFilled, AreRead, AreWritten, IsBox};
 use crate::moves::{Way, copy_runs};
 use hyperslab::Slab;
 use shapes::Dims;
-use slab_runs::runs_in;
 
 /// Copies the elements of the selected cells in a box from the box's bytes to the selection's.
 pub fn read_box(
@@ -26,7 +25,7 @@ pub fn read_box(
     ensures read { AreRead slab.now origin.now chunk.now size buffer.now out.old out.new }
     ensures len { length out.new ≡ length out.old }
 {
-    copy_runs(out, buffer, runs_in(slab, origin, chunk), size, Way::Read);
+    copy_runs(out, buffer, slab.runs_in(origin, chunk), size, Way::Read);
 }
 
 /// Puts one element in the selection's bytes for each selected cell in a box.
@@ -38,7 +37,7 @@ pub fn fill_box(out: &mut [u8], blank: &[u8], slab: &Slab, origin: &Dims, chunk:
     ensures filled { AreFilled slab.now origin.now chunk.now size blank.now out.old out.new }
     ensures len { length out.new ≡ length out.old }
 {
-    copy_runs(out, blank, runs_in(slab, origin, chunk), size, Way::Fill);
+    copy_runs(out, blank, slab.runs_in(origin, chunk), size, Way::Fill);
 }
 
 /// Copies the elements of the selected cells in a box from the selection's bytes to the box's.
@@ -57,11 +56,5 @@ pub fn write_box(
     ensures written { AreWritten slab.now origin.now chunk.now size bytes.now buffer.old buffer.new }
     ensures len { length buffer.new ≡ length buffer.old }
 {
-    copy_runs(
-        buffer,
-        bytes,
-        runs_in(slab, origin, chunk),
-        size,
-        Way::Write,
-    );
+    copy_runs(buffer, bytes, slab.runs_in(origin, chunk), size, Way::Write);
 }

@@ -3,7 +3,7 @@
 ghost use Rattle.std.specs.Prelude.{◌≡◌, ◌≤◌, length};
 ghost use Rattle.box_copies.specs.Moves.{AreDistinct, AreFit, AreMoved, source_of, target_of};
 
-use slab_runs::{Run, Runs};
+use hyperslab::{Run, Runs};
 use strided_copies::{Strided, copy_strided};
 
 /// What is copied to what.

@@ -14,3 +14,7 @@ pub mod OutcomeLemmas
 pub mod GivenLemmas
 pub mod ShortSteps
 pub mod WholeLemmas
+pub mod BoxLemmas
+pub mod SideLemmas
+pub mod BoxRunLemmas
+pub mod ChunkBoxLemmas

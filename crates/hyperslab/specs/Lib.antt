@@ -4,9 +4,12 @@ pub mod Steps
 pub mod Grammar
 pub mod Written
 pub mod Outcomes
+pub mod Runs
+pub mod Numbered
 pub use Rattle.shapes.specs.Shapes
 pub use Rattle.shapes.specs.Places
 pub use Rattle.shapes.specs.Extents
 pub use Rattle.shapes.specs.Spelled
 pub use Rattle.serde_json.specs.View
 pub use Rattle.serde_json.specs.Data
+pub use Rattle.chunk_layout.specs.Chunks

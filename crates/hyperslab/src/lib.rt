@@ -1,5 +1,5 @@
 //! Selections of a grid's cells by a start, a stop and a step on each axis: how a text or JSON lists
-//! spell them, and which cells they select.
+//! spell them, which cells they select, and how those in a box of the grid lie in runs.
 //!
 //! The forms are those of the HDF REST API, "Value", its query parameter `select` and its keys
 //! `start`, `stop` and `step`.
@@ -12,17 +12,24 @@ use shapes::Dims;
 
 mod advance;
 mod all_cells;
+mod boxes;
 mod judging;
 mod lists;
+mod numbered;
 mod reading;
+#[cfg(test)]
+mod run_tests;
+mod runs;
 mod selected;
 #[cfg(test)]
 mod tests;
 
 pub use all_cells::whole;
+pub use boxes::boxes_of_chunks;
 pub use judging::one_outcome;
 pub use lists::{from_lists, lists_or_fault};
 pub use reading::{Part, read_select, reading_or_fault, written_reads_back};
+pub use runs::{Run, Runs};
 pub use selected::{each_cell_once, one_step_past_the_end};
 
 /// The most digits that a number in a text has.

@@ -1,6 +1,6 @@
 use Rattle.std.proofs.Common.{◌≡◌, ◌≤◌, ◌+◌, ◌++◌, ◌∷◌, [], length, drop, refl, sym, ap, subst, ◌∙◌, arith}
 use Rattle.std.proofs.lemmas.List.{length-drop, length_push}
-use Rattle.slab_runs.specs.declared.runs.Run.{Run}
+use Rattle.hyperslab.specs.declared.runs.Run.{Run}
 use Rattle.strided_copies.specs.Strides.{AreCopied, AreKept, Fit}
 use Rattle.strided_copies.specs.declared.copies.Strided.{Strided}
 use Rattle.box_copies.specs.Moves.{AreMovedTo, source_of, target_of}

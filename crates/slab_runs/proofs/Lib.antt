@@ -1,4 +1,0 @@
-pub mod BoxLemmas
-pub mod WalkLemmas
-pub mod RunLemmas
-pub mod ChunkLemmas
