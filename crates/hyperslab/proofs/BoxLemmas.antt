@@ -101,7 +101,7 @@ extents_to ss = map extent_of ss
 abbrev pub wides : List Side → List ℕ
 wides ss = map wide_of ss
 
-shifted : (a f d c o i : ℕ) → o ≤ a + (f + d) * c → (a + (f + (d + i)) * c - o) ≡ (a + (f + d) * c - o) + i * c
+pub shifted : (a f d c o i : ℕ) → o ≤ a + (f + d) * c → (a + (f + (d + i)) * c - o) ≡ (a + (f + d) * c - o) + i * c
 shifted a f d c o i h =
     let spread : (f + (d + i)) * c ≡ (f + d) * c + i * c = omega arith in
     omega (arith, spread, h)
@@ -119,6 +119,29 @@ split_digit r q l i h some =
 
 one_digit : (j : ℕ) → j / 1 ≡ j
 one_digit j = omega (arith, div-add-mod' j 1)
+
+-- two numbers that differ behind an axis are as far apart as they are there
+pub lifted : (s : Side) (ss : List Side) (q l i j r x y : ℕ) → cell_count (counts ss) ≡ q * l → 0 < q → i < l → j < l
+    → (place_to ss (r % q * l + i) ≡ place_to ss (r % q * l + j) + x) × (offset_to ss (r % q * l + i) ≡ offset_to ss (r % q * l + j) + y)
+    → (place_to (s ∷ ss) (r * l + i) ≡ place_to (s ∷ ss) (r * l + j) + x) × (offset_to (s ∷ ss) (r * l + i) ≡ offset_to (s ∷ ss) (r * l + j) + y)
+lifted s ss q l i j r x y cells some hi hj rest =
+    let one = split_digit r q l i hi some in
+    let two = split_digit r q l j hj some in
+    let d = r / q in
+    let m = r % q in
+    let d_one : (r * l + i) / cell_count (counts ss) ≡ d = rw cells one.0 in
+    let m_one : (r * l + i) % cell_count (counts ss) ≡ m * l + i = rw cells one.1 in
+    let d_two : (r * l + j) / cell_count (counts ss) ≡ d = rw cells two.0 in
+    let m_two : (r * l + j) % cell_count (counts ss) ≡ m * l + j = rw cells two.1 in
+    let p = λ (e k : ℕ). (first_of s + e) * cell_count (extents_to ss) + place_to ss k in
+    let o = λ (e k : ℕ). (s.axis.lo + (first_of s + e) * s.axis.by - s.low) * cell_count (wides ss) + offset_to ss k in
+    let p_one = ap (λ e. p e ((r * l + i) % cell_count (counts ss))) d_one ∙ ap (p d) m_one in
+    let p_two = ap (λ e. p e ((r * l + j) % cell_count (counts ss))) d_two ∙ ap (p d) m_two in
+    let o_one = ap (λ e. o e ((r * l + i) % cell_count (counts ss))) d_one ∙ ap (o d) m_one in
+    let o_two = ap (λ e. o e ((r * l + j) % cell_count (counts ss))) d_two ∙ ap (o d) m_two in
+    let p_mid : p d (m * l + i) ≡ p d (m * l + j) + x = omega (arith, rest.0) in
+    let o_mid : o d (m * l + i) ≡ o d (m * l + j) + y = omega (arith, rest.1) in
+    (p_one ∙ p_mid ∙ ap (λ n. n + x) (sym p_two), o_one ∙ o_mid ∙ ap (λ n. n + y) (sym o_two))
 
 pub run_step : (ss : List Side) (r i : ℕ) → AreAxes (map axis_of ss) → i < last_count ss → r * last_count ss + i < cell_count (counts ss)
     → (place_to ss (r * last_count ss + i) ≡ place_to ss (r * last_count ss) + i) × (offset_to ss (r * last_count ss + i) ≡ offset_to ss (r * last_count ss) + i * last_step ss)
@@ -140,35 +163,15 @@ run_step (s ∷ (t ∷ ss)) r i h l b =
     let long = last_count (t ∷ ss) in
     let cells : cell_count (counts (t ∷ ss)) ≡ div.0 * last_count (t ∷ ss) = div.1 in
     let some_c = (some_factor (count_of s) (cell_count (counts (t ∷ ss))) (r * last_count (t ∷ ss) + i) b).1 in
-    let some : 0 < div.0 = elim (cases_lt 0 div.0) [
-      | inl yes_some ↦ yes_some
-      | inr none ↦
-          let zero_q : div.0 ≡ 0 = omega arith in
-          absurd (omega (arith, some_c, cells, ap (λ n. n * last_count (t ∷ ss)) zero_q))
-    ] in
-    let one = split_digit r div.0 long i l some in
-    let none = split_digit r div.0 long 0 (omega arith) some in
-    let q = r / div.0 in
+    let some = (some_factor div.0 (last_count (t ∷ ss)) 0 (omega (arith, some_c, cells))).0 in
     let m = r % div.0 in
     let room : m * long + i < cell_count (counts (t ∷ ss)) =
     (let less = mod_below r div.0 some in
     let wide = mul-le (suc m) long div.0 long (omega (arith, less)) (omega arith) in
     omega (arith, wide, l, cells)) in
     let rest = run_step (t ∷ ss) m i h.1 l room in
-    let zero_i : r * long ≡ r * long + 0 = omega arith in
-    let d_one : (r * long + i) / cell_count (counts (t ∷ ss)) ≡ q = rw cells one.0 in
-    let m_one : (r * long + i) % cell_count (counts (t ∷ ss)) ≡ m * long + i = rw cells one.1 in
-    let d_none : (r * long) / cell_count (counts (t ∷ ss)) ≡ q = rw cells (ap (λ n. n / (div.0 * long)) zero_i ∙ none.0) in
-    let m_none : (r * long) % cell_count (counts (t ∷ ss)) ≡ m * long = rw cells (ap (λ n. n % (div.0 * long)) zero_i ∙ none.1 ∙ omega arith) in
-    let ce = cell_count (extents_to (t ∷ ss)) in
-    let cw = cell_count (wides (t ∷ ss)) in
-    let at = s.axis.lo + (first_of s + q) * s.axis.by - s.low in
-    let p = λ (d j : ℕ). (first_of s + d) * ce + place_to (t ∷ ss) j in
-    let o = λ (d j : ℕ). (s.axis.lo + (first_of s + d) * s.axis.by - s.low) * cw + offset_to (t ∷ ss) j in
-    let p_one = ap (λ d. p d ((r * long + i) % cell_count (counts (t ∷ ss)))) d_one ∙ ap (p q) m_one in
-    let p_none = ap (λ d. p d ((r * long) % cell_count (counts (t ∷ ss)))) d_none ∙ ap (p q) m_none in
-    let o_one = ap (λ d. o d ((r * long + i) % cell_count (counts (t ∷ ss)))) d_one ∙ ap (o q) m_one in
-    let o_none = ap (λ d. o d ((r * long) % cell_count (counts (t ∷ ss)))) d_none ∙ ap (o q) m_none in
-    let p_mid : p q (m * long + i) ≡ p q (m * long) + i = omega (arith, rest.0) in
-    let o_mid : o q (m * long + i) ≡ o q (m * long) + i * last_step (t ∷ ss) = omega (arith, rest.1) in
-    (p_one ∙ p_mid ∙ ap (λ n. n + i) (sym p_none), o_one ∙ o_mid ∙ ap (λ n. n + i * last_step (t ∷ ss)) (sym o_none))
+    let start : m * long ≡ m * long + 0 = omega arith in
+    let whole : r * long + 0 ≡ r * long = omega arith in
+    let up = lifted s (t ∷ ss) div.0 long i 0 r i (i * last_step (t ∷ ss)) cells some l (omega (arith, l))
+    (rest.0 ∙ ap (λ j. place_to (t ∷ ss) j + i) start, rest.1 ∙ ap (λ j. offset_to (t ∷ ss) j + i * last_step (t ∷ ss)) start) in
+    (up.0 ∙ ap (λ j. place_to (s ∷ (t ∷ ss)) j + i) whole, up.1 ∙ ap (λ j. offset_to (s ∷ (t ∷ ss)) j + i * last_step (t ∷ ss)) whole)

@@ -175,7 +175,7 @@ pub record IsSmall (r : Numbered) (k : ℕ) : Type 0 where
   pub place : place_to (sides_of r) (k * r.len) ≤ MAX_SELECTED
   pub offset : offset_to (sides_of r) (k * r.len) ≤ MAX_CHUNK_BYTES
 
-counts_le : (ss : List Side) → AreAxes (map axis_of ss) → cell_count (counts ss) ≤ cell_count (extents_to ss)
+pub counts_le : (ss : List Side) → AreAxes (map axis_of ss) → cell_count (counts ss) ≤ cell_count (extents_to ss)
 counts_le [] h = omega arith
 counts_le (s ∷ ss) h = mul-le (count_of s) (cell_count (counts ss)) (extent_of s) (cell_count (extents_to ss)) (count_facts s h.0).1 (counts_le ss h.1)
 

@@ -17,4 +17,5 @@ pub mod WholeLemmas
 pub mod BoxLemmas
 pub mod SideLemmas
 pub mod BoxRunLemmas
+pub mod RowLemmas
 pub mod ChunkBoxLemmas

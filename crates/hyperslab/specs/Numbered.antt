@@ -1,10 +1,12 @@
 -- The runs of a selection in a box by their numbers.
-use Rattle.std.specs.Prelude.{◌≡◌, ℕ, ◌+◌, ◌*◌, ◌-◌, ◌<◌, min, List, [], ◌∷◌, map, length}
+use Rattle.std.specs.Prelude.{◌≡◌, ℕ, ◌+◌, ◌*◌, ◌-◌, ◌%◌, ◌<◌, ◌≤◌, min, List, [], ◌∷◌, map, length}
 use Rattle.std.specs.List.{range_with_len}
 use Rattle.shapes.specs.Places.{cell_count, digits_by, place}
 use Rattle.hyperslab.specs.Selected.{Axis, IsSlab, axes_of, extent, extents}
 use Rattle.chunk_layout.specs.Chunks.{IsChunk}
 use Rattle.hyperslab.specs.declared.numbered.Numbered.{Numbered}
+use Rattle.hyperslab.specs.declared.numbered.Row.{Row}
+use Rattle.hyperslab.specs.declared.numbered.Last.{Last}
 use Rattle.hyperslab.specs.declared.runs.Run.{Run}
 
 -- ---- one axis of a selection, and of a box
@@ -91,3 +93,27 @@ run_of r k = record { place = place_to (sides_of r) (k * r.len); offset = offset
 -- the runs from a number on
 abbrev pub runs_from : Numbered → ℕ → List Run
 runs_from r k = map (run_of r) (range_with_len k (r.many - k))
+
+-- ---- one run after another
+
+-- the run after this one in its row
+abbrev pub moved : Row → Run → Run
+moved w x = record { place = x.place + w.place_step; offset = x.offset + w.offset_step; stride = x.stride; len = x.len }
+
+-- every so many runs are a row
+pub record IsRow (r : Numbered) (w : Row) : Type 0 where
+  pub some : 1 ≤ w.many
+  pub goes : (k : ℕ) → k + 1 < r.many → 0 < (k + 1) % w.many → run_of r (k + 1) ≡ moved w (run_of r k)
+
+-- the run before the number `k`, and how many of its row are left
+pub record IsLast (r : Numbered) (w : Row) (k : ℕ) (x : Last) : Type 0 where
+  pub ends : (k + x.left) % w.many ≡ 0
+  pub few : x.left < w.many
+  pub run : 0 < x.left → x.run ≡ run_of r (k - 1)
+
+-- the runs from the number `k` on are left
+pub record AreLeft (r : Numbered) (w : Row) (k : ℕ) (x : Last) : Type 0 where
+  pub runs : AreNumbered r
+  pub row : IsRow r w
+  pub next : k ≤ r.many
+  pub last : IsLast r w k x

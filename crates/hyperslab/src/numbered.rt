@@ -7,7 +7,7 @@ ghost use Rattle.std.specs.Prelude.{◌≡◌, ◌≤◌, ◌<◌, ◌+◌, ◌-
 ghost use Rattle.std.specs.List.{AllZip};
 ghost use Rattle.chunk_layout.specs.Chunks.{IsChunk};
 ghost use Rattle.hyperslab.specs.Selected.{IsSlab, extent};
-ghost use Rattle.hyperslab.specs.Numbered.{AreNumbered, run_of};
+ghost use Rattle.hyperslab.specs.Numbered.{AreNumbered, IsLast, IsRow, run_of};
 
 use crate::Slab;
 use crate::runs::Run;
@@ -30,6 +30,27 @@ pub(crate) struct Numbered {
     many: u64,
     stride: u64,
     len: u64,
+}
+
+/// Runs that follow one another along one axis: the last with several numbers in the box, but for
+/// the axis that a run is along.
+#[derive(Clone, Copy, Debug)]
+pub(crate) struct Row {
+    /// How many they are.
+    many: u64,
+    /// How far each is from the one before it among the selected.
+    place_step: u64,
+    /// How far it is from it in the box.
+    offset_step: u64,
+}
+
+/// The run that came last.
+#[derive(Clone, Copy, Debug)]
+pub(crate) struct Last {
+    /// The run, where some of its row are left.
+    pub(crate) run: Run,
+    /// How many of its row are left.
+    left: u64,
 }
 
 impl Numbered {
@@ -116,6 +137,91 @@ impl Numbered {
             stride: self.stride,
             len: self.len,
         }
+    }
+
+    /// The row in which the runs lie.
+    pub(crate) fn row(&self) -> Row
+        requires runs { AreNumbered self.now }
+        ensures { IsRow self.now result }
+    {
+        let rank = self.counts.len();
+        if rank == 0 || self.many < 2 {
+            return Row::single();
+        }
+        let mut place_step = self.extents.get(rank - 1);
+        let mut offset_step = self.chunk.get(rank - 1);
+        for behind in 1..rank {
+            let axis = rank - 1 - behind;
+            let many = self.counts.get(axis);
+            let apart = self.slab.step.get(axis);
+            let extent = self.extents.get(axis);
+            let wide = self.chunk.get(axis);
+            if many > 1 {
+                return Row {
+                    many,
+                    place_step,
+                    offset_step: apart * offset_step,
+                };
+            }
+            place_step *= extent;
+            offset_step *= wide;
+        }
+        Row::single()
+    }
+
+    /// The run with a number, after the one before it: by two sums inside a row.
+    pub(crate) fn run_after(&self, row: &Row, number: u64, last: &Last) -> Last
+        requires runs { AreNumbered self.now }
+        requires row { IsRow self.now row.now }
+        requires below { number < self.now.many }
+        requires last { IsLast self.now row.now number last.now }
+        ensures run { result.run ≡ run_of self.now number }
+        ensures last { IsLast self.now row.now (number + 1) result }
+    {
+        if last.left == 0 {
+            return Last {
+                run: self.run(number),
+                left: row.many - 1,
+            };
+        }
+        let run = Run {
+            place: last.run.place + row.place_step,
+            offset: last.run.offset + row.offset_step,
+            stride: last.run.stride,
+            len: last.run.len,
+        };
+        Last {
+            run,
+            left: last.left - 1,
+        }
+    }
+}
+
+impl Row {
+    /// A row of one run.
+    fn single() -> Row
+        ensures { result.many ≡ 1 }
+    {
+        Row {
+            many: 1,
+            place_step: 0,
+            offset_step: 0,
+        }
+    }
+}
+
+impl Last {
+    /// Where no run has come.
+    pub(crate) fn none() -> Last
+        ensures { result.left ≡ 0 }
+    {
+        let run = Run {
+            place: 0,
+            offset: 0,
+            stride: 0,
+            len: 0,
+        };
+        Last { run, left: 0 }
     }
 }
 

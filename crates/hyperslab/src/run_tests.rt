@@ -16,6 +16,14 @@ fn pair(first: u64, second: u64) -> Dims
     dims
 }
 
+fn triple(first: u64, second: u64, third: u64) -> Dims
+    ensures { result ≡ first ∷ second ∷ third ∷ [] }
+{
+    let mut dims = pair(first, second);
+    dims.push(third);
+    dims
+}
+
 /// Each run as `place:offset:stride:len`.
 fn told(alloc: Global, slab: &Slab, origin: &Dims, chunk: &Dims) -> Result<String, AllocError>
     requires slab { IsSlab slab.now }
@@ -61,6 +69,72 @@ fn runs_of_a_grid_of_10_by_8_in_boxes_of_4_by_3(rt: HostRuntime) -> Result<(), A
             rt.alloc(),
             &slab,
             &pair(origin[0] % 10, origin[1] % 8),
+            &chunk,
+        )?;
+        assert!(rt; got.as_str() == want, "{text} gave {got}");
+    }
+    Ok(())
+}
+
+#[test]
+fn runs_of_a_grid_of_10_by_8_in_boxes_of_4_by_1(rt: HostRuntime) -> Result<(), AllocError> {
+    let rows = [
+        (
+            "[0:10,0:8]",
+            [4u64, 2u64],
+            "34:0:1:1 42:1:1:1 50:2:1:1 58:3:1:1 ",
+        ),
+        ("[0:10,0:8]", [8, 2], "66:0:1:1 74:1:1:1 "),
+        ("[1:10:3,0:8:2]", [4, 2], "5:0:2:1 9:3:2:1 "),
+        ("[1:10:3,0:8:2]", [4, 3], ""),
+    ];
+    let dims = pair(10, 8);
+    let grid = Shape::Simple {
+        dims,
+        maxdims: dims,
+    };
+    let chunk = pair(4, 1);
+    for (text, origin, want) in rows {
+        let slab = read_select(text, &grid).expect(&rt, "a selection");
+        assert_eq!(rt; slab.start.len(), 2);
+        let got = told(
+            rt.alloc(),
+            &slab,
+            &pair(origin[0] % 10, origin[1] % 8),
+            &chunk,
+        )?;
+        assert!(rt; got.as_str() == want, "{text} gave {got}");
+    }
+    Ok(())
+}
+
+#[test]
+fn runs_of_a_grid_of_4_by_3_by_5_in_boxes_of_2_by_2_by_3(
+    rt: HostRuntime,
+) -> Result<(), AllocError> {
+    let rows = [
+        (
+            "[0:4,0:3,0:5]",
+            [0u64, 0u64, 3u64],
+            "3:0:1:2 8:3:1:2 18:6:1:2 23:9:1:2 ",
+        ),
+        ("[0:4,0:3,0:5]", [0, 2, 3], "13:0:1:2 28:6:1:2 "),
+        ("[0:4,1:2,0:5:2]", [2, 0, 0], "6:3:2:2 9:9:2:2 "),
+        ("[0:4:3,0:3:2,1:5:3]", [2, 0, 3], "5:7:3:1 "),
+    ];
+    let dims = triple(4, 3, 5);
+    let grid = Shape::Simple {
+        dims,
+        maxdims: dims,
+    };
+    let chunk = triple(2, 2, 3);
+    for (text, origin, want) in rows {
+        let slab = read_select(text, &grid).expect(&rt, "a selection");
+        assert_eq!(rt; slab.start.len(), 3);
+        let got = told(
+            rt.alloc(),
+            &slab,
+            &triple(origin[0] % 4, origin[1] % 3, origin[2] % 5),
             &chunk,
         )?;
         assert!(rt; got.as_str() == want, "{text} gave {got}");

@@ -8,7 +8,7 @@ ghost use Rattle.hyperslab.specs.Selected.{IsSlab};
 ghost use Rattle.hyperslab.specs.Runs.{AreAll, AreBoxed, AreOnce, AreRuns};
 
 use crate::Slab;
-use crate::numbered::Numbered;
+use crate::numbered::{Last, Numbered, Row};
 use shapes::Dims;
 use std::marker::Model;
 
@@ -29,7 +29,9 @@ pub struct Run {
 #[derive(Drop)]
 pub struct Runs {
     runs: Numbered,
+    row: Row,
     next: u64,
+    last: Last,
 }
 
 impl Model for Runs {
@@ -38,11 +40,11 @@ impl Model for Runs {
 
     ghost Value = { List Run };
 
-    ghost use Rattle.hyperslab.specs.Numbered.{AreNumbered, runs_from};
+    ghost use Rattle.hyperslab.specs.Numbered.{AreLeft, runs_from};
 
     ghost view = { λ a. runs_from a.runs a.next };
 
-    ghost invariant = { λ a. AreNumbered a.runs × (a.next ≤ a.runs.many) };
+    ghost invariant = { λ a. AreLeft a.runs a.row a.next a.last };
 }
 
 impl Iterator for Runs {
@@ -57,8 +59,10 @@ impl Iterator for Runs {
         if number == self.runs.many() {
             return None;
         }
+        let last = self.runs.run_after(&self.row, number, &self.last);
         self.next = number + 1;
-        Some(self.runs.run(number))
+        self.last = last;
+        Some(last.run)
     }
 }
 
@@ -76,9 +80,13 @@ impl Slab {
         ensures all { AreAll self.now origin.now chunk.now result }
         ensures once { AreOnce result }
     {
+        let runs = Numbered::new(self, origin, chunk);
+        let row = runs.row();
         Runs {
-            runs: Numbered::new(self, origin, chunk),
+            runs,
+            row,
             next: 0,
+            last: Last::none(),
         }
     }
 }
