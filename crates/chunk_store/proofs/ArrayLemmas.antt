@@ -1,7 +1,6 @@
 -- Marks and the indexes that they have, after each call.
-use Rattle.std.proofs.Common.{◌≡◌, ℕ, Bool, true, false, cond, is_some, List, [], Option, Some, None, IsSome, Result, Ok, Err, OnOk, OnErr, bytes_eq, refl, sym, ap, subst, ◌∙◌, ◌⊎◌, inl, inr}
+use Rattle.std.proofs.Common.{◌≡◌, ℕ, Bool, true, false, cond, List, Option, Some, None, IsSome, refl, sym, ap, subst, ◌∙◌, ◌⊎◌, inl, inr}
 use Rattle.std.specs.List.{AllByRecursion}
-use Rattle.std.specs.Map.{lookup}
 use Rattle.shapes.specs.Shapes.{LiesIn}
 use Rattle.chunk_store.specs.Cells.{put}
 use Rattle.chunk_store.specs.Grids.{Grid, IsWhole}
@@ -20,9 +19,6 @@ indexes_from s t same from indexes = λ i there. subst (λ (c : List ℕ). IsInd
   | inl old ↦ indexes i old
   | inr index ↦ index
 ])
-
-some_false : IsSome (Some false)
-some_false = refl
 
 noted_from : (h : Grid) (i : List ℕ) (touched : Bool) (o p : Option Bool) → (touched ≡ true → IsIndex h.chunk i) → IsNoted touched o p → IsFrom h i o p
 noted_from h i touched o p inside noted there = elim noted [
@@ -62,9 +58,6 @@ indexes_put s t index same w inside marks = indexes_from s t same (λ i there. e
   | inr other ↦ inl (subst (λ (x : Option Bool). IsSome x) (marks i ∙ other) there)
 ])
 
-pub indexes_same : (s t : Stored) → t.grid.chunk ≡ s.grid.chunk → ((i : List ℕ) → state t i ≡ state s i) → AreIndexes s → AreIndexes t
-indexes_same s t same marks = indexes_from s t same (λ i there. inl (subst (λ (x : Option Bool). IsSome x) (marks i) there))
-
 written_noted : (touched : Bool) (o p : Option Bool) → IsNoted touched o p → cond touched (Some true) p ≡ cond touched (Some true) o
 written_noted true o p noted = refl
 written_noted false o p noted = elim noted [
@@ -76,17 +69,3 @@ written_noted false o p noted = elim noted [
 pub noted_flagged : (s : Stored) (ats : List (List ℕ)) (noted flagged : List ℕ → Option Bool) → ((i : List ℕ) → IsNoted (touches s.grid.chunk ats i) (state s i) (noted i)) → ((i : List ℕ) → flagged i ≡ cond (touches s.grid.chunk ats i) (Some true) (noted i))
     → (i : List ℕ) → flagged i ≡ cond (touches s.grid.chunk ats i) (Some true) (state s i)
 noted_flagged s ats noted flagged each then = λ i. then i ∙ written_noted (touches s.grid.chunk ats i) (state s i) (noted i) (each i)
-
-pub no_marks : (marks : List (List ℕ × Bool)) → marks ≡ [] → (i : List ℕ) → lookup (bytes_eq i) marks ≡ None
-no_marks marks e i = ap (lookup (bytes_eq i)) e
-
-pub indexes_none : (t : Stored) → t.marks ≡ [] → AreIndexes t
-indexes_none t e = λ i there. absurd (let both : false ≡ true = sym (ap is_some (no_marks t.marks e i)) ∙ there in cc)
-
-pub ok_at : {T E P Q : Type 0} (r : Result T E) → OnOk r P → (P → Q) → OnOk r Q
-ok_at (Ok x) p f = f p
-ok_at (Err e) p f = tt
-
-pub err_at : {T E P Q : Type 0} (r : Result T E) → OnErr r P → (P → Q) → OnErr r Q
-err_at (Ok x) p f = tt
-err_at (Err e) p f = f p

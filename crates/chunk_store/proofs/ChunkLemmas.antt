@@ -1,5 +1,5 @@
 -- Chunks of an array, and the map that keeps its cells.
-use Rattle.std.proofs.Common.{◌≡◌, ℕ, suc, ◌+◌, ◌*◌, ◌/◌, mul_comm, ◌<◌, ◌≤◌, ◌&&◌, ◌↔◌, Bool, IsTrue, true, false, cond, nat_eq, nat_lt, bytes_eq, eqb-true, eq-eqb, List, [], ◌∷◌, length, drop, get_or, All, Result, Ok, Err, IfOk, not, refl, sym, ap, subst, ◌∙◌, ◌⊎◌, inl, inr, arith}
+use Rattle.std.proofs.Common.{◌≡◌, ℕ, suc, ◌+◌, ◌*◌, ◌/◌, mul_comm, ◌<◌, ◌≤◌, ◌&&◌, ◌↔◌, Bool, IsTrue, true, false, cond, nat_eq, nat_lt, bytes_eq, eqb-true, eq-eqb, List, [], ◌∷◌, length, drop, get_or, All, Option, Result, Ok, Err, IfOk, not, refl, sym, ap, subst, ◌∙◌, ◌⊎◌, inl, inr, arith}
 use Rattle.std.specs.List.{flat_map}
 use Rattle.std.specs.BTreeMap.{BTreeMap}
 use Rattle.std.specs.Cmp.{both_ways}
@@ -160,9 +160,23 @@ pub filled_first : (chunk i q : List ℕ) (size : ℕ) (bs : List ℕ) (f : List
 filled_first chunk i q size bs f =
     sym (ap (λ b. cond b (piece_at size (offset_of q chunk) bs) (f q)) (ap (λ b. bytes_eq (quotients q chunk) i && b) (lt_zero (offset_of q chunk)) ∙ and_no (bytes_eq (quotients q chunk) i)))
 
-body_some : (h : Grid) (bs at : List ℕ) → 1 ≤ length bs → body_value h bs at ≡ piece_at (size_of h.kind) (offset_of at h.chunk) bs
+pub body_some : (h : Grid) (bs at : List ℕ) → 1 ≤ length bs → body_value h bs at ≡ piece_at (size_of h.kind) (offset_of at h.chunk) bs
 body_some h [] at some = absurd (omega (arith, some))
 body_some h (b ∷ bs) at some = refl
+
+pub bytes_there : (h : Grid) (bytes : List ℕ) → IsWhole h → AreEncoded h.kind (cell_count h.chunk) bytes → 1 ≤ length bytes
+bytes_there h bytes w enc =
+    let wide : 1 * 1 ≤ cell_count h.chunk * size_of h.kind = mul-le 1 1 (cell_count h.chunk) (size_of h.kind) (one_cell h.chunk w.dims) (some_size h.kind w.kind.formed) in
+    omega (arith, wide, enc.whole)
+
+pub fill_same : (e : Elem) (s : Shape) (c : List ℕ) (fill : Option (List ℕ)) (f g : List ℕ → List ℕ) (i bytes : List ℕ) → 1 ≤ length bytes
+    → ((q : List ℕ) → LiesIn q s → g q ≡ cond (bytes_eq (quotients q c) i) (piece_at (size_of e) (offset_of q c) bytes) (f q)) → tabulated e s c fill g ≡ with_chunk (tabulated e s c fill f) i bytes
+fill_same e s c fill f g i bytes some each =
+    let h = tabulated e s c fill f in
+    tabulated_same e s c fill g (λ at. cond (bytes_eq (quotients at c) i) (body_value (tabulated e s c fill f) bytes at) (value_at (tabulated e s c fill f) at)) (λ at lies.
+    each at lies
+    ∙ ap (λ x. cond (bytes_eq (quotients at c) i) x (f at)) (sym (body_some h bytes at some))
+    ∙ ap (λ x. cond (bytes_eq (quotients at c) i) (body_value h bytes at) x) (sym (value-tabulated e s c fill f at lies)))
 
 -- ---- a chunk by the map
 
@@ -227,21 +241,11 @@ module _ (e : Elem) (s : Shape) (c : List ℕ) (given : Bool) (blank : List ℕ)
       inside = λ q there. kept.inside q (sym (keys q) ∙ there);
     }
 
-    some_byte : 1 ≤ length bytes
-    some_byte =
-        let size_is = some_size e kept.kind.formed in
-        let cells = one_cell c kept.layout.each_dim in
-        let wide : 1 * 1 ≤ cell_count c * size_of e = mul-le 1 1 (cell_count c) (size_of e) cells size_is in
-        omega (arith, wide, enc.whole)
-
     pub fill_view : (h : Grid) → grid ≡ h → tabulated e s c (given_fill given blank) (value_in n blank) ≡ with_chunk h i bytes
     fill_view h is =
         subst (λ (x : Grid). tabulated e s c (given_fill given blank) (value_in n blank) ≡ with_chunk x i bytes) is
-        (tabulated_same e s c (given_fill given blank) (value_in n blank) (λ at. cond (bytes_eq (quotients at c) i) (body_value grid bytes at) (value_at grid at)) (λ at lies.
-        written at lies
-        ∙ ap (λ k. cond (bytes_eq (quotients at c) i) (piece_at k (offset_of at c) bytes) (value_in m blank at)) kept.sized
-        ∙ ap (λ x. cond (bytes_eq (quotients at c) i) x (value_in m blank at)) (sym (body_some grid bytes at some_byte))
-        ∙ ap (λ x. cond (bytes_eq (quotients at c) i) (body_value grid bytes at) x) (sym (value-tabulated e s c (given_fill given blank) (value_in m blank) at lies))))
+        (fill_same e s c (given_fill given blank) (value_in m blank) (value_in n blank) i bytes (bytes_there grid bytes (whole_view grid e s c given blank size m kept refl) enc)
+        (λ q lies. written q lies ∙ ap (λ k. cond (bytes_eq (quotients q c) i) (piece_at k (offset_of q c) bytes) (value_in m blank q)) kept.sized))
 
 -- ---- the test of a chunk's bytes
 
@@ -256,11 +260,6 @@ cell_again : (h : Grid) (i at : List ℕ) → IsWhole h → length at ≡ length
 cell_again h i at w rank here =
     chunk_listed h.chunk i (offset_of at h.chunk) w.dims (offset_below at h.chunk w.dims rank)
     ∙ ap (λ j. cell_at j (offset_of at h.chunk) h.chunk) (sym here) ∙ cell_back h.chunk at w.dims rank
-
-bytes_there : (h : Grid) (bytes : List ℕ) → IsWhole h → AreEncoded h.kind (cell_count h.chunk) bytes → 1 ≤ length bytes
-bytes_there h bytes w enc =
-    let wide : 1 * 1 ≤ cell_count h.chunk * size_of h.kind = mul-le 1 1 (cell_count h.chunk) (size_of h.kind) (one_cell h.chunk w.dims) (some_size h.kind w.kind.formed) in
-    omega (arith, wide, enc.whole)
 
 pub chunk_told : (h : Grid) (i bytes : List ℕ) → IsWhole h → in_grid h i ≡ true → AreEncoded h.kind (cell_count h.chunk) bytes → IsBlankOutside h i bytes → IsChunkOf h i bytes
 chunk_told h i bytes w g enc blank = record {
@@ -281,17 +280,13 @@ chunk_read h i bytes w is = λ k low off.
     sym (ap (λ j. piece_at (size_of h.kind) j bytes) there)
     ∙ sym (body_some h bytes x (omega (arith, wide, is.encoded.whole))) ∙ is.outside x cell.0 cell.1 off
 
--- the code's test, whose blank is the one that is kept
-pub chunk_test : (e : Elem) (s : Shape) (c : List ℕ) (given : Bool) (blank : List ℕ) (size : ℕ) (m : Cells) (kept : IsKept e s c given blank size m) (i bytes b : List ℕ) (r : Bool) → b ≡ blank
-    → in_grid (grid e s c given blank size m kept) i ≡ true → AreEncoded e (cell_count c) bytes
-    → (IsTrue r ↔ ((k : ℕ) → k < cell_count c → lies_in (get_or (chunk_cells i c) k []) s ≡ false → piece_at (length b) k bytes ≡ b)) → IsTrue r ↔ IsChunkOf (grid e s c given blank size m kept) i bytes
-chunk_test e s c given blank size m kept i bytes b r same g enc test =
-    let h = grid e s c given blank size m kept in
-    let w = whole_view h e s c given blank size m kept refl in
-    let wide : length b ≡ size_of e = ap length same ∙ kept_blank e s c given blank size m kept ∙ kept.sized in
-    let filling : b ≡ blank_of e (given_fill given blank) = same ∙ given_blank e given blank kept.unwritten in (
-      λ said. chunk_told h i bytes w g enc (λ k low off. ap (λ n. piece_at n k bytes) (sym wide) ∙ test.0 said k low off ∙ filling),
-      λ is. test.1 (λ k low off. ap (λ n. piece_at n k bytes) wide ∙ chunk_read h i bytes w is k low off ∙ sym filling),
+-- the code's test
+pub chunk_test : (h : Grid) → IsWhole h → (i bytes b : List ℕ) (r : Bool) → b ≡ blank_of h.kind h.fill → in_grid h i ≡ true → AreEncoded h.kind (cell_count h.chunk) bytes
+    → (IsTrue r ↔ ((k : ℕ) → k < cell_count h.chunk → lies_in (get_or (chunk_cells i h.chunk) k []) h.shape ≡ false → piece_at (length b) k bytes ≡ b)) → IsTrue r ↔ IsChunkOf h i bytes
+chunk_test h w i bytes b r same g enc test =
+    let wide : length b ≡ size_of h.kind = ap length same ∙ length-encoded h.kind (blank_of h.kind h.fill) w.kind.formed w.blank in (
+      λ said. chunk_told h i bytes w g enc (λ k low off. ap (λ n. piece_at n k bytes) (sym wide) ∙ test.0 said k low off ∙ same),
+      λ is. test.1 (λ k low off. ap (λ n. piece_at n k bytes) wide ∙ chunk_read h i bytes w is k low off ∙ sym same),
     )
 
 -- ---- at what the code has found

@@ -41,15 +41,15 @@ read_view h e s c fill f is p on =
     (reads_same (λ at. LiesIn at s) f (value_at (tabulated e s c fill f)) (λ at lies. sym (value-tabulated e s c fill f at lies)) (picked p s) (picked_inside p s on))
 
 pub write_view : (h : Grid) (e : Elem) (s : Shape) (c : List ℕ) (fill : Option (List ℕ)) (f g : List ℕ → List ℕ) (size : ℕ) (p : Picks) (bs : List ℕ) → tabulated e s c fill f ≡ h → size ≡ size_of e
-    → ((q : List ℕ) → g q ≡ written f size (picked p s) bs q) → tabulated e s c fill g ≡ writes h (picked p h.shape) bs
+    → ((q : List ℕ) → LiesIn q s → g q ≡ written f size (picked p s) bs q) → tabulated e s c fill g ≡ writes h (picked p h.shape) bs
 write_view h e s c fill f g size p bs is sized each =
     subst (λ (x : Grid). tabulated e s c fill g ≡ writes x (picked p x.shape) bs) is
     (tabulated_same e s c fill g (written (value_at (tabulated e s c fill f)) (size_of e) (picked p s) bs)
-    (λ at lies. each at ∙ ap (λ n. written f n (picked p s) bs at) sized
+    (λ at lies. each at lies ∙ ap (λ n. written f n (picked p s) bs at) sized
     ∙ written_on (λ q. LiesIn q s) f (value_at (tabulated e s c fill f)) (λ q on. sym (value-tabulated e s c fill f q on)) (size_of e) (picked p s) bs at lies))
 
-pub same_view : (h : Grid) (e : Elem) (s : Shape) (c : List ℕ) (fill : Option (List ℕ)) (f g : List ℕ → List ℕ) → tabulated e s c fill f ≡ h → ((q : List ℕ) → g q ≡ f q) → tabulated e s c fill g ≡ h
-same_view h e s c fill f g is each = tabulated_same e s c fill g f (λ at lies. each at) ∙ is
+pub same_view : (h : Grid) (e : Elem) (s : Shape) (c : List ℕ) (fill : Option (List ℕ)) (f g : List ℕ → List ℕ) → tabulated e s c fill f ≡ h → ((q : List ℕ) → LiesIn q s → g q ≡ f q) → tabulated e s c fill g ≡ h
+same_view h e s c fill f g is each = tabulated_same e s c fill g f each ∙ is
 
 -- ---- what the map keeps
 
@@ -114,7 +114,7 @@ zip_length [] (y ∷ ys) h = absurd h
 zip_length (x ∷ xs) [] h = absurd h
 zip_length (x ∷ xs) (y ∷ ys) h = ap suc (zip_length xs ys h.1)
 
-same_rank : (s t : Shape) (dims : List ℕ) → IsSound s → IsResized s dims t → length (dims_of s) ≡ length (dims_of t)
+pub same_rank : (s t : Shape) (dims : List ℕ) → IsSound s → IsResized s dims t → length (dims_of s) ≡ length (dims_of t)
 same_rank Null t dims h k = absurd k
 same_rank Scalar t dims h k = absurd k
 same_rank (Simple old limits) t dims h k = zip_length old limits h.fitting.within ∙ sym (zip_length dims limits k.1) ∙ ap (λ x. length (dims_of x)) (sym k.0)
@@ -161,25 +161,29 @@ pub absent_blank : (e : Elem) (s : Shape) (c : List ℕ) (given : Bool) (blank :
 absent_blank e s c given blank size m kept at out =
     absent_value blank (find_in m at) (λ there. let both : true ≡ false = sym (lies_read at s (kept.inside at there)) ∙ out in cc)
 
+-- cells that keep what they had, or have the blank where they are new
+pub cut_same : (e : Elem) (s t : Shape) (c : List ℕ) (given : Bool) (blank dims : List ℕ) (f g : List ℕ → List ℕ) → blank ≡ blank_of e (given_fill given blank) → IsResized s dims t → ((q : List ℕ) → LiesIn q t → g q ≡ f q)
+    → ((q : List ℕ) → LiesIn q t → lies_in q s ≡ false → f q ≡ blank) → tabulated e t c (given_fill given blank) g ≡ cut_to (tabulated e s c (given_fill given blank) f) dims
+cut_same e s t c given blank dims f g filling re same new =
+    let old = tabulated e s c (given_fill given blank) f in
+    ap (λ x. tabulated e x c (given_fill given blank) g) (resized_is s t dims re)
+    ∙ tabulated_same e (with_dims s dims) c (given_fill given blank) g (λ at. cond (lies_in at s) (value_at (tabulated e s c (given_fill given blank) f) at) (blank_of e (given_fill given blank))) (λ at lies.
+    let on = subst (λ (x : Shape). LiesIn at x) (sym (resized_is s t dims re)) lies in
+    elim (cases_Bool (lies_in at s)) [
+      | inl inside ↦
+          same at on ∙ sym (value-tabulated e s c (given_fill given blank) f at (lies_told at s inside))
+          ∙ sym (ap (λ b. cond b (value_at old at) (blank_of e (given_fill given blank))) inside)
+      | inr outside ↦ same at on ∙ new at on outside ∙ filling ∙ sym (ap (λ b. cond b (value_at old at) (blank_of e (given_fill given blank))) outside)
+    ])
+
 pub cut_view : (a : Grid) (e : Elem) (s t : Shape) (c : List ℕ) (given : Bool) (blank : List ℕ) (size : ℕ) (m n : Cells) (dims : List ℕ) → IsKept e s c given blank size m → IsResized s dims t
     → ((q : List ℕ) → find_in n q ≡ cond (lies_in q t) (find_in m q) None) → tabulated e s c (given_fill given blank) (value_in m blank) ≡ a
     → tabulated e t c (given_fill given blank) (value_in n blank) ≡ cut_to a dims
 cut_view a e s t c given blank size m n dims kept re h is =
-    let old = tabulated e s c (given_fill given blank) (value_in m blank) in
     subst (λ (x : Grid). tabulated e t c (given_fill given blank) (value_in n blank) ≡ cut_to x dims) is
-    (ap (λ x. tabulated e x c (given_fill given blank) (value_in n blank)) (resized_is s t dims re)
-    ∙ tabulated_same e (with_dims s dims) c (given_fill given blank) (value_in n blank)
-    (λ at. cond (lies_in at s) (value_at (tabulated e s c (given_fill given blank) (value_in m blank)) at) (blank_of e (given_fill given blank))) (λ at lies.
-    let new_lies = lies_read at t (subst (λ (x : Shape). LiesIn at x) (sym (resized_is s t dims re)) lies) in
-    let found : value_in n blank at ≡ value_in m blank at = cut_value m n blank (λ p. lies_in p t) h at ∙ ap (λ b. cond b (value_in m blank at) blank) new_lies in
-    elim (cases_Bool (lies_in at s)) [
-      | inl inside ↦
-          found ∙ sym (value-tabulated e s c (given_fill given blank) (value_in m blank) at (lies_told at s inside))
-          ∙ sym (ap (λ b. cond b (value_at old at) (blank_of e (given_fill given blank))) inside)
-      | inr outside ↦
-          found ∙ absent_blank e s c given blank size m kept at outside ∙ given_blank e given blank kept.unwritten
-          ∙ sym (ap (λ b. cond b (value_at old at) (blank_of e (given_fill given blank))) outside)
-    ]))
+    (cut_same e s t c given blank dims (value_in m blank) (value_in n blank) (given_blank e given blank kept.unwritten) re
+    (λ at lies. cut_value m n blank (λ p. lies_in p t) h at ∙ ap (λ b. cond b (value_in m blank at) blank) (lies_read at t lies))
+    (λ at lies out. absent_blank e s c given blank size m kept at out))
 
 module _ (e : Elem) (s : Shape) (c : List ℕ) (given : Bool) (blank : List ℕ) (size : ℕ) (m : Cells) (kept : IsKept e s c given blank size m) where
   -- no value changes, and each new key lies in the shape
@@ -207,24 +211,25 @@ module _ (e : Elem) (s : Shape) (c : List ℕ) (given : Bool) (blank : List ℕ)
     sized = kept.sized;
     unwritten = kept.unwritten;
     blank_encoded = kept.blank_encoded;
-    encoded = λ q. subst (IsEncoded e) (sym (each q ∙ ap (λ k. written (value_in m blank) k ats bs q) kept.sized)) (written_each (IsEncoded e) (size_of e) ats (value_in m blank) bs kept.encoded enc.each q);
+    encoded = λ q. subst (IsEncoded e) (sym (each q ∙ ap (λ k. written (value_in m blank) k ats bs q) kept.sized)) (written_each (λ p. Unit {0}) (IsEncoded e) (size_of e) ats (value_in m blank) bs (λ p on. kept.encoded p) enc.each q tt);
     inside = λ q there. kept.inside q (sym (keys q) ∙ there);
   }
 
   pub kept_read : (p : Picks) → AreEncoded e (length (picked p s)) (flat_map (value_in m blank) (picked p s))
   kept_read p = read_encoded e (value_in m blank) kept.kind.formed kept.encoded (picked p s)
 
-pub value_view : (h : Grid) (e : Elem) (s : Shape) (c : List ℕ) (fill : Option (List ℕ)) (f : List ℕ → List ℕ) → tabulated e s c fill f ≡ h → (at : List ℕ) → LiesIn at h.shape → f at ≡ value_at h at
-value_view h e s c fill f is at lies =
-    subst (λ (x : Grid). f at ≡ value_at x at) is (sym (value-tabulated e s c fill f at (subst (λ (x : Grid). LiesIn at x.shape) (sym is) lies)))
+pub whole_of : (e : Elem) (s : Shape) (c : List ℕ) (given : Bool) (blank : List ℕ) (f : List ℕ → List ℕ) → IsSoundType e → IsSound s → Fits (size_of e) (dims_of s) c → IsEncoded e blank → blank ≡ blank_of e (given_fill given blank)
+    → ((at : List ℕ) → LiesIn at s → IsEncoded e (f at)) → IsWhole (tabulated e s c (given_fill given blank) f)
+whole_of e s c given blank f kind sound layout enc filling each = record {
+  kind = kind;
+  shape = sound;
+  rank = layout.rank;
+  dims = layout.each_dim;
+  values = λ at lies. subst (IsEncoded e) (sym (value-tabulated e s c (given_fill given blank) f at lies)) (each at lies);
+  blank = subst (IsEncoded e) filling enc;
+  table = length-map (cells_of s) f ∙ cells_length s;
+}
 
 pub whole_view : (h : Grid) (e : Elem) (s : Shape) (c : List ℕ) (given : Bool) (blank : List ℕ) (size : ℕ) (m : Cells) → IsKept e s c given blank size m → tabulated e s c (given_fill given blank) (value_in m blank) ≡ h → IsWhole h
-whole_view h e s c given blank size m kept is = subst IsWhole is (record {
-  kind = kept.kind;
-  shape = kept.shape;
-  rank = kept.layout.rank;
-  dims = kept.layout.each_dim;
-  values = λ at lies. subst (IsEncoded e) (sym (value-tabulated e s c (given_fill given blank) (value_in m blank) at lies)) (kept.encoded at);
-  blank = subst (IsEncoded e) (given_blank e given blank kept.unwritten) kept.blank_encoded;
-  table = length-map (cells_of s) (value_in m blank) ∙ cells_length s;
-})
+whole_view h e s c given blank size m kept is =
+    subst IsWhole is (whole_of e s c given blank (value_in m blank) kept.kind kept.shape kept.layout kept.blank_encoded (given_blank e given blank kept.unwritten) (λ at lies. kept.encoded at))

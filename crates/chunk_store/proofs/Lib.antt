@@ -12,3 +12,15 @@ mod ChunkLemmas
 mod MarkLemmas
 mod ArrayLemmas
 mod ValueLemmas
+pub mod BufferLemmas
+pub mod TouchLemmas
+pub mod SlabLemmas
+mod RowLemmas
+mod TurnLemmas
+mod StretchLemmas
+mod PlaceWalkLemmas
+mod PointLemmas
+mod AccessLemmas
+mod EntryLemmas
+mod CutChunkLemmas
+mod BufferedLemmas

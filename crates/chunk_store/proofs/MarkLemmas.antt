@@ -12,10 +12,11 @@ use Rattle.std.proofs.lemmas.Slice.Eq.{bytes_eq-Decides}
 use Rattle.short_lists.specs.Order.{list_order}
 use Rattle.chunk_layout.specs.Chunks.{quotients}
 use Rattle.chunk_store.specs.Cells.{put}
-use Rattle.shapes.specs.Shapes.{dims_of}
+use Rattle.shapes.specs.declared.Shape.{Shape}
 use Rattle.std.specs.declared.alloc.AllocError.{AllocError}
-use Rattle.chunk_store.specs.Grids.{Grid}
-use Rattle.chunk_store.specs.Marks.{IsNoted, touches, keeps, keeps_axis, after_cut, cleared, in_grid}
+use Rattle.chunk_store.specs.Buffers.{has_cell, when_cleared}
+use Rattle.chunk_store.specs.declared.buffers.Held.{Held}
+use Rattle.chunk_store.specs.Marks.{IsNoted, touches, keeps, keeps_axis}
 use Rattle.chunk_store.proofs.KeyLemmas.{put_cases}
 use Rattle.chunk_store.proofs.NextLemmas.{less_apart}
 
@@ -43,7 +44,7 @@ noted_next touched o p r index i before step here = elim step [
   ]
 ]
 
-put_cond : (a b : Bool) (x : Option Bool) → cond b (Some true) (cond a (Some true) x) ≡ cond (a || b) (Some true) x
+pub put_cond : (a b : Bool) (x : Option Bool) → cond b (Some true) (cond a (Some true) x) ≡ cond (a || b) (Some true) x
 put_cond true true x = refl
 put_cond true false x = refl
 put_cond false true x = refl
@@ -61,14 +62,14 @@ flag_next chunk ats k at index f g low here is each i whole done =
 pub flag_end : (chunk : List ℕ) (ats : List (List ℕ)) (k : ℕ) (f : List ℕ → Option Bool) (i : List ℕ) (whole : Option Bool) → length ats ≤ k → cond (touches chunk (drop k ats) i) (Some true) (f i) ≡ whole → f i ≡ whole
 flag_end chunk ats k f i whole past done = ap (λ l. cond (touches chunk l i) (Some true) (f i)) (sym (drop_all k ats past)) ∙ done
 
--- ---- some marks alone, written anew
+-- ---- some entries alone, written anew
 
 -- what stands there after a walk that keeps some values, changed
-abbrev pub changed_by : (List ℕ → Bool → Bool) → (List ℕ → Bool → Bool) → List ℕ → Option Bool → Option Bool
+abbrev pub changed_by : {V : Type 0} → (List ℕ → V → Bool) → (List ℕ → V → V) → List ℕ → Option V → Option V
 changed_by p g q None = None
 changed_by p g q (Some v) = cond (p q v) (Some (g q v)) None
 
-absent_later : (k : List ℕ) (es : List (List ℕ × Bool)) → AllByRecursion (λ y. list_order k y ≡ Less) (keys_of es) → (q : List ℕ) → bytes_eq q k ≡ true → lookup (bytes_eq q) es ≡ None
+absent_later : {V : Type 0} (k : List ℕ) (es : List (List ℕ × V)) → AllByRecursion (λ y. list_order k y ≡ Less) (keys_of es) → (q : List ℕ) → bytes_eq q k ≡ true → lookup (bytes_eq q) es ≡ None
 absent_later k [] low q same = refl
 absent_later k (e ∷ es) low q same =
     let key = (bytes_eq-Decides q k).0 same in
@@ -81,16 +82,16 @@ absent_later k (e ∷ es) low q same =
       | inr n ↦ n
     ]
 
-module _ {F : Type 0} (T : F → List ℕ → Bool → Bool → Bool → F → Type 0) (p g : List ℕ → Bool → Bool) (f : F) (told : (k : List ℕ) (v b w : Bool) (f' : F) → T f k v b w f' → (b ≡ p k v) × (w ≡ g k v) × (f' ≡ f)) where
-  kept_head : (k : List ℕ) (w : Bool) (rest : List (List ℕ × Bool)) (b : Bool) (q : List ℕ) → bytes_eq q k ≡ true → lookup (bytes_eq q) rest ≡ None → lookup (bytes_eq q) (cond b ((k, w) ∷ rest) rest) ≡ cond b (Some w) None
+module _ {F V : Type 0} (T : F → List ℕ → V → Bool → V → F → Type 0) (p : List ℕ → V → Bool) (g : List ℕ → V → V) (f : F) (told : (k : List ℕ) (v : V) (b : Bool) (w : V) (f' : F) → T f k v b w f' → (b ≡ p k v) × (w ≡ g k v) × (f' ≡ f)) where
+  kept_head : (k : List ℕ) (w : V) (rest : List (List ℕ × V)) (b : Bool) (q : List ℕ) → bytes_eq q k ≡ true → lookup (bytes_eq q) rest ≡ None → lookup (bytes_eq q) (cond b ((k, w) ∷ rest) rest) ≡ cond b (Some w) None
   kept_head k w rest true q same none = ap (λ c. cond c (Some w) (lookup (bytes_eq q) rest)) same
   kept_head k w rest false q same none = none
 
-  kept_tail : (k : List ℕ) (w : Bool) (rest : List (List ℕ × Bool)) (b : Bool) (q : List ℕ) → bytes_eq q k ≡ false → lookup (bytes_eq q) (cond b ((k, w) ∷ rest) rest) ≡ lookup (bytes_eq q) rest
+  kept_tail : (k : List ℕ) (w : V) (rest : List (List ℕ × V)) (b : Bool) (q : List ℕ) → bytes_eq q k ≡ false → lookup (bytes_eq q) (cond b ((k, w) ∷ rest) rest) ≡ lookup (bytes_eq q) rest
   kept_tail k w rest true q other = ap (λ c. cond c (Some w) (lookup (bytes_eq q) rest)) other
   kept_tail k w rest false q other = refl
 
-  pub retained : (es kept : List (List ℕ × Bool)) → IsStrictlySortedBy list_order (keys_of es) → RetainsPairs T f es kept → (q : List ℕ) → lookup (bytes_eq q) kept ≡ changed_by p g q (lookup (bytes_eq q) es)
+  pub retained : (es kept : List (List ℕ × V)) → IsStrictlySortedBy list_order (keys_of es) → RetainsPairs T f es kept → (q : List ℕ) → lookup (bytes_eq q) kept ≡ changed_by p g q (lookup (bytes_eq q) es)
   retained [] kept sorted r q = ap (lookup (bytes_eq q)) r
   retained (e ∷ es) kept sorted r q =
       let a = told e.0 e.1 r.0 r.1 r.2 r.4 in
@@ -160,20 +161,12 @@ least_past a b c d k h = elim (least_of (min (min a b) c) d k h) [
   ]
 ]
 
--- ---- what a walk over all marks leaves
+-- ---- what a walk over all chunks leaves
 
-pub changed_cut : (h : Grid) (dims q : List ℕ) (o : Option Bool) → changed_by (λ k v. true) (λ k v. cond (keeps k h.chunk (dims_of h.shape) dims) v true) q o ≡ after_cut (keeps q h.chunk (dims_of h.shape) dims) o
-changed_cut h dims q None = refl
-changed_cut h dims q (Some v) = some_cond (keeps q h.chunk (dims_of h.shape) dims) v
-  where
-    some_cond : (b v : Bool) → Some (cond b v true) ≡ cond b (Some v) (Some true)
-    some_cond true v = refl
-    some_cond false v = refl
-
-pub changed_cleared : (h : Grid) (q : List ℕ) (o : Option Bool) → changed_by (λ k v. cond v (in_grid h k) true) (λ k v. false) q o ≡ cleared (in_grid h q) o
-changed_cleared h q None = refl
-changed_cleared h q (Some true) = refl
-changed_cleared h q (Some false) = refl
+pub changed_cleared : (chunk : List ℕ) (s : Shape) (q : List ℕ) (o : Option Held)
+    → changed_by (λ k v. cond v.changed (has_cell chunk s k) true) (λ k v. record { bytes = v.bytes; changed = false }) q o ≡ when_cleared (has_cell chunk s q) o
+changed_cleared chunk s q None = refl
+changed_cleared chunk s q (Some v) = refl
 
 -- either a new mark was set, or nothing changed
 pub set_or_kept : {A B : Type 0} (r : Result ⊤ AllocError) → OnOk r A → OnErr r B → A ⊎ B

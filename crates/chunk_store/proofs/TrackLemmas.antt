@@ -138,7 +138,7 @@ begun_tracked kept s t ats w each is marks on = λ i.
 
 -- ---- other dims
 
-new_lies : (x : List ℕ) (s t : Shape) (dims : List ℕ) → IsResized s dims t → (lies_in x s ≡ is_inside x (dims_of s)) × (lies_in x (with_dims s dims) ≡ is_inside x dims)
+pub new_lies : (x : List ℕ) (s t : Shape) (dims : List ℕ) → IsResized s dims t → (lies_in x s ≡ is_inside x (dims_of s)) × (lies_in x (with_dims s dims) ≡ is_inside x dims)
 new_lies x Null t dims h = absurd h
 new_lies x Scalar t dims h = absurd h
 new_lies x (Simple old limits) t dims h = (refl, refl)
@@ -155,7 +155,7 @@ kept_number x i n old new some here h low =
     omega (arith, told.1, whole, rest, low)
 
 -- each cell of a kept chunk that the old dims have, the new ones have too
-kept_cell : (is ns olds news xs : List ℕ) → All IsChunkDim ns → length is ≡ length ns → length olds ≡ length ns → length news ≡ length ns → quotients xs ns ≡ is → keeps is ns olds news ≡ true → IsInside xs olds → IsInside xs news
+pub kept_cell : (is ns olds news xs : List ℕ) → All IsChunkDim ns → length is ≡ length ns → length olds ≡ length ns → length news ≡ length ns → quotients xs ns ≡ is → keeps is ns olds news ≡ true → IsInside xs olds → IsInside xs news
 kept_cell is ns [] [] [] dims e l m here h on = tt
 kept_cell is ns [] [] (x ∷ xs) dims e l m here h on = absurd on
 kept_cell is ns [] (w ∷ news) xs dims e l m here h on = absurd (omega (arith, l, m))

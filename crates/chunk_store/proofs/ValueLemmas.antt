@@ -36,7 +36,7 @@ made_value e s c fill at lies = value-tabulated e s c fill (λ x. blank_of e fil
 
 -- ---- writes
 
-written_last : (f : List ℕ → List ℕ) (s : ℕ) (ats : List (List ℕ)) (bs : List ℕ) (k : ℕ) (at : List ℕ) → IsLast ats k at → written f s ats bs at ≡ piece_at s k bs
+pub written_last : (f : List ℕ → List ℕ) (s : ℕ) (ats : List (List ℕ)) (bs : List ℕ) (k : ℕ) (at : List ℕ) → IsLast ats k at → written f s ats bs at ≡ piece_at s k bs
 written_last f s [] bs k at on = absurd (omega (arith, on.0))
 written_last f s (a ∷ ats) bs zero at on =
     let none : 0 * s ≡ 0 = omega arith in
@@ -56,7 +56,7 @@ other_value h ats bs at lies none =
     value-tabulated h.kind h.shape h.chunk h.fill (written (value_at h) (size_of h.kind) ats bs) at lies
     ∙ written_other (value_at h) (size_of h.kind) ats bs at (by_index (λ x. x ≡ at → ⊥) ats none)
 
-written_joined : (f : List ℕ → List ℕ) (s : ℕ) (a b : List (List ℕ)) (xs ys q : List ℕ) → length xs ≡ length a * s → written f s (a ++ b) (xs ++ ys) q ≡ written (written f s a xs) s b ys q
+pub written_joined : (f : List ℕ → List ℕ) (s : ℕ) (a b : List (List ℕ)) (xs ys q : List ℕ) → length xs ≡ length a * s → written f s (a ++ b) (xs ++ ys) q ≡ written (written f s a xs) s b ys q
 written_joined f s [] b xs ys q e = ap (λ l. written f s b (l ++ ys) q) (empty xs (e ∙ omega arith))
 written_joined f s (x ∷ a) b xs ys q e =
     let more : suc (length a) * s ≡ s + length a * s = omega arith in

@@ -55,15 +55,15 @@ sizes_next f g at piece s each size q old = ap length (each q) ∙ elim (put_cas
   | inr other ↦ ap length other ∙ old
 ]
 
--- what each value is stays so
-pub written_each : (P : List ℕ → Type 0) (s : ℕ) (ats : List (List ℕ)) (f : List ℕ → List ℕ) (bs : List ℕ) → ((q : List ℕ) → P (f q)) → AllByRecursion P (pieces (length ats) s bs) → (q : List ℕ) → P (written f s ats bs q)
-written_each P s [] f bs h k q = h q
-written_each P s (at ∷ ats) f bs h k q =
-    written_each P s ats (put f at (take s bs)) (drop s bs)
-    (λ p. elim (put_cases f at (take s bs) p) [
+-- what each value of some cells is stays so
+pub written_each : (D P : List ℕ → Type 0) (s : ℕ) (ats : List (List ℕ)) (f : List ℕ → List ℕ) (bs : List ℕ) → ((q : List ℕ) → D q → P (f q)) → AllByRecursion P (pieces (length ats) s bs) → (q : List ℕ) → D q → P (written f s ats bs q)
+written_each D P s [] f bs h k q on = h q on
+written_each D P s (at ∷ ats) f bs h k q on =
+    written_each D P s ats (put f at (take s bs)) (drop s bs)
+    (λ p p_on. elim (put_cases f at (take s bs) p) [
       | inl same ↦ subst P (sym same.1) k.0
-      | inr other ↦ subst P (sym other) (h p)
-    ]) k.1 q
+      | inr other ↦ subst P (sym other) (h p p_on)
+    ]) k.1 q on
 
 -- ---- what is read
 

@@ -5,6 +5,12 @@ pub mod Picked
 pub mod Kept
 pub mod Indexes
 pub mod Marks
+pub mod Buffers
+pub mod Touched
+pub mod Slabs
+pub mod Stretches
+pub mod Cuts
+pub mod Buffered
 pub use Rattle.hyperslab.specs.Selected
 pub use Rattle.hdf_values.specs.Nested
 pub use Rattle.hdf_values.specs.Elements

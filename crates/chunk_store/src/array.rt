@@ -1,7 +1,7 @@
 //! An array and the chunks that changed.
 
 ghost use Rattle.std.specs.Prelude.{◌≡◌, ◌≤◌, ◌+◌, ◌↔◌, ℕ, List, [], All, IsSome, length, option_map, false};
-ghost use Rattle.std.specs.Prelude.{Some, None, Err, IfOk, IfSome, OnOk, OnErr};
+ghost use Rattle.std.specs.Prelude.{Some, None, Err, IfOk, IfSome, IsTrue, OnOk, OnErr};
 ghost use Rattle.hdf_types.specs.Reading.{size_of};
 ghost use Rattle.hdf_types.specs.Types.{IsSoundType};
 ghost use Rattle.hdf_types.specs.Views.{elem as kind_of};
@@ -21,16 +21,18 @@ ghost use Rattle.chunk_store.specs.Marks.{MarksCut, MarksWritten, with_chunk, bo
 ghost use Rattle.chunk_store.specs.Marks.{cleared, cut};
 ghost use Rattle.chunk_store.specs.declared.array.InstallFault.TheVariants.{BadChunk, NoMemory};
 
-use crate::marks::{
-    Marks, clear_flags, first_changed, first_known, flag_chunks, flag_cut, note_chunks,
-};
+use crate::access;
+use crate::buffers::{Chunks, Frame, put_chunk};
+use crate::chunks::{cell_number, has_cell, is_blank_outside};
+use crate::cutting::cut;
+use crate::elements::{are_elements, blank_bytes};
+use crate::marks::{clear_flags, first_changed, first_known};
 use crate::picks::Picks;
-use crate::plain::PlainArray;
 use chunk_layout::Layout;
 use hdf_types::ElemType;
 use hyperslab::Slab;
 use point_select::Points;
-use shapes::{Dims, Shape};
+use shapes::{Dims, Shape, resized};
 use std::alloc::{AllocError, Global};
 use std::collections::BTreeMap;
 use std::marker::Model;
@@ -38,20 +40,25 @@ use std::marker::Model;
 /// An array, and which of its chunks have changed since they were last taken as unchanged.
 #[derive(Drop)]
 pub struct Array {
-    plain: PlainArray,
-    marks: Marks,
+    elem: ElemType,
+    shape: Shape,
+    given: bool,
+    frame: Frame,
+    chunks: Chunks,
 }
 
 impl Model for Array {
-    ghost use Rattle.chunk_store.specs.Marks.{Stored, coded_stored, AreIndexes};
+    ghost use Rattle.hdf_types.specs.Views.{elem as kind_of};
+    ghost use Rattle.chunk_store.specs.Buffered.{IsBuffered, stored_in};
+    ghost use Rattle.chunk_store.specs.Marks.{Stored, coded_stored};
 
     ghost Value = { Stored };
 
     ghost coded = { coded_stored };
 
-    ghost view = { λ a. record { grid = a.plain; marks = a.marks.entries } };
+    ghost view = { λ a. stored_in (kind_of a.elem) a.shape a.given a.frame a.chunks };
 
-    ghost invariant = { λ a. AreIndexes (record { grid = a.plain; marks = a.marks.entries }) };
+    ghost invariant = { λ a. IsBuffered (kind_of a.elem) a.shape a.given a.frame a.chunks };
 }
 
 /// Why a chunk was not installed.
@@ -93,23 +100,35 @@ impl Array {
         ensures marks { IfOk result (λ a. (i : List ℕ) → state a i ≡ None) }
         ensures tracked { IfOk result (λ a. IsTracked (λ _. []) a) }
     {
-        let plain = PlainArray::new(alloc, elem, shape, layout, fill)?;
-        let marks = BTreeMap::new(alloc);
-        Ok(Array { plain, marks })
+        let size = elem.size() as usize;
+        let given = fill.is_some();
+        let blank = blank_bytes(alloc, &elem, fill)?;
+        let frame = Frame {
+            layout,
+            size,
+            blank,
+        };
+        Ok(Array {
+            elem,
+            shape,
+            given,
+            frame,
+            chunks: BTreeMap::new(alloc),
+        })
     }
 
     /// The type of its elements.
     pub fn elem(&self) -> &ElemType
         ensures { kind_of result.now ≡ self.now.grid.kind }
     {
-        self.plain.elem()
+        &self.elem
     }
 
     /// The shape.
     pub fn shape(&self) -> &Shape
         ensures { result.now ≡ self.now.grid.shape }
     {
-        self.plain.shape()
+        &self.shape
     }
 
     /// The layout.
@@ -118,14 +137,18 @@ impl Array {
         ensures fits { Fits (size_of self.now.grid.kind)
             (dims_of self.now.grid.shape) self.now.grid.chunk }
     {
-        self.plain.layout()
+        &self.frame.layout
     }
 
     /// The fill, where one was given.
     pub fn fill(&self) -> Option<&[u8]>
         ensures { option_map (λ v. v.now) result ≡ self.now.grid.fill }
     {
-        self.plain.fill()
+        if self.given {
+            Some(self.frame.blank.as_slice())
+        } else {
+            None
+        }
     }
 
     /// What is true of every array: all parts are sound, each cell has an element's bytes, and the index of each chunk
@@ -134,7 +157,7 @@ impl Array {
         ensures grid { IsWhole self.now.grid }
         ensures indexes { AreIndexes self.now }
     {
-        self.plain.is_whole()
+        let _chunks = &self.chunks;
     }
 
     /// The bytes of the cells of a selection, in row-major order.
@@ -150,7 +173,7 @@ impl Array {
         ensures encoded { IfOk result (λ v.
             AreEncoded self.now.grid.kind (length (slab_cells slab.now self.now.grid.shape)) v.items) }
     {
-        self.plain.read_slab(alloc, slab)
+        self.read(alloc, &Picks::Slab(*slab))
     }
 
     /// The bytes of points, in their order.
@@ -165,7 +188,7 @@ impl Array {
         ensures encoded { IfOk result (λ v. AreEncoded self.now.grid.kind
             (length points.now) v.items) }
     {
-        self.plain.read_points(alloc, points)
+        self.read(alloc, &Picks::Points(points.as_slice()))
     }
 
     /// The bytes of `many` cells from a place on, in row-major order.
@@ -179,7 +202,8 @@ impl Array {
             ≡ reads self.now.grid (cells_from from many self.now.grid.shape)) }
         ensures encoded { IfOk result (λ v. AreEncoded self.now.grid.kind many v.items) }
     {
-        self.plain.read_places(alloc, from, many)
+        let _none = Dims::new();
+        self.read(alloc, &Picks::Places { from, many })
     }
 
     /// Writes elements into the cells of a selection, in row-major order.
@@ -248,7 +272,7 @@ impl Array {
         ensures tracked { (held : List ℕ → List ℕ) → IsTracked held self.old
             → IsTracked held self.new }
     {
-        let many = self.plain.elements_in(bytes);
+        let many = self.elements_in(bytes);
         self.write(alloc, &Picks::Places { from, many }, bytes)
     }
 
@@ -262,9 +286,11 @@ impl Array {
         ensures tracked { (held : List ℕ → List ℕ) → IsTracked held self.old
             → IsTracked held self.new }
     {
-        self.plain.is_whole();
-        flag_cut(&mut self.marks, &self.plain, dims);
-        self.plain.resize(dims);
+        let Ok(shape) = resized(&self.shape, dims) else {
+            unreachable!();
+        };
+        cut(&mut self.chunks, &self.frame, &self.shape, &shape);
+        self.shape = shape;
     }
 
     /// The first changed chunk behind one, or of all, in row-major order.
@@ -273,7 +299,7 @@ impl Array {
         ensures known { IfSome result (λ i. IsSome (state self.now i)) }
         ensures index { IfSome result (λ i. IsIndex self.now.grid.chunk i) }
     {
-        first_changed(&self.marks, after)
+        first_changed(&self.chunks, after)
     }
 
     /// The first chunk behind one, or of all, of which anything is known, changed or not, in row-major order.
@@ -282,20 +308,22 @@ impl Array {
         ensures known { IfSome result (λ i. IsSome (state self.now i)) }
         ensures index { IfSome result (λ i. IsIndex self.now.grid.chunk i) }
     {
-        first_known(&self.marks, after)
+        first_known(&self.chunks, after)
     }
 
     /// The bytes of a chunk that is known, in row-major order, with the fill in each cell outside the array; no byte
     /// where the chunk lies wholly outside.
-    ///
-    /// # Errors
-    ///
-    /// Only where memory runs out.
-    pub fn chunk_copy(&self, alloc: Global, index: &Dims) -> Result<Vec<u8>, AllocError>
+    pub fn chunk_bytes(&self, index: &Dims) -> &[u8]
         requires known { IsSome (state self.now index.now) }
-        ensures { IfOk result (λ v. v.items ≡ body_of self.now.grid index.now) }
+        ensures { result.now ≡ body_of self.now.grid index.now }
     {
-        self.plain.chunk_copy(alloc, index)
+        if !has_cell(&self.frame.layout, &self.shape, index) {
+            return &[];
+        }
+        let Some(held) = self.chunks.get(index) else {
+            unreachable!();
+        };
+        held.bytes.as_slice()
     }
 
     /// Takes each chunk as unchanged, and forgets those outside the array. It takes no memory.
@@ -306,7 +334,7 @@ impl Array {
         ensures tracked { (held : List ℕ → List ℕ) → IsTracked held self.old
             → IsTracked (cut held self.old) self.new }
     {
-        clear_flags(&mut self.marks, &self.plain);
+        clear_flags(&mut self.chunks, &self.frame.layout, &self.shape);
     }
 
     /// Puts in the bytes of a chunk, which then is unchanged.
@@ -333,13 +361,48 @@ impl Array {
         ensures tracked { OnOk result ((held : List ℕ → List ℕ) → IsTracked held self.old
             → IsTracked (put held index.now bytes.items) self.new) }
     {
-        let bytes = bytes.as_slice();
-        if !self.plain.is_chunk(index, bytes) {
+        if !self.is_chunk(index, bytes.as_slice()) {
             return Err(InstallFault::BadChunk);
         }
-        self.plain.is_whole();
-        self.plain.put_chunk(alloc, &mut self.marks, index, bytes)?;
+        put_chunk(&mut self.chunks, index, bytes)?;
         Ok(())
+    }
+
+    /// Whether bytes are those of a chunk of the array, with the fill in each cell outside.
+    fn is_chunk(&self, index: &Dims, bytes: &[u8]) -> bool
+        ensures { IsTrue result ↔ IsChunkOf self.now.grid index.now bytes.now }
+    {
+        if !has_cell(&self.frame.layout, &self.shape, index) {
+            return false;
+        }
+        if !are_elements(&self.elem, cell_number(&self.frame.layout), bytes) {
+            return false;
+        }
+        is_blank_outside(
+            self.frame.blank.as_slice(),
+            &self.frame.layout,
+            &self.shape,
+            index,
+            bytes,
+        )
+    }
+
+    /// How many elements bytes are.
+    fn elements_in(&self, bytes: &[u8]) -> u64
+        ensures { (many : ℕ) → AreEncoded self.now.grid.kind many bytes.now → result ≡ many }
+    {
+        (bytes.len() / self.frame.size) as u64
+    }
+
+    fn read(&self, alloc: Global, picks: &Picks) -> Result<Vec<u8>, AllocError>
+        requires { PicksIn picks.now self.now.grid.shape }
+        ensures bytes { IfOk result (λ v. v.items
+            ≡ reads self.now.grid (picked picks.now self.now.grid.shape)) }
+        ensures encoded { IfOk result (λ v. AreEncoded self.now.grid.kind
+            (length (picked picks.now self.now.grid.shape)) v.items) }
+    {
+        let bytes = access::read(alloc, &self.chunks, &self.frame, &self.shape, picks)?;
+        Ok(bytes)
     }
 
     fn write(&mut self, alloc: Global, picks: &Picks, bytes: &[u8]) -> Result<(), AllocError>
@@ -356,10 +419,8 @@ impl Array {
         ensures tracked { (held : List ℕ → List ℕ) → IsTracked held self.old
             → IsTracked held self.new }
     {
-        self.plain.is_whole();
-        note_chunks(&mut self.marks, &self.plain, picks)?;
-        self.plain.write(alloc, picks, bytes)?;
-        flag_chunks(&mut self.marks, &self.plain, picks);
+        access::grow(alloc, &mut self.chunks, &self.frame, &self.shape, picks)?;
+        access::write(&mut self.chunks, &self.frame, &self.shape, picks, bytes);
         Ok(())
     }
 }

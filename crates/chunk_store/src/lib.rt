@@ -3,17 +3,35 @@
 //! "Chunked storage layout").
 #![tactic(auto)]
 
+mod access;
 mod array;
+mod buffers;
+#[cfg(test)]
 mod cells;
 mod chunks;
+mod cutting;
+#[cfg(test)]
+mod draws;
+mod elements;
 mod laws;
 mod marks;
 mod picks;
+mod places;
+#[cfg(test)]
 mod plain;
 #[cfg(test)]
+mod plain_chunks;
+mod points;
+mod slabs;
+mod stretches;
+#[cfg(test)]
 mod tests;
+mod touched;
 #[cfg(test)]
 mod trials;
+#[cfg(test)]
+mod twins;
+#[cfg(test)]
 mod walks;
 
 pub use array::{Array, InstallFault};

@@ -3,8 +3,10 @@
 ghost use Rattle.hyperslab.specs.Selected.{IsSlab, SlabIn};
 
 use crate::Array;
-use crate::plain::are_elements;
+use crate::draws::{Draws, drawn_row};
+use crate::elements::are_elements;
 use crate::trials::{lead, made, points_of, slab_of, tree, value_of};
+use crate::twins::Twins;
 use hdf_values::read_nested;
 use hyperslab::{Slab, SlabFault, from_lists, read_select};
 use shapes::{Dims, count, read_dims, resized};
@@ -91,6 +93,16 @@ fn calls_in_turn(rt: HostRuntime) -> Result<(), AllocError> {
     Ok(())
 }
 
+#[test]
+fn drawn_calls(rt: HostRuntime) -> Result<(), AllocError> {
+    let mut draws = Draws::new(1);
+    for _ in 0..200 {
+        let row = drawn_row(&rt, &mut draws, 8);
+        lead(&rt, row.as_str())?;
+    }
+    Ok(())
+}
+
 // ---- rows worked out by hand
 
 /// The value of a selection as JSON text.
@@ -118,88 +130,91 @@ fn bytes_of(
 
 fn put_slab(
     rt: &(impl Abort + AllocGlobal),
-    array: &mut Array,
+    twins: &mut Twins,
     slab: &Slab,
     value: &str,
 ) -> Result<(), AllocError>
     requires slab { IsSlab slab.now }
-    requires inside { SlabIn slab.now array.old.grid.shape }
+    requires inside { SlabIn slab.now twins.old.grid.shape }
 {
-    let bytes = bytes_of(rt, array, &slab.extents(), value)?;
-    array.is_whole();
-    assert!(rt; are_elements(array.elem(), slab.count(), bytes.as_slice()));
-    array.write_slab(rt.alloc(), slab, bytes.as_slice())
+    let bytes = bytes_of(rt, twins.array(), &slab.extents(), value)?;
+    twins.array().is_whole();
+    assert!(rt; are_elements(twins.array().elem(), slab.count(), bytes.as_slice()));
+    twins.write_slab(rt, slab, bytes.as_slice());
+    Ok(())
 }
 
 /// Writes by a selection that lists spell.
 fn put_lists(
     rt: &(impl Abort + AllocGlobal),
-    array: &mut Array,
+    twins: &mut Twins,
     keys: &str,
     value: &str,
 ) -> Result<(), AllocError> {
-    array.is_whole();
+    twins.array().is_whole();
     let keys = tree(rt, keys);
     let slab = from_lists(
         keys.get("start"),
         keys.get("stop"),
         keys.get("step"),
-        array.shape(),
+        twins.array().shape(),
     );
     let slab = slab.expect(rt, "a selection");
-    put_slab(rt, array, &slab, value)
+    put_slab(rt, twins, &slab, value)
 }
 
 fn put_points(
     rt: &(impl Abort + AllocGlobal),
-    array: &mut Array,
+    twins: &mut Twins,
     points: &str,
     value: &str,
 ) -> Result<(), AllocError> {
-    let points = points_of(rt.alloc(), &tree(rt, points), array).expect(rt, "points");
+    let points = points_of(rt.alloc(), &tree(rt, points), twins).expect(rt, "points");
     let many = points.len() as u64;
     let mut extents = Dims::new();
     extents.keep(many);
-    let bytes = bytes_of(rt, array, &extents, value)?;
-    array.is_whole();
-    assert!(rt; are_elements(array.elem(), many, bytes.as_slice()));
-    array.write_points(rt.alloc(), &points, bytes.as_slice())
+    let bytes = bytes_of(rt, twins.array(), &extents, value)?;
+    twins.array().is_whole();
+    assert!(rt; are_elements(twins.array().elem(), many, bytes.as_slice()));
+    twins.write_points(rt, &points, bytes.as_slice());
+    Ok(())
 }
 
 /// Writes the numbers from 0 on, as many as there are.
 fn count_up(
     rt: &(impl Abort + AllocGlobal),
-    array: &mut Array,
+    twins: &mut Twins,
     many: u32,
 ) -> Result<(), AllocError> {
     let mut bytes = Vec::new(rt.alloc());
     for k in 0..many {
         bytes.extend_from_slice(k.to_le_bytes().as_slice())?;
     }
-    array.is_whole();
-    assert!(rt; u64::from(many) <= count(array.shape()));
-    assert!(rt; are_elements(array.elem(), u64::from(many), bytes.as_slice()));
-    array.write_places(rt.alloc(), 0, bytes.as_slice())
+    twins.array().is_whole();
+    assert!(rt; u64::from(many) <= count(twins.array().shape()));
+    assert!(rt; are_elements(twins.array().elem(), u64::from(many), bytes.as_slice()));
+    twins.write_places(rt, 0, u64::from(many), bytes.as_slice());
+    Ok(())
 }
 
-fn set_dims(rt: &(impl Abort + AllocGlobal), array: &mut Array, dims: &str) {
+fn set_dims(rt: &(impl Abort + AllocGlobal), twins: &mut Twins, dims: &str) {
     let dims = read_dims(&tree(rt, dims)).expect(rt, "dims");
-    assert!(rt; resized(array.shape(), &dims).is_ok());
-    array.resize(&dims);
+    assert!(rt; resized(twins.array().shape(), &dims).is_ok());
+    twins.resize(&dims);
 }
 
 #[test]
 fn a_strided_selection_over_chunks(rt: HostRuntime) -> Result<(), AllocError> {
-    let mut array = made(&rt, "i32 [10,8] [10,8] [4,4] -")?;
-    count_up(&rt, &mut array, 80)?;
-    let read = shown(&rt, &array, "[1:10:4,0:7:3]")?;
+    let mut twins = made(&rt, "i32 [10,8] [10,8] [4,4] -")?;
+    count_up(&rt, &mut twins, 80)?;
+    let read = shown(&rt, twins.array(), "[1:10:4,0:7:3]")?;
     assert!(rt;
         read.as_str() == "[[8,11,14],[40,43,46],[72,75,78]]",
         "{read}"
     );
     let keys = r#"{"start":[1,0],"step":[4,3],"stop":[10,7]}"#;
-    put_lists(&rt, &mut array, keys, "[[1,2,3],[4,5,6],[7,8,9]]")?;
-    let read = shown(&rt, &array, "[8:10,4:8]")?;
+    put_lists(&rt, &mut twins, keys, "[[1,2,3],[4,5,6],[7,8,9]]")?;
+    let read = shown(&rt, twins.array(), "[8:10,4:8]")?;
     assert!(rt; read.as_str() == "[[68,69,70,71],[76,77,9,79]]", "{read}");
     Ok(())
 }
@@ -207,49 +222,52 @@ fn a_strided_selection_over_chunks(rt: HostRuntime) -> Result<(), AllocError> {
 #[test]
 fn selections_of_no_cell(rt: HostRuntime) -> Result<(), AllocError> {
     let list = made(&rt, "i32 [10] [10] - -")?;
-    let read = shown(&rt, &list, "[3:3]")?;
+    let read = shown(&rt, list.array(), "[3:3]")?;
     assert!(rt; read.as_str() == "[]", "{read}");
-    list.is_whole();
-    let past = read_select("[0:11]", list.shape());
+    list.array().is_whole();
+    let past = read_select("[0:11]", list.array().shape());
     assert!(rt; past == Err(SlabFault::Past { axis: 0 }));
     let table = made(&rt, "i32 [2,4] [2,4] - -")?;
-    let read = shown(&rt, &table, "[0:2,3:3]")?;
+    let read = shown(&rt, table.array(), "[0:2,3:3]")?;
     assert!(rt; read.as_str() == "[[],[]]", "{read}");
     Ok(())
 }
 
 #[test]
 fn the_last_of_repeated_points_counts(rt: HostRuntime) -> Result<(), AllocError> {
-    let mut array = made(&rt, "i32 [4] [4] - -")?;
-    put_points(&rt, &mut array, "[1,1,3]", "[5,6,7]")?;
-    let read = shown(&rt, &array, "all")?;
+    let mut twins = made(&rt, "i32 [4] [4] - -")?;
+    put_points(&rt, &mut twins, "[1,1,3]", "[5,6,7]")?;
+    let read = shown(&rt, twins.array(), "all")?;
     assert!(rt; read.as_str() == "[0,6,0,7]", "{read}");
     Ok(())
 }
 
 #[test]
 fn cells_that_come_back_have_the_fill(rt: HostRuntime) -> Result<(), AllocError> {
-    let mut array = made(&rt, "i32 [10] [10] - -")?;
-    count_up(&rt, &mut array, 10)?;
-    set_dims(&rt, &mut array, "[3]");
-    set_dims(&rt, &mut array, "[10]");
-    let read = shown(&rt, &array, "all")?;
+    let mut twins = made(&rt, "i32 [10] [10] - -")?;
+    count_up(&rt, &mut twins, 10)?;
+    set_dims(&rt, &mut twins, "[3]");
+    set_dims(&rt, &mut twins, "[10]");
+    let read = shown(&rt, twins.array(), "all")?;
     assert!(rt; read.as_str() == "[0,1,2,0,0,0,0,0,0,0]", "{read}");
     let longer = read_dims(&tree(&rt, "[11]")).expect(&rt, "dims");
-    assert!(rt; resized(array.shape(), &longer).is_err());
+    assert!(rt; resized(twins.array().shape(), &longer).is_err());
     Ok(())
 }
 
 #[test]
 fn a_chunk_is_copied(rt: HostRuntime) -> Result<(), AllocError> {
-    let mut array = made(&rt, "i32 [2] [2] - -")?;
-    put_lists(&rt, &mut array, "{}", "[1,2]")?;
-    let read = shown(&rt, &array, "[:]")?;
+    let mut twins = made(&rt, "i32 [2] [2] - -")?;
+    put_lists(&rt, &mut twins, "{}", "[1,2]")?;
+    let read = shown(&rt, twins.array(), "[:]")?;
     assert!(rt; read.as_str() == "[1,2]", "{read}");
-    let index = array.next_dirty(None).expect(&rt, "a changed chunk");
+    let index = twins
+        .array()
+        .next_dirty(None)
+        .expect(&rt, "a changed chunk");
     assert!(rt; index.as_slice() == [0].as_slice());
-    assert!(rt; array.layout().chunk.as_slice() == [2].as_slice());
-    let copy = array.chunk_copy(rt.alloc(), &index)?;
-    assert!(rt; copy.as_slice() == [1, 0, 0, 0, 2, 0, 0, 0].as_slice());
+    assert!(rt; twins.array().layout().chunk.as_slice() == [2].as_slice());
+    let copy = twins.chunk(&rt, &index);
+    assert!(rt; copy == [1, 0, 0, 0, 2, 0, 0, 0].as_slice());
     Ok(())
 }

@@ -1,4 +1,4 @@
-//! An array beside a plain list of its cells, both led through the same calls.
+//! Arrays beside a plain list of their cells, led through the same calls.
 
 ghost use Rattle.std.specs.Prelude.{◌≡◌, ◌≤◌, All, length, IfOk, IfSome};
 ghost use Rattle.hdf_types.specs.Types.{IsSoundType};
@@ -9,8 +9,9 @@ ghost use Rattle.shapes.specs.Shapes.{IsSound, LiesIn};
 ghost use Rattle.point_select.specs.declared.TheConstants.{MAX_POINTS};
 ghost use Rattle.hyperslab.specs.Selected.{IsSlab, SlabIn};
 
-use crate::plain::are_elements;
-use crate::{Array, InstallFault};
+use crate::Array;
+use crate::elements::are_elements;
+use crate::twins::Twins;
 use chunk_layout::{Layout, read_layout};
 use hdf_types::{ElemType, read_type};
 use hdf_values::{is_encoded, write_nested};
@@ -38,7 +39,7 @@ struct Record {
 // ---- the plain list
 
 /// The coordinates inside dims, in row-major order.
-fn coords_in(alloc: Global, dims: &[u64]) -> Result<Vec<Dims>, AllocError> {
+pub fn coords_in(alloc: Global, dims: &[u64]) -> Result<Vec<Dims>, AllocError> {
     let mut lists = vec![in alloc; Dims::new()]?;
     for n in dims {
         lists = longer(alloc, lists.as_slice(), *n)?;
@@ -135,7 +136,7 @@ fn set_from(cells: &mut [Cell], from: u64, letters: &[u8]) {
 }
 
 /// The cell at these coordinates of a chunk.
-fn cell_of_chunk(inner: &Dims, index: &Dims, chunk: &Dims) -> Dims {
+pub fn cell_of_chunk(inner: &Dims, index: &Dims, chunk: &Dims) -> Dims {
     let mut at = Dims::new();
     let axes = index.as_slice().iter().zip(chunk.as_slice().iter());
     for (x, (i, n)) in inner.as_slice().iter().zip(axes) {
@@ -251,7 +252,7 @@ fn blank_of(letter: &str) -> u8 {
 }
 
 /// The array of a type, dims, their limits, a chunk and a letter of the fill.
-pub fn made(rt: &(impl Abort + AllocGlobal), text: &str) -> Result<Array, AllocError> {
+pub fn made(rt: &(impl Abort + AllocGlobal), text: &str) -> Result<Twins, AllocError> {
     let mut words = text.split(' ');
     let kind = tree(rt, type_text(words.next().unwrap_or("")));
     let dims = words.next().unwrap_or("");
@@ -261,7 +262,7 @@ pub fn made(rt: &(impl Abort + AllocGlobal), text: &str) -> Result<Array, AllocE
     let shape = shape_of(rt, dims, limits);
     let layout = read_layout(&chunk, &shape, kind.size()).expect(rt, "a layout");
     let fill = fill_of(rt, &kind, words.next().unwrap_or("-"))?;
-    Array::new(rt.alloc(), kind, shape, layout, fill)
+    Ok(Twins::new(rt, kind, shape, layout, fill))
 }
 
 /// Letters as elements of the array.
@@ -289,12 +290,12 @@ pub fn slab_of(rt: &(impl Abort + AllocGlobal), array: &Array, text: &str) -> Sl
     read_select(text, array.shape()).expect(rt, "a selection")
 }
 
-/// The points of the array that a tree spells.
-pub fn points_of(alloc: Global, tree: &Value, array: &Array) -> Option<Points>
+/// The points of the arrays that a tree spells.
+pub fn points_of(alloc: Global, tree: &Value, twins: &Twins) -> Option<Points>
     ensures few { IfSome result (λ points. length points ≤ MAX_POINTS) }
-    ensures inside { IfSome result (All (λ at. LiesIn at array.now.grid.shape)) }
+    ensures inside { IfSome result (All (λ at. LiesIn at twins.now.grid.shape)) }
 {
-    match read_points(alloc, tree, array.shape()) {
+    match read_points(alloc, tree, twins.array().shape()) {
         Ok(points) => Some(points),
         Err(_) => None,
     }
@@ -322,36 +323,36 @@ fn numbers(rt: &(impl Abort + AllocGlobal), text: &str) -> Dims {
 
 fn write_slab(
     rt: &(impl Abort + AllocGlobal),
-    array: &mut Array,
+    twins: &mut Twins,
     cells: &mut Vec<Cell>,
     place: &str,
     letters: &[u8],
 ) -> Result<(), AllocError> {
-    let slab = slab_of(rt, array, place);
-    let bytes = elements(rt, array, letters)?;
+    let slab = slab_of(rt, twins.array(), place);
+    let bytes = elements(rt, twins.array(), letters)?;
     assert!(rt;
         slab.count() == letters.len() as u64,
         "as many letters as cells in {place}"
     );
-    array.write_slab(rt.alloc(), &slab, bytes.as_slice())?;
+    twins.write_slab(rt, &slab, bytes.as_slice());
     set_selected(cells.as_mut_slice(), &slab, letters);
     Ok(())
 }
 
 fn write_points(
     rt: &(impl Abort + AllocGlobal),
-    array: &mut Array,
+    twins: &mut Twins,
     cells: &mut Vec<Cell>,
     place: &str,
     letters: &[u8],
 ) -> Result<(), AllocError> {
-    let points = points_of(rt.alloc(), &tree(rt, place), array).expect(rt, "points");
-    let bytes = elements(rt, array, letters)?;
+    let points = points_of(rt.alloc(), &tree(rt, place), twins).expect(rt, "points");
+    let bytes = elements(rt, twins.array(), letters)?;
     assert!(rt;
         points.len() == letters.len(),
         "as many letters as points in {place}"
     );
-    array.write_points(rt.alloc(), &points, bytes.as_slice())?;
+    twins.write_points(rt, &points, bytes.as_slice());
     for (at, letter) in points.as_slice().iter().zip(letters) {
         set_at(cells.as_mut_slice(), at, *letter);
     }
@@ -360,34 +361,34 @@ fn write_points(
 
 fn write_places(
     rt: &(impl Abort + AllocGlobal),
-    array: &mut Array,
+    twins: &mut Twins,
     cells: &mut Vec<Cell>,
     place: &str,
     letters: &[u8],
 ) -> Result<(), AllocError> {
-    array.is_whole();
+    twins.array().is_whole();
     let from = tree(rt, place).as_u64().expect(rt, "a place");
-    let bytes = elements(rt, array, letters)?;
-    let cell_count = count(array.shape());
+    let bytes = elements(rt, twins.array(), letters)?;
+    let cell_count = count(twins.array().shape());
     assert!(rt;
         from <= cell_count && letters.len() as u64 <= cell_count - from,
         "places {place}"
     );
-    array.write_places(rt.alloc(), from, bytes.as_slice())?;
+    twins.write_places(rt, from, letters.len() as u64, bytes.as_slice());
     set_from(cells.as_mut_slice(), from, letters);
     Ok(())
 }
 
 fn resize(
     rt: &(impl Abort + AllocGlobal),
-    array: &mut Array,
+    twins: &mut Twins,
     cells: &[Cell],
     blank: u8,
     dims: &str,
 ) -> Result<Vec<Cell>, AllocError> {
     let dims = read_dims(&tree(rt, dims)).expect(rt, "dims");
-    assert!(rt; resized(array.shape(), &dims).is_ok());
-    array.resize(&dims);
+    assert!(rt; resized(twins.array().shape(), &dims).is_ok());
+    twins.resize(&dims);
     let mut new = cells_in(rt.alloc(), dims.as_slice(), blank)?;
     for cell in cells {
         set_at(new.as_mut_slice(), &cell.at, cell.letter);
@@ -403,19 +404,19 @@ fn put_record(records: &mut Vec<Record>, index: Dims, body: Vec<u8>) -> Result<(
 
 fn install(
     rt: &(impl Abort + AllocGlobal),
-    array: &mut Array,
+    twins: &mut Twins,
     cells: &mut Vec<Cell>,
     place: &str,
     letters: &[u8],
 ) -> Result<Record, AllocError> {
-    array.is_whole();
+    twins.array().is_whole();
     let index = numbers(rt, place);
-    let body = repeated(rt.alloc(), letters, array.elem().size())?;
-    let copy = body.clone()?;
-    array
-        .install(rt.alloc(), &index, copy)
-        .expect(rt, "a chunk");
-    let chunk = array.layout().chunk;
+    let body = repeated(rt.alloc(), letters, twins.array().elem().size())?;
+    assert!(rt;
+        twins.install(rt, &index, body.as_slice()),
+        "{place} is a chunk"
+    );
+    let chunk = twins.array().layout().chunk;
     let inner = coords_in(rt.alloc(), chunk.as_slice())?;
     for (inner, letter) in inner.as_slice().iter().zip(letters) {
         set_at(
@@ -430,16 +431,15 @@ fn install(
 /// Bytes that are no chunk's.
 fn refuse(
     rt: &(impl Abort + AllocGlobal),
-    array: &mut Array,
+    twins: &mut Twins,
     place: &str,
     letters: &[u8],
 ) -> Result<(), AllocError> {
-    array.is_whole();
+    twins.array().is_whole();
     let index = numbers(rt, place);
-    let bytes = repeated(rt.alloc(), letters, array.elem().size())?;
-    let answer = array.install(rt.alloc(), &index, bytes);
+    let bytes = repeated(rt.alloc(), letters, twins.array().elem().size())?;
     assert!(rt;
-        answer == Err(InstallFault::BadChunk),
+        !twins.install(rt, &index, bytes.as_slice()),
         "{place} is no chunk"
     );
     Ok(())
@@ -448,42 +448,109 @@ fn refuse(
 /// Writes the records of the changed chunks.
 fn cut(
     rt: &(impl Abort + AllocGlobal),
-    array: &mut Array,
+    twins: &mut Twins,
     records: &mut Vec<Record>,
 ) -> Result<(), AllocError> {
     let mut last = None;
     for _ in 0..MANY {
-        let Some(index) = array.next_dirty(last.as_ref()) else {
+        let Some(index) = twins.array().next_dirty(last.as_ref()) else {
             break;
         };
-        let body = array.chunk_copy(rt.alloc(), &index)?;
+        let body = twins.chunk(rt, &index).to_vec(rt.alloc())?;
         put_record(records, index, body)?;
         last = Some(index);
     }
-    array.clear_dirty();
-    assert!(rt; array.next_dirty(None).is_none());
+    twins.clear_dirty();
+    assert!(rt; twins.array().next_dirty(None).is_none());
     Ok(())
 }
 
 /// More chunks than an array of the tables has.
 const MANY: u32 = 64;
 
+// ---- reads
+
+/// The letters of cells as elements, where these are what was read.
+fn check_read(
+    rt: &(impl Abort + AllocGlobal),
+    array: &Array,
+    letters: &[u8],
+    read: &[u8],
+) -> Result<(), AllocError> {
+    array.is_whole();
+    let want = repeated(rt.alloc(), letters, array.elem().size())?;
+    assert!(rt; read == want.as_slice());
+    Ok(())
+}
+
+fn read_slab(
+    rt: &(impl Abort + AllocGlobal),
+    twins: &Twins,
+    cells: &[Cell],
+    place: &str,
+) -> Result<(), AllocError> {
+    let slab = slab_of(rt, twins.array(), place);
+    let bytes = twins.read_slab(rt, &slab);
+    let mut letters = Vec::new(rt.alloc());
+    for cell in cells {
+        if is_selected(&slab, &cell.at) {
+            letters.push(cell.letter)?;
+        }
+    }
+    check_read(rt, twins.array(), letters.as_slice(), bytes.as_slice())
+}
+
+fn read_some(
+    rt: &(impl Abort + AllocGlobal),
+    twins: &Twins,
+    cells: &[Cell],
+    place: &str,
+) -> Result<(), AllocError> {
+    let points = points_of(rt.alloc(), &tree(rt, place), twins).expect(rt, "points");
+    let bytes = twins.read_points(rt, &points);
+    let mut letters = Vec::new(rt.alloc());
+    for at in points.as_slice() {
+        letters.push(letter_at(cells, at).expect(rt, "a cell"))?;
+    }
+    check_read(rt, twins.array(), letters.as_slice(), bytes.as_slice())
+}
+
+/// Reads the cells from a place on.
+fn read_from(
+    rt: &(impl Abort + AllocGlobal),
+    twins: &Twins,
+    cells: &[Cell],
+    place: &str,
+) -> Result<(), AllocError> {
+    twins.array().is_whole();
+    let from = tree(rt, place).as_u64().expect(rt, "a place");
+    let many = count(twins.array().shape());
+    assert!(rt; from <= many);
+    let bytes = twins.read_places(rt, from, many - from);
+    let letters = letters_of(rt.alloc(), cells)?;
+    let letters = letters
+        .as_slice()
+        .get(from as usize..)
+        .expect(rt, "a place");
+    check_read(rt, twins.array(), letters, bytes.as_slice())
+}
+
 // ---- what must be so after each call
 
 /// The whole array, read in three ways.
 fn check_cells(
     rt: &(impl Abort + AllocGlobal),
-    array: &Array,
+    twins: &Twins,
     cells: &[Cell],
     row: &str,
 ) -> Result<(), AllocError> {
-    array.is_whole();
+    twins.array().is_whole();
     let letters = letters_of(rt.alloc(), cells)?;
-    let want = repeated(rt.alloc(), letters.as_slice(), array.elem().size())?;
-    let slab = slab_of(rt, array, "all");
-    let by_slab = array.read_slab(rt.alloc(), &slab)?;
+    let want = repeated(rt.alloc(), letters.as_slice(), twins.array().elem().size())?;
+    let slab = slab_of(rt, twins.array(), "all");
+    let by_slab = twins.read_slab(rt, &slab);
     assert!(rt; by_slab.as_slice() == want.as_slice(), "a slab of {row}");
-    let by_place = array.read_places(rt.alloc(), 0, count(array.shape()))?;
+    let by_place = twins.read_places(rt, 0, count(twins.array().shape()));
     assert!(rt; by_place.as_slice() == want.as_slice(), "places of {row}");
     Ok(())
 }
@@ -510,17 +577,17 @@ fn check_chunk(
 
 fn check_chunks(
     rt: &(impl Abort + AllocGlobal),
-    array: &Array,
+    twins: &Twins,
     cells: &[Cell],
     blank: u8,
 ) -> Result<(), AllocError> {
     let mut last = None;
     for _ in 0..MANY {
-        let Some(index) = array.next_chunk(last.as_ref()) else {
+        let Some(index) = twins.array().next_chunk(last.as_ref()) else {
             break;
         };
-        let copy = array.chunk_copy(rt.alloc(), &index)?;
-        check_chunk(rt, array, cells, blank, &index, copy.as_slice())?;
+        let copy = twins.chunk(rt, &index);
+        check_chunk(rt, twins.array(), cells, blank, &index, copy)?;
         last = Some(index);
     }
     Ok(())
@@ -529,7 +596,7 @@ fn check_chunks(
 /// The records, put into a new array, give all cells.
 fn check_records(
     rt: &(impl Abort + AllocGlobal),
-    array: &mut Array,
+    twins: &mut Twins,
     cells: &[Cell],
     records: Vec<Record>,
     row: &str,
@@ -537,23 +604,21 @@ fn check_records(
     for record in records {
         let Record { index, body } = record;
         if !body.is_empty() {
-            array
-                .install(rt.alloc(), &index, body)
-                .expect(rt, "a chunk");
+            assert!(rt; twins.install(rt, &index, body.as_slice()));
         }
     }
-    check_cells(rt, array, cells, row)
+    check_cells(rt, twins, cells, row)
 }
 
-/// A new array with the parts of another.
-fn blank_copy(rt: &(impl Abort + AllocGlobal), array: &Array) -> Result<Array, AllocError> {
+/// New arrays with the parts of another.
+fn blank_copy(rt: &(impl Abort + AllocGlobal), array: &Array) -> Result<Twins, AllocError> {
     array.is_whole();
     let kind = array.elem().copy(rt.alloc())?;
     let fill = match array.fill() {
         Some(bytes) => Some(bytes.to_vec(rt.alloc())?),
         None => None,
     };
-    Array::new(rt.alloc(), kind, *array.shape(), *array.layout(), fill)
+    Ok(Twins::new(rt, kind, *array.shape(), *array.layout(), fill))
 }
 
 // ---- lists of calls
@@ -561,7 +626,7 @@ fn blank_copy(rt: &(impl Abort + AllocGlobal), array: &Array) -> Result<Array, A
 /// One call, and the place and letters that it takes.
 fn call(
     rt: &(impl Abort + AllocGlobal),
-    array: &mut Array,
+    twins: &mut Twins,
     cells: &mut Vec<Cell>,
     records: &mut Vec<Record>,
     text: &str,
@@ -571,39 +636,45 @@ fn call(
     let place = words.next().unwrap_or("");
     let letters = words.next().unwrap_or("").as_bytes();
     if name == "slab" {
-        write_slab(rt, array, cells, place, letters)
+        write_slab(rt, twins, cells, place, letters)
     } else if name == "points" {
-        write_points(rt, array, cells, place, letters)
+        write_points(rt, twins, cells, place, letters)
     } else if name == "places" {
-        write_places(rt, array, cells, place, letters)
+        write_places(rt, twins, cells, place, letters)
     } else if name == "install" {
-        let record = install(rt, array, cells, place, letters)?;
+        let record = install(rt, twins, cells, place, letters)?;
         put_record(records, record.index, record.body)
+    } else if name == "read" {
+        read_slab(rt, twins, cells.as_slice(), place)
+    } else if name == "some" {
+        read_some(rt, twins, cells.as_slice(), place)
+    } else if name == "from" {
+        read_from(rt, twins, cells.as_slice(), place)
     } else if name == "refuse" {
-        refuse(rt, array, place, letters)
+        refuse(rt, twins, place, letters)
     } else {
-        cut(rt, array, records)
+        cut(rt, twins, records)
     }
 }
 
-/// A row: an array's parts, and the calls on it.
+/// A row: the arrays' parts, and the calls on it.
 pub fn lead(rt: &(impl Abort + AllocGlobal), row: &str) -> Result<(), AllocError> {
     let mut calls = row.split(';');
     let parts = calls.next().unwrap_or("");
     let blank = blank_of(parts.split(' ').last().unwrap_or("-"));
-    let mut array = made(rt, parts)?;
-    let mut cells = cells_of(rt.alloc(), array.shape(), blank)?;
+    let mut twins = made(rt, parts)?;
+    let mut cells = cells_of(rt.alloc(), twins.array().shape(), blank)?;
     let mut records = Vec::new(rt.alloc());
     for text in calls {
         let text = text.trim();
         match text.strip_prefix("resize ") {
-            Some(dims) => cells = resize(rt, &mut array, cells.as_slice(), blank, dims)?,
-            None => call(rt, &mut array, &mut cells, &mut records, text)?,
+            Some(dims) => cells = resize(rt, &mut twins, cells.as_slice(), blank, dims)?,
+            None => call(rt, &mut twins, &mut cells, &mut records, text)?,
         }
-        check_cells(rt, &array, cells.as_slice(), row)?;
-        check_chunks(rt, &array, cells.as_slice(), blank)?;
+        check_cells(rt, &twins, cells.as_slice(), row)?;
+        check_chunks(rt, &twins, cells.as_slice(), blank)?;
     }
-    cut(rt, &mut array, &mut records)?;
-    let mut again = blank_copy(rt, &array)?;
+    cut(rt, &mut twins, &mut records)?;
+    let mut again = blank_copy(rt, twins.array())?;
     check_records(rt, &mut again, cells.as_slice(), records, row)
 }

@@ -8,9 +8,46 @@ ghost use Rattle.chunk_store.specs.Grids.{written};
 ghost use Rattle.chunk_store.specs.Picked.{picked, PicksIn};
 
 use crate::cells::{Cells, add_missing, overwrite, value_or};
-use crate::picks::{Picks, many, pick};
-use shapes::Shape;
+use crate::picks::Picks;
+use shapes::{Dims, Shape, coords_at};
 use std::alloc::{AllocError, Global};
+
+/// How many cells are picked.
+fn many(picks: &Picks, shape: &Shape) -> u64
+    requires sound { IsSound shape.now }
+    requires picks { PicksIn picks.now shape.now }
+    ensures { result ≡ length (picked picks.now shape.now) }
+{
+    match picks {
+        Picks::Slab(slab) => slab.count(),
+        Picks::Points(points) => points.len() as u64,
+        Picks::Places { many, .. } => *many,
+    }
+}
+
+/// The cell with a number.
+fn pick(picks: &Picks, shape: &Shape, k: u64) -> Dims
+    requires sound { IsSound shape.now }
+    requires picks { PicksIn picks.now shape.now }
+    requires below { k < length (picked picks.now shape.now) }
+    ensures at { slice_index_or (picked picks.now shape.now) k [] ≡ result }
+    ensures inside { LiesIn result shape.now }
+{
+    cell(picks, shape, k)
+}
+
+fn cell(picks: &Picks, shape: &Shape, k: u64) -> Dims
+    requires sound { IsSound shape.now }
+    requires picks { PicksIn picks.now shape.now }
+    requires below { k < length (picked picks.now shape.now) }
+    ensures { slice_index_or (picked picks.now shape.now) k [] ≡ result }
+{
+    match picks {
+        Picks::Slab(slab) => slab.coords(k),
+        Picks::Points(points) => points[k as usize],
+        Picks::Places { from, .. } => coords_at(shape, *from + k),
+    }
+}
 
 /// The bytes of picked cells, one after another.
 pub(crate) fn read_cells(

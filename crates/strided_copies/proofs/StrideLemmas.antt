@@ -11,7 +11,7 @@ use Rattle.strided_copies.specs.declared.copies.Strided.{Strided}
 -- ---- elements that follow one another
 
 -- one of `n` elements from the number `a` on
-piece_of_cut : (size a n i : ℕ) (bs : List ℕ) → i < n → piece_at size i (pieces_at size a n bs) ≡ piece_at size (a + i) bs
+pub piece_of_cut : (size a n i : ℕ) (bs : List ℕ) → i < n → piece_at size i (pieces_at size a n bs) ≡ piece_at size (a + i) bs
 piece_of_cut size a n i bs h =
     let room = mul-le (suc i) size n size (omega (arith, h)) (omega arith) in
     let split : n * size ≡ i * size + (n * size - i * size) = omega (arith, room) in

@@ -1,11 +1,28 @@
-use Rattle.std.proofs.Common.{refl, subst}
-use Rattle.chunk_store.specs.Marks.{Stored, IsTracked, cut}
-use Rattle.chunk_store.proofs.CutLemmas.{cut_tracked}
+use Rattle.hdf_types.specs.Views.{elem as kind_of}
+use Rattle.chunk_store.proofs.BufferedLemmas.{chunk_sound, clears_from, kept_cleared}
 use Rattle.chunk_store.proofs.array.Array.clear_dirty.Goals as goal
+
+pub clear_flags-requires-clause-chunk : goal.clear_flags-requires-clause-chunk
+clear_flags-requires-clause-chunk c =
+    let a = c.self.inside in
+    chunk_sound (kind_of a.elem) a.shape a.given a.frame a.chunks c.self.invariant
+
+pub invariant_of-self : goal.invariant_of-self
+invariant_of-self c =
+    let a = c.self.inside in
+    kept_cleared (kind_of a.elem) a.shape a.given a.frame a.chunks c.self.invariant c.clear_flags.new.chunks c.clear_flags.ensures
+
+pub returns-clause-same : goal.returns-clause-same
+returns-clause-same c =
+    let a = c.self.inside in
+    (clears_from (kind_of a.elem) a.shape a.given a.frame a.chunks c.self.invariant c.clear_flags.new.chunks c.clear_flags.ensures c.args.self.now c.self.view_is).same
+
+pub returns-clause-marks : goal.returns-clause-marks
+returns-clause-marks c =
+    let a = c.self.inside in
+    (clears_from (kind_of a.elem) a.shape a.given a.frame a.chunks c.self.invariant c.clear_flags.new.chunks c.clear_flags.ensures c.args.self.now c.self.view_is).marks
 
 pub returns-clause-tracked : goal.returns-clause-tracked
 returns-clause-tracked c =
     let a = c.self.inside in
-    let old : Stored = record { grid = a.plain; marks = a.marks.entries } in
-    let new : Stored = record { grid = a.plain; marks = c.clear_flags.new.marks.entries } in
-    λ held. subst (λ (s : Stored). IsTracked held s → IsTracked (cut held s) (record { grid = a.plain; marks = c.clear_flags.new.marks.entries })) c.self.view_is (cut_tracked held (record { grid = a.plain; marks = a.marks.entries }) new refl c.clear_flags.ensures)
+    (clears_from (kind_of a.elem) a.shape a.given a.frame a.chunks c.self.invariant c.clear_flags.new.chunks c.clear_flags.ensures c.args.self.now c.self.view_is).tracked

@@ -1,24 +1,42 @@
-use Rattle.std.proofs.Common.{ℕ, List, ap, subst}
-use Rattle.chunk_store.specs.Cells.{put}
-use Rattle.chunk_store.specs.Marks.{Stored, IsTracked}
-use Rattle.chunk_store.proofs.ArrayLemmas.{indexes_put}
-use Rattle.chunk_store.proofs.InstallLemmas.{install_tracked}
+use Rattle.std.proofs.Common.{List, ℕ, subst}
+use Rattle.hdf_types.specs.Views.{elem as kind_of}
+use Rattle.chunk_store.specs.Marks.{IsChunkOf}
+use Rattle.chunk_store.proofs.BufferedLemmas.{chunk_back, installs_from, kept_put, kept_same, same_grid, same_marks}
+use Rattle.chunk_store.proofs.GridLemmas.{on_err}
 use Rattle.chunk_store.proofs.array.Array.install.Goals as goal
+
+pub invariant_of-self : goal.invariant_of-self
+invariant_of-self c =
+    let a = c.self.inside in
+    kept_same (kind_of a.elem) a.shape a.given a.frame a.chunks c.self.invariant c.put_chunk.new.chunks c.in_err-put_chunk.ensures.kept
+
+pub returns-in_err-put_chunk-clause-kept : goal.returns-in_err-put_chunk-clause-kept
+returns-in_err-put_chunk-clause-kept c =
+    let a = c.self.inside in
+    on_err c.from_residual.result (same_grid (kind_of a.elem) a.shape a.given a.frame a.chunks c.self.invariant c.args.self.now c.self.view_is c.put_chunk.new.chunks c.in_err-put_chunk.ensures.kept)
+
+pub returns-in_err-put_chunk-clause-unmarked : goal.returns-in_err-put_chunk-clause-unmarked
+returns-in_err-put_chunk-clause-unmarked c =
+    let a = c.self.inside in
+    on_err c.from_residual.result (same_marks (kind_of a.elem) a.shape a.given a.frame a.chunks c.self.invariant c.args.self.now c.self.view_is c.put_chunk.new.chunks c.in_err-put_chunk.ensures.kept)
 
 pub invariant_of-self-2 : goal.invariant_of-self-2
 invariant_of-self-2 c =
     let a = c.self.inside in
-    let old : Stored = record { grid = a.plain; marks = a.marks.entries } in
-    let new : Stored = record { grid = c.put_chunk.new.self; marks = c.put_chunk.new.marks.entries } in
-    let chunk = c.is_chunk.ensures.0 c.if-not-is_chunk.false in
-    indexes_put old new c.args.index.now (ap (λ h. h.chunk) c.in_ok-put_chunk.ensures.done) c.is_whole.ensures chunk.inside c.in_ok-put_chunk.ensures.unchanged c.self.invariant
+    kept_put (kind_of a.elem) a.shape a.given a.frame a.chunks c.self.invariant c.args.index.now c.args.bytes c.put_chunk.new.chunks
+    (chunk_back (kind_of a.elem) a.shape a.given a.frame a.chunks c.self.invariant c.args.self.now c.self.view_is c.args.index.now c.args.bytes.items (subst (λ (bs : List ℕ). IsChunkOf c.args.self.now.grid c.args.index.now bs) c.as_slice.ensures.value (c.is_chunk.ensures.0 c.if-not-is_chunk.false))) c.in_ok-put_chunk.ensures.done
+
+pub returns-clause-done : goal.returns-clause-done
+returns-clause-done c =
+    let a = c.self.inside in
+    (installs_from (kind_of a.elem) a.shape a.given a.frame a.chunks c.self.invariant c.args.self.now c.self.view_is c.args.index.now c.args.bytes c.put_chunk.new.chunks (subst (λ (bs : List ℕ). IsChunkOf c.args.self.now.grid c.args.index.now bs) c.as_slice.ensures.value (c.is_chunk.ensures.0 c.if-not-is_chunk.false)) c.in_ok-put_chunk.ensures.done).done
+
+pub returns-clause-marks : goal.returns-clause-marks
+returns-clause-marks c =
+    let a = c.self.inside in
+    (installs_from (kind_of a.elem) a.shape a.given a.frame a.chunks c.self.invariant c.args.self.now c.self.view_is c.args.index.now c.args.bytes c.put_chunk.new.chunks (subst (λ (bs : List ℕ). IsChunkOf c.args.self.now.grid c.args.index.now bs) c.as_slice.ensures.value (c.is_chunk.ensures.0 c.if-not-is_chunk.false)) c.in_ok-put_chunk.ensures.done).marks
 
 pub returns-clause-tracked : goal.returns-clause-tracked
 returns-clause-tracked c =
     let a = c.self.inside in
-    let old : Stored = record { grid = a.plain; marks = a.marks.entries } in
-    let new : Stored = record { grid = c.put_chunk.new.self; marks = c.put_chunk.new.marks.entries } in
-    let chunk = c.is_chunk.ensures.0 c.if-not-is_chunk.false in
-    λ held. subst (λ (bs : List ℕ). IsTracked held c.args.self.now → IsTracked (put held c.args.index.now bs) (record { grid = c.put_chunk.new.self; marks = c.put_chunk.new.marks.entries })) c.as_slice-bytes.ensures.value
-    (subst (λ (s : Stored). IsTracked held s → IsTracked (put held c.args.index.now c.as_slice-bytes.result.now) (record { grid = c.put_chunk.new.self; marks = c.put_chunk.new.marks.entries })) c.self.view_is
-    (install_tracked held old new c.args.index.now c.as_slice-bytes.result.now c.is_whole.ensures chunk c.in_ok-put_chunk.ensures.done c.in_ok-put_chunk.ensures.unchanged))
+    (installs_from (kind_of a.elem) a.shape a.given a.frame a.chunks c.self.invariant c.args.self.now c.self.view_is c.args.index.now c.args.bytes c.put_chunk.new.chunks (subst (λ (bs : List ℕ). IsChunkOf c.args.self.now.grid c.args.index.now bs) c.as_slice.ensures.value (c.is_chunk.ensures.0 c.if-not-is_chunk.false)) c.in_ok-put_chunk.ensures.done).tracked

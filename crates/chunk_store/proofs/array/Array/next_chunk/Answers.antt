@@ -1,19 +1,25 @@
-use Rattle.std.proofs.Common.{List, Option, option_map, refl, sym, subst, IfSome, IsSome, is_some, ℕ}
+use Rattle.std.proofs.Common.{List, ℕ, Option, option_map, IfSome, IsSome, is_some, refl, sym, subst}
+use Rattle.std.specs.List.Sorted.{IsStrictlySortedBy}
+use Rattle.short_lists.specs.Order.{list_order}
+use Rattle.hdf_types.specs.Views.{elem as kind_of}
+use Rattle.chunk_store.specs.Buffered.{stored_in}
 use Rattle.chunk_store.specs.Indexes.{IsIndex}
 use Rattle.chunk_store.specs.Marks.{Stored, IsNextChunk, state}
+use Rattle.chunk_store.proofs.BufferedLemmas.{keys_same, known_indexes}
 use Rattle.chunk_store.proofs.NextLemmas.{next_from, next_index, next_known}
 use Rattle.chunk_store.proofs.array.Array.next_chunk.Goals as goal
 
 pub returns : goal.returns
 returns c =
     let a = c.self.inside in
-    let old : Stored = record { grid = a.plain; marks = a.marks.entries } in
+    let old = stored_in (kind_of a.elem) a.shape a.given a.frame a.chunks in
     let after = option_map (λ d. d.now) c.args.after in
+    let indexes = known_indexes (kind_of a.elem) a.shape a.given a.frame a.chunks c.self.invariant in
     let next : IsNextChunk old after c.first_known.result =
-    subst (λ (r : Option (List ℕ)). IsNextChunk (record { grid = a.plain; marks = a.marks.entries }) (option_map (λ d. d.now) c.args.after) r) (sym c.first_known.ensures.first)
-    (next_from is_some refl old after c.self.invariant c.first_known.ensures.ordered) in
+    subst (λ (r : Option (List ℕ)). IsNextChunk (stored_in (kind_of a.elem) a.shape a.given a.frame a.chunks) (option_map (λ d. d.now) c.args.after) r) (sym c.first_known.ensures.first)
+    (next_from is_some refl old after indexes (subst (IsStrictlySortedBy list_order) (sym (keys_same a.chunks.entries)) c.first_known.ensures.ordered)) in
     record {
       next = subst (λ (s : Stored). IsNextChunk s (option_map (λ d. d.now) c.args.after) c.first_known.result) c.self.view_is next;
       known = subst (λ (s : Stored). IfSome c.first_known.result (λ i. IsSome (state s i))) c.self.view_is (next_known is_some refl old after c.first_known.result next);
-      index = subst (λ (s : Stored). IfSome c.first_known.result (λ i. IsIndex s.grid.chunk i)) c.self.view_is (next_index is_some refl old after c.first_known.result c.self.invariant next);
+      index = subst (λ (s : Stored). IfSome c.first_known.result (λ i. IsIndex s.grid.chunk i)) c.self.view_is (next_index is_some refl old after c.first_known.result indexes next);
     }

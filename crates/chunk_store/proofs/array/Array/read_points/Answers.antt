@@ -1,8 +1,7 @@
-use Rattle.std.proofs.Common.{All, sym, subst}
+use Rattle.std.proofs.Common.{◌≤◌, ℕ, List, All, length, sym, subst}
 use Rattle.shapes.specs.Shapes.{LiesIn}
-use Rattle.chunk_store.specs.Marks.{Stored}
+use Rattle.point_select.specs.declared.TheConstants.{MAX_POINTS}
 use Rattle.chunk_store.proofs.array.Array.read_points.Goals as goal
 
-pub read_points-requires-clause-inside : goal.read_points-requires-clause-inside
-read_points-requires-clause-inside c =
-    subst (λ (s : Stored). All (λ at. LiesIn at s.grid.shape) c.args.points.now) (sym c.self.view_is) c.requires.inside
+pub read-requires : goal.read-requires
+read-requires c = subst (λ (ps : List (List ℕ)). (length ps ≤ MAX_POINTS) × All (λ at. LiesIn at c.args.self.now.grid.shape) ps) (sym c.as_slice.ensures) (c.requires.few, c.requires.inside)

@@ -1,15 +1,28 @@
-use Rattle.std.proofs.Common.{sym, subst}
-use Rattle.shapes.specs.Shapes.{IsResized}
-use Rattle.chunk_store.specs.Grids.{with_dims}
-use Rattle.chunk_store.specs.Marks.{Stored, IsTracked}
-use Rattle.chunk_store.proofs.TrackLemmas.{resize_tracked}
+use Rattle.hdf_types.specs.Views.{elem as kind_of}
+use Rattle.chunk_store.proofs.BufferedLemmas.{cuts_from, frame_sound, kept_cut}
 use Rattle.chunk_store.proofs.array.Array.resize.Goals as goal
+
+pub cut-requires-clause-frame : goal.cut-requires-clause-frame
+cut-requires-clause-frame c =
+    let a = c.self.inside in
+    frame_sound (kind_of a.elem) a.shape a.given a.frame a.chunks c.self.invariant
+
+pub invariant_of-self : goal.invariant_of-self
+invariant_of-self c =
+    let a = c.self.inside in
+    kept_cut (kind_of a.elem) a.shape a.given a.frame a.chunks c.self.invariant c.in-Ok.shape c.args.dims.now c.cut.new.chunks c.in-Ok.ensures.resized (c.in-Ok.ensures.sound c.self.invariant.shape c.requires.small) c.cut.ensures.cells c.cut.ensures.full c.cut.ensures.flags
+
+pub returns-clause-done : goal.returns-clause-done
+returns-clause-done c =
+    let a = c.self.inside in
+    (cuts_from (kind_of a.elem) a.shape a.given a.frame a.chunks c.self.invariant c.in-Ok.shape c.args.dims.now c.cut.new.chunks c.in-Ok.ensures.resized (c.in-Ok.ensures.sound c.self.invariant.shape c.requires.small) c.cut.ensures.cells c.cut.ensures.full c.cut.ensures.flags c.args.self.now c.self.view_is).done
+
+pub returns-clause-marks : goal.returns-clause-marks
+returns-clause-marks c =
+    let a = c.self.inside in
+    (cuts_from (kind_of a.elem) a.shape a.given a.frame a.chunks c.self.invariant c.in-Ok.shape c.args.dims.now c.cut.new.chunks c.in-Ok.ensures.resized (c.in-Ok.ensures.sound c.self.invariant.shape c.requires.small) c.cut.ensures.cells c.cut.ensures.full c.cut.ensures.flags c.args.self.now c.self.view_is).marks
 
 pub returns-clause-tracked : goal.returns-clause-tracked
 returns-clause-tracked c =
     let a = c.self.inside in
-    let old : Stored = record { grid = a.plain; marks = a.marks.entries } in
-    let new : Stored = record { grid = c.resize.new.self; marks = c.flag_cut.new.marks.entries } in
-    let dims = c.args.dims.now in
-    let fits = subst (λ (s : Stored). IsResized s.grid.shape c.args.dims.now (with_dims s.grid.shape c.args.dims.now)) (sym c.self.view_is) c.requires.fits in
-    λ held. subst (λ (s : Stored). IsTracked held s → IsTracked held (record { grid = c.resize.new.self; marks = c.flag_cut.new.marks.entries })) c.self.view_is (resize_tracked held old new dims (with_dims a.plain.shape dims) c.is_whole.ensures fits c.resize.ensures c.flag_cut.ensures)
+    (cuts_from (kind_of a.elem) a.shape a.given a.frame a.chunks c.self.invariant c.in-Ok.shape c.args.dims.now c.cut.new.chunks c.in-Ok.ensures.resized (c.in-Ok.ensures.sound c.self.invariant.shape c.requires.small) c.cut.ensures.cells c.cut.ensures.full c.cut.ensures.flags c.args.self.now c.self.view_is).tracked

@@ -1,75 +1,63 @@
-use Rattle.std.proofs.Common.{◌≡◌, ℕ, List, cond, true, Some, refl, sym, ap, subst}
-use Rattle.chunk_store.specs.Cells.{find_in}
-use Rattle.chunk_store.specs.Grids.{Grid}
+use Rattle.std.proofs.Common.{length, sym, subst}
+use Rattle.hdf_types.specs.Views.{elem as kind_of}
+use Rattle.hdf_values.specs.Nested.{AreEncoded}
+use Rattle.chunk_store.specs.Marks.{Stored}
 use Rattle.chunk_store.specs.Picked.{picked, PicksIn}
-use Rattle.chunk_store.specs.Marks.{Stored, IsTracked, touches}
+use Rattle.chunk_store.proofs.BufferedLemmas.{begins_from, frame_sound, kept_grown, kept_written, writes_from}
+use Rattle.chunk_store.proofs.GridLemmas.{on_err}
 use Rattle.chunk_store.proofs.PickLemmas.{picked_inside}
-use Rattle.chunk_store.proofs.TrackLemmas.{write_tracked, begun_tracked}
-use Rattle.chunk_store.proofs.ArrayLemmas.{indexes_begun, indexes_written, noted_flagged}
 use Rattle.chunk_store.proofs.array.Array.write.Goals as goal
+
+pub grow-requires-clause-frame : goal.grow-requires-clause-frame
+grow-requires-clause-frame c =
+    let a = c.self.inside in
+    frame_sound (kind_of a.elem) a.shape a.given a.frame a.chunks c.self.invariant
 
 pub invariant_of-self : goal.invariant_of-self
 invariant_of-self c =
     let a = c.self.inside in
-    let old : Stored = record { grid = a.plain; marks = a.marks.entries } in
-    let picks = subst (λ (s : Stored). PicksIn c.args.picks.now s.grid.shape) (sym c.self.view_is) c.requires.picks in
-    let ats = picked c.args.picks.now a.plain.shape in
-    let each = picked_inside c.args.picks.now a.plain.shape picks in
-    let new : Stored = record { grid = a.plain; marks = c.note_chunks.new.marks.entries } in
-    indexes_begun old new ats refl c.is_whole.ensures each c.note_chunks.ensures.noted c.self.invariant
+    let p = c.args.picks.now in
+    kept_grown (kind_of a.elem) a.shape a.given a.frame a.chunks c.self.invariant (picked p a.shape) c.grow.new.chunks (picked_inside p a.shape (subst (λ (x : Stored). PicksIn c.args.picks.now x.grid.shape) (sym c.self.view_is) c.requires.picks)) c.grow.ensures.grown
 
-pub returns-in_err-note_chunks-clause-tracked : goal.returns-in_err-note_chunks-clause-tracked
-returns-in_err-note_chunks-clause-tracked c =
+pub returns-in_err-grow-clause-kept : goal.returns-in_err-grow-clause-kept
+returns-in_err-grow-clause-kept c =
     let a = c.self.inside in
-    let old : Stored = record { grid = a.plain; marks = a.marks.entries } in
-    let picks = subst (λ (s : Stored). PicksIn c.args.picks.now s.grid.shape) (sym c.self.view_is) c.requires.picks in
-    let ats = picked c.args.picks.now a.plain.shape in
-    let each = picked_inside c.args.picks.now a.plain.shape picks in
-    let new : Stored = record { grid = a.plain; marks = c.note_chunks.new.marks.entries } in
-    λ held. subst (λ (s : Stored). IsTracked held s → IsTracked held (record { grid = a.plain; marks = c.note_chunks.new.marks.entries })) c.self.view_is (begun_tracked held old new ats c.is_whole.ensures each refl c.note_chunks.ensures.noted)
+    on_err c.from_residual.result (begins_from (kind_of a.elem) a.shape a.given a.frame a.chunks c.self.invariant c.args.self.now c.self.view_is c.args.picks.now (subst (λ (x : Stored). PicksIn c.args.picks.now x.grid.shape) (sym c.self.view_is) c.requires.picks) c.grow.new.chunks c.grow.ensures.grown).kept
 
-pub invariant_of-self-in_err-write : goal.invariant_of-self-in_err-write
-invariant_of-self-in_err-write c =
+pub returns-in_err-grow-clause-begun : goal.returns-in_err-grow-clause-begun
+returns-in_err-grow-clause-begun c =
     let a = c.self.inside in
-    let old : Stored = record { grid = a.plain; marks = a.marks.entries } in
-    let picks = subst (λ (s : Stored). PicksIn c.args.picks.now s.grid.shape) (sym c.self.view_is) c.requires.picks in
-    let ats = picked c.args.picks.now a.plain.shape in
-    let each = picked_inside c.args.picks.now a.plain.shape picks in
-    let new : Stored = record { grid = c.write.new.self; marks = c.note_chunks.new.marks.entries } in
-    indexes_begun old new ats (ap (λ h. h.chunk) c.in_err-write.ensures.kept) c.is_whole.ensures each c.note_chunks.ensures.noted c.self.invariant
+    on_err c.from_residual.result (begins_from (kind_of a.elem) a.shape a.given a.frame a.chunks c.self.invariant c.args.self.now c.self.view_is c.args.picks.now (subst (λ (x : Stored). PicksIn c.args.picks.now x.grid.shape) (sym c.self.view_is) c.requires.picks) c.grow.new.chunks c.grow.ensures.grown).begun
 
-pub returns-in_err-write-clause-tracked : goal.returns-in_err-write-clause-tracked
-returns-in_err-write-clause-tracked c =
+pub returns-in_err-grow-clause-tracked : goal.returns-in_err-grow-clause-tracked
+returns-in_err-grow-clause-tracked c =
     let a = c.self.inside in
-    let old : Stored = record { grid = a.plain; marks = a.marks.entries } in
-    let picks = subst (λ (s : Stored). PicksIn c.args.picks.now s.grid.shape) (sym c.self.view_is) c.requires.picks in
-    let ats = picked c.args.picks.now a.plain.shape in
-    let each = picked_inside c.args.picks.now a.plain.shape picks in
-    let new : Stored = record { grid = c.write.new.self; marks = c.note_chunks.new.marks.entries } in
-    λ held. subst (λ (s : Stored). IsTracked held s → IsTracked held (record { grid = c.write.new.self; marks = c.note_chunks.new.marks.entries })) c.self.view_is (begun_tracked held old new ats c.is_whole.ensures each c.in_err-write.ensures.kept c.note_chunks.ensures.noted)
+    (begins_from (kind_of a.elem) a.shape a.given a.frame a.chunks c.self.invariant c.args.self.now c.self.view_is c.args.picks.now (subst (λ (x : Stored). PicksIn c.args.picks.now x.grid.shape) (sym c.self.view_is) c.requires.picks) c.grow.new.chunks c.grow.ensures.grown).tracked
+
+pub write-requires-clause-frame : goal.write-requires-clause-frame
+write-requires-clause-frame c =
+    let a = c.self.inside in
+    frame_sound (kind_of a.elem) a.shape a.given a.frame a.chunks c.self.invariant
 
 pub invariant_of-self-2 : goal.invariant_of-self-2
 invariant_of-self-2 c =
     let a = c.self.inside in
-    let old : Stored = record { grid = a.plain; marks = a.marks.entries } in
-    let picks = subst (λ (s : Stored). PicksIn c.args.picks.now s.grid.shape) (sym c.self.view_is) c.requires.picks in
-    let ats = picked c.args.picks.now a.plain.shape in
-    let each = picked_inside c.args.picks.now a.plain.shape picks in
-    let new : Stored = record { grid = c.write.new.self; marks = c.flag_chunks.new.marks.entries } in
-    let done = c.in_ok-write.ensures.done in
-    let flags = subst (λ (h : Grid). (i : List ℕ) → find_in c.flag_chunks.new.marks i ≡ cond (touches h.chunk (picked c.args.picks.now h.shape) i) (Some true) (find_in c.note_chunks.new.marks i)) done c.flag_chunks.ensures in
-    let marks = noted_flagged old ats (find_in c.note_chunks.new.marks) (find_in c.flag_chunks.new.marks) c.note_chunks.ensures.noted flags in
-    indexes_written old new ats (ap (λ h. h.chunk) done) c.is_whole.ensures each marks c.self.invariant
+    let p = c.args.picks.now in
+    let each = picked_inside p a.shape (subst (λ (x : Stored). PicksIn c.args.picks.now x.grid.shape) (sym c.self.view_is) c.requires.picks) in
+    kept_written (kind_of a.elem) a.shape a.given a.frame c.grow.new.chunks (kept_grown (kind_of a.elem) a.shape a.given a.frame a.chunks c.self.invariant (picked p a.shape) c.grow.new.chunks each c.grow.ensures.grown)
+    (picked p a.shape) c.args.bytes.now c.write.new.chunks each c.write.ensures (subst (λ (x : Stored). AreEncoded x.grid.kind (length (picked p x.grid.shape)) c.args.bytes.now) (sym c.self.view_is) c.requires.encoded)
+
+pub returns-clause-done : goal.returns-clause-done
+returns-clause-done c =
+    let a = c.self.inside in
+    (writes_from (kind_of a.elem) a.shape a.given a.frame a.chunks c.self.invariant c.args.picks.now c.args.bytes.now c.grow.new.chunks c.write.new.chunks (subst (λ (x : Stored). PicksIn c.args.picks.now x.grid.shape) (sym c.self.view_is) c.requires.picks) c.grow.ensures.grown c.write.ensures c.args.self.now c.self.view_is).done
+
+pub returns-clause-marks : goal.returns-clause-marks
+returns-clause-marks c =
+    let a = c.self.inside in
+    (writes_from (kind_of a.elem) a.shape a.given a.frame a.chunks c.self.invariant c.args.picks.now c.args.bytes.now c.grow.new.chunks c.write.new.chunks (subst (λ (x : Stored). PicksIn c.args.picks.now x.grid.shape) (sym c.self.view_is) c.requires.picks) c.grow.ensures.grown c.write.ensures c.args.self.now c.self.view_is).marks
 
 pub returns-clause-tracked : goal.returns-clause-tracked
 returns-clause-tracked c =
     let a = c.self.inside in
-    let old : Stored = record { grid = a.plain; marks = a.marks.entries } in
-    let picks = subst (λ (s : Stored). PicksIn c.args.picks.now s.grid.shape) (sym c.self.view_is) c.requires.picks in
-    let ats = picked c.args.picks.now a.plain.shape in
-    let each = picked_inside c.args.picks.now a.plain.shape picks in
-    let new : Stored = record { grid = c.write.new.self; marks = c.flag_chunks.new.marks.entries } in
-    let done = c.in_ok-write.ensures.done in
-    let flags = subst (λ (h : Grid). (i : List ℕ) → find_in c.flag_chunks.new.marks i ≡ cond (touches h.chunk (picked c.args.picks.now h.shape) i) (Some true) (find_in c.note_chunks.new.marks i)) done c.flag_chunks.ensures in
-    let marks = noted_flagged old ats (find_in c.note_chunks.new.marks) (find_in c.flag_chunks.new.marks) c.note_chunks.ensures.noted flags in
-    λ held. subst (λ (s : Stored). IsTracked held s → IsTracked held (record { grid = c.write.new.self; marks = c.flag_chunks.new.marks.entries })) c.self.view_is (write_tracked held old new ats c.args.bytes.now c.is_whole.ensures done marks)
+    (writes_from (kind_of a.elem) a.shape a.given a.frame a.chunks c.self.invariant c.args.picks.now c.args.bytes.now c.grow.new.chunks c.write.new.chunks (subst (λ (x : Stored). PicksIn c.args.picks.now x.grid.shape) (sym c.self.view_is) c.requires.picks) c.grow.ensures.grown c.write.ensures c.args.self.now c.self.view_is).tracked

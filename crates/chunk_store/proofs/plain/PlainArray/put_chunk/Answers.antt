@@ -32,20 +32,7 @@ returns-in_err-grow_chunk-clause-kept c =
     let a = c.self.inside in
     on_err c.from_residual.result
     (same_view c.args.self.now (kind_of a.elem) a.shape a.layout.chunk (given_fill a.given a.blank.items) (value_in a.cells a.blank.items) (value_in c.grow_chunk.new.cells a.blank.items) c.self.view_is
-    (λ q. subst (λ (b : List ℕ). value_in c.grow_chunk.new.cells b q ≡ value_in a.cells b q) c.as_slice.ensures.value (c.grow_chunk.ensures.same q)))
-
-pub invariant_of-self-in_err-set_mark : goal.invariant_of-self-in_err-set_mark
-invariant_of-self-in_err-set_mark c =
-    let a = c.self.inside in
-    kept_grown (kind_of a.elem) a.shape a.layout.chunk a.given a.blank.items a.size a.cells c.self.invariant c.grow_chunk.new.cells
-    (λ q. subst (λ (b : List ℕ). value_in c.grow_chunk.new.cells b q ≡ value_in a.cells b q) c.as_slice.ensures.value (c.grow_chunk.ensures.same q)) c.grow_chunk.ensures.inside
-
-pub returns-in_err-set_mark-clause-kept : goal.returns-in_err-set_mark-clause-kept
-returns-in_err-set_mark-clause-kept c =
-    let a = c.self.inside in
-    on_err c.from_residual-in_err-set_mark.result
-    (same_view c.args.self.now (kind_of a.elem) a.shape a.layout.chunk (given_fill a.given a.blank.items) (value_in a.cells a.blank.items) (value_in c.grow_chunk.new.cells a.blank.items) c.self.view_is
-    (λ q. subst (λ (b : List ℕ). value_in c.grow_chunk.new.cells b q ≡ value_in a.cells b q) c.as_slice.ensures.value (c.grow_chunk.ensures.same q)))
+    (λ q lies. subst (λ (b : List ℕ). value_in c.grow_chunk.new.cells b q ≡ value_in a.cells b q) c.as_slice.ensures.value (c.grow_chunk.ensures.same q)))
 
 pub fill_chunk-requires-clause-chunk : goal.fill_chunk-requires-clause-chunk
 fill_chunk-requires-clause-chunk c =
@@ -85,4 +72,4 @@ returns-clause-done c =
     (λ q. subst (λ (b : List ℕ). value_in c.grow_chunk.new.cells b q ≡ value_in a.cells b q) c.as_slice.ensures.value (c.grow_chunk.ensures.same q)) c.grow_chunk.ensures.inside)
     c.fill_chunk.new.cells c.args.index.now c.args.bytes.now (subst (λ (h : Grid). AreEncoded h.kind (cell_count h.chunk) c.args.bytes.now) (sym c.self.view_is) c.requires.encoded) c.fill_chunk.ensures.keys (λ q lies. c.fill_chunk.ensures.written a.blank.items q lies) c.args.self.now
     (same_view c.args.self.now (kind_of a.elem) a.shape a.layout.chunk (given_fill a.given a.blank.items) (value_in a.cells a.blank.items) (value_in c.grow_chunk.new.cells a.blank.items) c.self.view_is
-    (λ q. subst (λ (b : List ℕ). value_in c.grow_chunk.new.cells b q ≡ value_in a.cells b q) c.as_slice.ensures.value (c.grow_chunk.ensures.same q)))
+    (λ q lies. subst (λ (b : List ℕ). value_in c.grow_chunk.new.cells b q ≡ value_in a.cells b q) c.as_slice.ensures.value (c.grow_chunk.ensures.same q)))

@@ -21,7 +21,7 @@ returns-in_err-grow-clause-kept c =
     let a = c.self.inside in
     on_err c.from_residual.result
     (same_view c.args.self.now (kind_of a.elem) a.shape a.layout.chunk (given_fill a.given a.blank.items) (value_in a.cells a.blank.items) (value_in c.grow.new.cells a.blank.items) c.self.view_is
-    (λ q. subst (λ (b : List ℕ). value_in c.grow.new.cells b q ≡ value_in a.cells b q) c.as_slice.ensures.value (c.grow.ensures.same q)))
+    (λ q lies. subst (λ (b : List ℕ). value_in c.grow.new.cells b q ≡ value_in a.cells b q) c.as_slice.ensures.value (c.grow.ensures.same q)))
 
 pub fill-requires-clause-sizes : goal.fill-requires-clause-sizes
 fill-requires-clause-sizes c =
@@ -46,6 +46,6 @@ returns-clause-done c =
     let p = c.args.picks.now in
     write_view c.args.self.now (kind_of a.elem) a.shape a.layout.chunk (given_fill a.given a.blank.items) (value_in a.cells a.blank.items) (value_in c.fill.new.cells a.blank.items) a.size p c.args.bytes.now
     c.self.view_is c.self.invariant.sized
-    (λ q. c.fill.ensures.written a.blank.items q
+    (λ q lies. c.fill.ensures.written a.blank.items q
     ∙ written_same (value_in c.grow.new.cells a.blank.items) (value_in a.cells a.blank.items)
     (λ r. subst (λ (b : List ℕ). value_in c.grow.new.cells b r ≡ value_in a.cells b r) c.as_slice.ensures.value (c.grow.ensures.same r)) a.size (picked p a.shape) c.args.bytes.now q)

@@ -1,0 +1,14 @@
+use Rattle.std.proofs.Common.{◌/◌, length, eq-eqb, eqb-true, ap, ◌∙◌, arith}
+use Rattle.hdf_types.specs.Views.{elem as kind_of}
+use Rattle.hdf_values.proofs.PieceLemmas.{some_size}
+use Rattle.chunk_store.proofs.ChunkLemmas.{as_many}
+use Rattle.chunk_store.proofs.elements.are_elements.Goals as goal
+
+pub nonzero_div-held : goal.nonzero_div-held
+nonzero_div-held c = omega (arith, some_size (kind_of c.args.elem.now) c.requires.formed, c.size.ensures)
+
+pub returns-else-held-many : goal.returns-else-held-many
+returns-else-held-many c = (
+  λ told. absurd (c.if-held-many.false (eqb-true (length c.args.bytes.now / c.size.result) c.args.many told)),
+  λ enc. eq-eqb (length c.args.bytes.now / c.size.result) c.args.many (ap (λ n. length c.args.bytes.now / n) c.size.ensures ∙ as_many (kind_of c.args.elem.now) c.args.many c.args.bytes.now c.requires.formed enc),
+)
