@@ -1,6 +1,6 @@
 //! The records of chunks.
 
-ghost use Rattle.std.specs.Prelude.{◌≡◌, true, false, IfOk, IfSome, IsSome, OnOk, OnErr, option_map};
+ghost use Rattle.std.specs.Prelude.{◌≡◌, true, false, IfSome, IsSome, OnOk, OnErr, option_map};
 ghost use Rattle.chunk_store.specs.Indexes.{IsIndex};
 ghost use Rattle.chunk_store.specs.Marks.{IsNext, state};
 ghost use Rattle.flush_journal.specs.Batches.{records};
@@ -69,18 +69,17 @@ fn cut_chunk(
         (records into.old) (records into.new)) }
     ensures err { OnErr result (records into.new ≡ records into.old) }
 {
-    let body = chunk_body(alloc, mark, array, index)?;
     let key = chunk_key(alloc, id, index)?;
-    add_record(into, key.as_slice(), body.as_slice())
+    add_record(into, key.as_slice(), chunk_body(mark, array, index))
 }
 
 // The body of a chunk's record: its bytes, or none where the dataset was removed.
-fn chunk_body(alloc: Global, mark: Mark, array: &Array, index: &Dims) -> Result<Vec<u8>, AllocError>
+fn chunk_body<'a>(mark: Mark, array: &'a Array, index: &Dims) -> &'a [u8]
     requires { IsSome (state array.now index.now) }
-    ensures { IfOk result (λ v. v.items ≡ chunk_body mark array.now.grid index.now) }
+    ensures { result.now ≡ chunk_body mark array.now.grid index.now }
 {
     match mark {
-        Mark::Kept | Mark::Changed => array.chunk_copy(alloc, index),
-        Mark::Dropped => Ok(Vec::new(alloc)),
+        Mark::Kept | Mark::Changed => array.chunk_bytes(index),
+        Mark::Dropped => &[],
     }
 }
