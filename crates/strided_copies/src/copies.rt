@@ -24,16 +24,14 @@ pub fn copy_strided(out: &mut [u8], to: Strided, from: &[u8], at: Strided, many:
     ensures kept { AreKept to many size out.old out.new }
     ensures len { length out.new ≡ length out.old }
 {
-    if many > 0 {
-        if to.stride == 1 && at.stride == 1 {
-            put(out, to.first, cut(from, at.first, many, size), size);
-        } else {
-            copy_sized(out, to, from, at, many, size);
-        }
+    if many > 1 && to.stride == 1 && at.stride == 1 {
+        put(out, to.first, cut(from, at.first, many, size), size);
+    } else {
+        copy_sized(out, to, from, at, many, size);
     }
 }
 
-/// The common sizes are literals, so that each element is moved at once.
+/// Copies element by element. The common sizes are literals, so that each is moved at once.
 fn copy_sized(out: &mut [u8], to: Strided, from: &[u8], at: Strided, many: usize, size: usize)
     requires size { 1 ≤ size }
     requires apart { 1 ≤ to.stride }
