@@ -17,8 +17,26 @@ pub(crate) enum Way {
     Write,
 }
 
-/// Copies each run.
+/// Copies each run. The common sizes are literals, so that an element is moved at once.
 pub(crate) fn copy_runs(out: &mut [u8], from: &[u8], runs: Runs, size: usize, way: Way)
+    requires size { 1 ≤ size }
+    requires distinct { AreDistinct (target_of way) runs }
+    requires out { AreFit (target_of way) runs size (length out.old) }
+    requires from { AreFit (source_of way) runs size (length from.now) }
+    ensures moved { AreMoved (target_of way) (source_of way) runs size from.now out.old out.new }
+    ensures len { length out.new ≡ length out.old }
+{
+    if size == 4 {
+        copy_each_run(out, from, runs, 4, way);
+    } else if size == 8 {
+        copy_each_run(out, from, runs, 8, way);
+    } else {
+        copy_each_run(out, from, runs, size, way);
+    }
+}
+
+#[inline(always)]
+fn copy_each_run(out: &mut [u8], from: &[u8], runs: Runs, size: usize, way: Way)
     requires size { 1 ≤ size }
     requires distinct { AreDistinct (target_of way) runs }
     requires out { AreFit (target_of way) runs size (length out.old) }

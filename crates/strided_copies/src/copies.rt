@@ -14,7 +14,7 @@ pub struct Strided {
 }
 
 /// Copies `many` elements of `size` bytes from a slice to another. All other bytes stay.
-#[inline]
+#[inline(always)]
 pub fn copy_strided(out: &mut [u8], to: Strided, from: &[u8], at: Strided, many: usize, size: usize)
     requires size { 1 ≤ size }
     requires apart { 1 ≤ to.stride }
@@ -32,6 +32,7 @@ pub fn copy_strided(out: &mut [u8], to: Strided, from: &[u8], at: Strided, many:
 }
 
 /// Copies element by element. The common sizes are literals, so that each is moved at once.
+#[inline(always)]
 fn copy_sized(out: &mut [u8], to: Strided, from: &[u8], at: Strided, many: usize, size: usize)
     requires size { 1 ≤ size }
     requires apart { 1 ≤ to.stride }

@@ -5,8 +5,8 @@ use Rattle.strided_copies.specs.Strides.{AreCopied, AreKept, Fit}
 use Rattle.strided_copies.specs.declared.copies.Strided.{Strided}
 use Rattle.box_copies.specs.Moves.{AreMovedTo, source_of, target_of}
 use Rattle.box_copies.proofs.MoveLemmas.{IsNext, next_run, moved_first, moved_next, moved_all}
-use Rattle.box_copies.proofs.moves.copy_runs.Goals.{In-Some}
-use Rattle.box_copies.proofs.moves.copy_runs.Goals as goal
+use Rattle.box_copies.proofs.moves.copy_each_run.Goals.{In-Some}
+use Rattle.box_copies.proofs.moves.copy_each_run.Goals as goal
 
 next : (c : In-Some) → IsNext c.args.runs c.next.new.self c.in-Some.run' (length c.loop-run.yielded)
 next c = next_run c.args.runs c.next.new.self c.in-Some.run' (length c.loop-run.yielded) (c.loop-run.invariant.left ∙ c.in-Some.ensures.steps)

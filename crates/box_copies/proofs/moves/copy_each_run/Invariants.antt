@@ -1,6 +1,6 @@
 use Rattle.std.proofs.Common.{◌≡◌, ◌≤◌, drop, length}
 use Rattle.box_copies.specs.Moves.{AreMovedTo, source_of, target_of}
-use Rattle.box_copies.proofs.moves.copy_runs.Given as goal
+use Rattle.box_copies.proofs.moves.copy_each_run.Given as goal
 
 abbrev pub invariant-loop-run : goal.invariant-loop-run
 invariant-loop-run l = record {
