@@ -1,4 +1,4 @@
--- The map of an array and what callers see.
+-- The map of a plain array and what callers see.
 use Rattle.std.proofs.Common.{◌≡◌, ℕ, suc, ◌∷◌, Bool, bytes_eq, option_map, IfSome, true, false, cond, is_some, List, [], length, Option, Some, None, refl, sym, ap, subst, ◌∙◌, ◌⊎◌, inl, inr, ⊎_elim}
 use Rattle.std.specs.Option.{option_map_or}
 use Rattle.std.specs.List.{AllZip, flat_map}

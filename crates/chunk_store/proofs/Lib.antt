@@ -23,4 +23,4 @@ mod PointLemmas
 mod AccessLemmas
 mod EntryLemmas
 mod CutChunkLemmas
-mod BufferedLemmas
+mod PartLemmas

@@ -10,7 +10,7 @@ pub mod Touched
 pub mod Slabs
 pub mod Stretches
 pub mod Cuts
-pub mod Buffered
+pub mod Parts
 pub use Rattle.hyperslab.specs.Selected
 pub use Rattle.hdf_values.specs.Nested
 pub use Rattle.hdf_values.specs.Elements

@@ -49,7 +49,7 @@ pub struct Array {
 
 impl Model for Array {
     ghost use Rattle.hdf_types.specs.Views.{elem as kind_of};
-    ghost use Rattle.chunk_store.specs.Buffered.{IsBuffered, stored_in};
+    ghost use Rattle.chunk_store.specs.Parts.{IsBuffered, stored_in};
     ghost use Rattle.chunk_store.specs.Marks.{Stored, coded_stored};
 
     ghost Value = { Stored };

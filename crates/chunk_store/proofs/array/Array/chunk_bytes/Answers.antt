@@ -1,7 +1,7 @@
 use Rattle.std.proofs.Common.{is_some, sym, ap, ◌∙◌}
 use Rattle.std.specs.Option.{option_copied}
 use Rattle.hdf_types.specs.Views.{elem as kind_of}
-use Rattle.chunk_store.proofs.BufferedLemmas.{cell_tested, chunk_sound, chunk_whole, known_held}
+use Rattle.chunk_store.proofs.PartLemmas.{cell_tested, chunk_sound, chunk_whole, known_held}
 use Rattle.chunk_store.proofs.KeyLemmas.{find-get, not_gone}
 use Rattle.chunk_store.proofs.array.Array.chunk_bytes.Goals as goal
 

@@ -1,5 +1,5 @@
 use Rattle.hdf_types.specs.Views.{elem as kind_of}
-use Rattle.chunk_store.proofs.BufferedLemmas.{chunk_sound, clears_from, kept_cleared}
+use Rattle.chunk_store.proofs.PartLemmas.{chunk_sound, clears_from, kept_cleared}
 use Rattle.chunk_store.proofs.array.Array.clear_dirty.Goals as goal
 
 pub clear_flags-requires-clause-chunk : goal.clear_flags-requires-clause-chunk

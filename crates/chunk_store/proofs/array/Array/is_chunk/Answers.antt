@@ -3,9 +3,9 @@ use Rattle.hdf_types.specs.Reading.{size_of}
 use Rattle.hdf_types.specs.Views.{elem as kind_of}
 use Rattle.hdf_values.specs.Nested.{AreEncoded}
 use Rattle.shapes.specs.Places.{cell_count}
-use Rattle.chunk_store.specs.Buffered.{stored_in}
+use Rattle.chunk_store.specs.Parts.{stored_in}
 use Rattle.chunk_store.specs.Marks.{Stored, IsChunkOf}
-use Rattle.chunk_store.proofs.BufferedLemmas.{chunk_sound, frame_sound, held_index, whole_grid, filling}
+use Rattle.chunk_store.proofs.PartLemmas.{chunk_sound, frame_sound, held_index, whole_grid, filling}
 use Rattle.chunk_store.proofs.ChunkLemmas.{chunk_test}
 use Rattle.chunk_store.proofs.array.Array.is_chunk.Goals as goal
 

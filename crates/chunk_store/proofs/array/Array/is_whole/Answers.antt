@@ -1,5 +1,5 @@
 use Rattle.hdf_types.specs.Views.{elem as kind_of}
-use Rattle.chunk_store.proofs.BufferedLemmas.{grid_whole, same_indexes}
+use Rattle.chunk_store.proofs.PartLemmas.{grid_whole, same_indexes}
 use Rattle.chunk_store.proofs.array.Array.is_whole.Goals as goal
 
 pub returns-clause-grid : goal.returns-clause-grid

@@ -1,5 +1,5 @@
 use Rattle.hdf_types.specs.Views.{elem as kind_of}
-use Rattle.chunk_store.proofs.BufferedLemmas.{made_buffered, made_grid, made_marks, new_tracked}
+use Rattle.chunk_store.proofs.PartLemmas.{made_buffered, made_grid, made_marks, new_tracked}
 use Rattle.chunk_store.proofs.array.Array.new.Goals as goal
 
 pub invariant_of-result : goal.invariant_of-result

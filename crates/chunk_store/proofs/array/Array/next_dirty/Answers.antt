@@ -2,10 +2,10 @@ use Rattle.std.proofs.Common.{List, ℕ, Option, option_map, IfSome, IsSome, ref
 use Rattle.std.specs.List.Sorted.{IsStrictlySortedBy}
 use Rattle.short_lists.specs.Order.{list_order}
 use Rattle.hdf_types.specs.Views.{elem as kind_of}
-use Rattle.chunk_store.specs.Buffered.{stored_in}
+use Rattle.chunk_store.specs.Parts.{stored_in}
 use Rattle.chunk_store.specs.Indexes.{IsIndex}
 use Rattle.chunk_store.specs.Marks.{Stored, IsNextDirty, flagged, state}
-use Rattle.chunk_store.proofs.BufferedLemmas.{keys_same, known_indexes}
+use Rattle.chunk_store.proofs.PartLemmas.{keys_same, known_indexes}
 use Rattle.chunk_store.proofs.NextLemmas.{next_from, next_index, next_known}
 use Rattle.chunk_store.proofs.array.Array.next_dirty.Goals as goal
 

@@ -3,7 +3,7 @@ use Rattle.hdf_types.specs.Views.{elem as kind_of}
 use Rattle.hdf_values.specs.Nested.{AreEncoded}
 use Rattle.chunk_store.specs.Marks.{Stored}
 use Rattle.chunk_store.specs.Picked.{picked, PicksIn}
-use Rattle.chunk_store.proofs.BufferedLemmas.{frame_sound, grid_whole, picks_read, reads_encoded}
+use Rattle.chunk_store.proofs.PartLemmas.{frame_sound, grid_whole, picks_read, reads_encoded}
 use Rattle.chunk_store.proofs.array.Array.read.Goals as goal
 
 pub read-requires-clause-frame : goal.read-requires-clause-frame

@@ -1,5 +1,5 @@
 use Rattle.hdf_types.specs.Views.{elem as kind_of}
-use Rattle.chunk_store.proofs.BufferedLemmas.{cuts_from, frame_sound, kept_cut}
+use Rattle.chunk_store.proofs.PartLemmas.{cuts_from, frame_sound, kept_cut}
 use Rattle.chunk_store.proofs.array.Array.resize.Goals as goal
 
 pub cut-requires-clause-frame : goal.cut-requires-clause-frame

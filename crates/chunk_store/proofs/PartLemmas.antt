@@ -25,7 +25,7 @@ use Rattle.chunk_layout.specs.Chunks.{IsChunk, quotients, offset_of, chunk_cells
 use Rattle.chunk_layout.specs.Layouts.{Fits}
 use Rattle.chunk_layout.proofs.CellLemmas.{chunk_count, offset_below}
 use Rattle.chunk_layout.proofs.DefaultLemmas.{fits_chunk}
-use Rattle.chunk_store.specs.Buffered.{IsBuffered, stored_in}
+use Rattle.chunk_store.specs.Parts.{IsBuffered, stored_in}
 use Rattle.chunk_store.specs.Buffers.{AreFull, IsFrame, IsFull, IsGrown, IsWritten, bytes_at, chunk_bytes, flag_at, flags_of, has_cell, when_cleared}
 use Rattle.chunk_store.specs.Cells.{find_in, has, put}
 use Rattle.chunk_store.specs.Grids.{Grid, IsWhole, all_fill, blank_of, cut_to, reads, tabulated, value_at, writes, written}

@@ -1,4 +1,4 @@
--- What the buffers of an array keep.
+-- The parts of an array: what is true of them, and what callers see.
 use Rattle.std.specs.Prelude.{◌≡◌, ℕ, List, Bool, true, false, length}
 use Rattle.std.specs.BTreeMap.{BTreeMap}
 use Rattle.hdf_types.specs.Elems.{Elem}
