@@ -1,5 +1,5 @@
 -- Chunks of an array, and the map that keeps its cells.
-use Rattle.std.proofs.Common.{◌≡◌, ℕ, suc, ◌+◌, ◌*◌, ◌/◌, mul_comm, ◌<◌, ◌≤◌, ◌&&◌, ◌↔◌, Bool, IsTrue, true, false, cond, nat_eq, nat_lt, bytes_eq, eqb-true, eq-eqb, List, [], ◌∷◌, length, drop, get_or, All, Option, Result, Ok, Err, IfOk, not, refl, sym, ap, subst, ◌∙◌, ◌⊎◌, inl, inr, arith}
+use Rattle.std.proofs.Common.{◌≡◌, ℕ, zero, suc, ◌+◌, ◌*◌, ◌-◌, ◌/◌, ◌%◌, mod-lt, suc-mul, mul_comm, ◌<◌, ◌≤◌, ◌&&◌, ◌↔◌, Bool, IsTrue, true, false, cond, nat_eq, nat_lt, bytes_eq, eqb-true, eq-eqb, List, [], ◌∷◌, length, drop, get_or, All, Option, Result, Ok, Err, IfOk, not, refl, sym, ap, subst, ◌∙◌, ◌⊎◌, inl, inr, arith}
 use Rattle.std.specs.List.{flat_map}
 use Rattle.std.specs.BTreeMap.{BTreeMap}
 use Rattle.std.specs.Cmp.{both_ways}
@@ -8,8 +8,9 @@ use Rattle.std.specs.declared.alloc.Global.{Global}
 use Rattle.std.proofs.lemmas.Bool.{cases_Bool, cases_lt}
 use Rattle.std.proofs.lemmas.Bool.Decides.{nat_tests}
 use Rattle.std.proofs.lemmas.List.{drop-drop, length-drop}
-use Rattle.std.proofs.lemmas.Nat.{mul-le}
-use Rattle.std.proofs.Math.Nat.{mul-div_cancel_left}
+use Rattle.std.proofs.lemmas.List.Elements.{All-tail}
+use Rattle.std.proofs.lemmas.Nat.{le-div, mod-mul-add, mul-le}
+use Rattle.std.proofs.Math.Nat.{div-mul-le_self, mul-div_cancel_left}
 use Rattle.std.proofs.lemmas.Slice.Eq.{bytes_eq-Decides}
 use Rattle.hdf_types.specs.Elems.{Elem}
 use Rattle.hdf_types.specs.Reading.{size_of}
@@ -19,9 +20,10 @@ use Rattle.hdf_values.specs.Nested.{AreEncoded, piece_at}
 use Rattle.hdf_values.proofs.EncodedLemmas.{length-encoded}
 use Rattle.hdf_values.proofs.PieceLemmas.{some_size, encoded_each}
 use Rattle.shapes.specs.declared.Shape.{Shape}
-use Rattle.shapes.specs.Places.{cell_count}
+use Rattle.shapes.specs.declared.Shape.TheVariants.{Null, Scalar, Simple}
+use Rattle.shapes.specs.Places.{IsInside, cell_count}
 use Rattle.shapes.specs.Shapes.{LiesIn, lies_in, dims_of}
-use Rattle.shapes.proofs.InsideLemmas.{lies_told, lies_read}
+use Rattle.shapes.proofs.InsideLemmas.{inside_read, inside_told, lies_told, lies_read}
 use Rattle.chunk_layout.specs.Chunks.{IsChunkDim, IsChunk, quotients, offset_of, corner, cell_at, chunk_cells}
 use Rattle.chunk_layout.specs.Grids.{LiesInGrid}
 use Rattle.chunk_layout.proofs.CellLemmas.{one_cell, offset_below, one_cell_there, cell_back, chunk_listed}
@@ -95,6 +97,36 @@ blank_next s cells bs blank k at here before now j low = elim (cases_lt j k) [
       let same : j ≡ k = omega (arith, low, last) in
       subst (λ (n : ℕ). lies_in (get_or cells n []) s ≡ false → piece_at (length blank) n bs ≡ blank) (sym same) (λ off. now (sym (ap (λ x. lies_in x s) here) ∙ off))
 ]
+
+div_most : (x y n : ℕ) → 0 < n → x ≤ y → x / n ≤ y / n
+div_most x y n some h = le-div (x / n) y n some (omega (arith, div-mul-le_self x n, h))
+
+-- where the last cell of a chunk is inside, each cell is
+pub last_inside : (ns qs ds : List ℕ) (k : ℕ) → All IsChunkDim ns → k < cell_count ns → IsInside (cell_at qs (cell_count ns - 1) ns) ds → IsInside (cell_at qs k ns) ds
+last_inside [] [] ds k a low h = h
+last_inside [] (q ∷ qs) ds k a low h = h
+last_inside (n ∷ ns) [] ds k a low h = h
+last_inside (n ∷ ns) (q ∷ qs) [] k a low h = absurd h
+last_inside (zero ∷ ns) (q ∷ qs) (d ∷ ds) k a low h = absurd (omega (arith, low))
+last_inside (suc m ∷ ns) (q ∷ qs) (d ∷ ds) k a low h =
+    let rest = All-tail IsChunkDim (suc m) ns a in
+    let some : 0 < cell_count ns = one_cell ns rest in
+    let whole : suc m * cell_count ns - 1 ≡ m * cell_count ns + (cell_count ns - 1) = omega (arith, suc-mul m (cell_count ns), some) in
+    let last : (suc m * cell_count ns - 1) % cell_count ns ≡ cell_count ns - 1 = ap (λ x. x % cell_count ns) whole ∙ mod-mul-add m (cell_count ns) (cell_count ns - 1) (omega (arith, some)) in
+    let axis = div_most k (suc m * cell_count ns - 1) (cell_count ns) some (omega (arith, low)) in
+    (omega (arith, h.0, axis), last_inside ns qs ds (k % cell_count ns) rest (mod-lt k some) (subst (λ (j : ℕ). IsInside (cell_at qs j ns) ds) last h.1))
+
+pub last_lies : (s : Shape) (chunk i at : List ℕ) → All IsChunkDim chunk → get_or (chunk_cells i chunk) (cell_count chunk - 1) [] ≡ at → lies_in at s ≡ true
+    → (k : ℕ) → k < cell_count chunk → lies_in (get_or (chunk_cells i chunk) k []) s ≡ true
+last_lies s chunk i at dims last lies k low =
+    let some = one_cell chunk dims in
+    let there = ap (λ x. lies_in x s) (sym (chunk_listed chunk i (cell_count chunk - 1) dims (omega (arith, some))) ∙ last) ∙ lies in
+    ap (λ x. lies_in x s) (chunk_listed chunk i k dims low) ∙ each s there
+  where
+    each : (s : Shape) → lies_in (cell_at i (cell_count chunk - 1) chunk) s ≡ true → lies_in (cell_at i k chunk) s ≡ true
+    each Null h = h
+    each Scalar h = inside_read (cell_at i k chunk) [] (last_inside chunk i [] k dims low (inside_told (cell_at i (cell_count chunk - 1) chunk) [] h))
+    each (Simple ds limits) h = inside_read (cell_at i k chunk) ds (last_inside chunk i ds k dims low (inside_told (cell_at i (cell_count chunk - 1) chunk) ds h))
 
 -- the bytes of cells, where those of a chunk up to a place are pieces of these
 abbrev pub filled : List ℕ → List ℕ → ℕ → List ℕ → (List ℕ → List ℕ) → ℕ → List ℕ → List ℕ

@@ -1,7 +1,7 @@
 //! The buffers of chunks: one for each chunk that was written or installed, with the bytes of all
 //! its cells in row-major order.
 
-ghost use Rattle.std.specs.Prelude.{◌≡◌, ◌≤◌, ◌<◌, ◌+◌, ◌*◌, ◌⊎◌, ℕ, List, true, false, length, Some, None, IfOk, OnOk, OnErr};
+ghost use Rattle.std.specs.Prelude.{◌≡◌, ◌≤◌, ◌<◌, ◌+◌, ◌*◌, ◌⊎◌, ◌↔◌, ℕ, List, All, IsTrue, true, false, length, Some, None, IfOk, OnOk, OnErr};
 ghost use Rattle.hdf_values.specs.Nested.{piece_at};
 ghost use Rattle.shapes.specs.Places.{cell_count};
 ghost use Rattle.chunk_store.specs.Cells.{put, find_in, has};
@@ -72,6 +72,10 @@ fn blanks(alloc: Global, frame: &Frame) -> Result<Vec<u8>, AllocError>
 {
     let many = cell_number(&frame.layout) as usize;
     let mut bytes = vec![in alloc; 0; many * frame.size]?;
+    let blank = frame.blank.as_slice();
+    if are_zero(blank) {
+        return Ok(bytes);
+    }
     let each = Strided {
         first: 0,
         stride: 1,
@@ -80,15 +84,14 @@ fn blanks(alloc: Global, frame: &Frame) -> Result<Vec<u8>, AllocError>
         first: 0,
         stride: 0,
     };
-    copy_strided(
-        bytes.as_mut_slice(),
-        each,
-        frame.blank.as_slice(),
-        one,
-        many,
-        frame.size,
-    );
+    copy_strided(bytes.as_mut_slice(), each, blank, one, many, frame.size);
     Ok(bytes)
+}
+
+fn are_zero(bytes: &[u8]) -> bool
+    ensures { IsTrue result ↔ All (λ b. b ≡ 0) bytes.now }
+{
+    bytes.iter().all(|byte| *byte == 0)
 }
 
 /// Holds a chunk with blanks alone, where it is not held.

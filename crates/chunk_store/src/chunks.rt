@@ -1,6 +1,6 @@
 //! The cells of one chunk: walks over them in row-major order, those outside the shape too.
 
-ghost use Rattle.std.specs.Prelude.{◌≡◌, ◌<◌, ◌*◌, ◌^◌, ◌-◌, ◌↔◌, ℕ, [], false};
+ghost use Rattle.std.specs.Prelude.{◌≡◌, ◌<◌, ◌*◌, ◌^◌, ◌-◌, ◌↔◌, ℕ, [], true, false};
 ghost use Rattle.std.specs.Prelude.{min, length, slice_index_or, IsTrue};
 ghost use Rattle.hdf_values.specs.Nested.{piece_at};
 ghost use Rattle.shapes.specs.Places.{cell_count};
@@ -52,6 +52,17 @@ pub(crate) fn cell(layout: &Layout, index: &Dims, k: u64) -> Dims
     coords_in_chunk(layout, index, k)
 }
 
+/// Whether each cell of a chunk lies in a shape, as its last one does.
+fn is_within(layout: &Layout, shape: &Shape, index: &Dims) -> bool
+    requires chunk { IsChunk layout.now.chunk }
+    requires index { IsIndex layout.now.chunk index.now }
+    ensures { IsTrue result → (k : ℕ) → k < cell_count layout.now.chunk
+        → lies_in (slice_index_or (chunk_cells index.now layout.now.chunk) k []) shape.now ≡ true }
+{
+    let last = cell_number(layout) - 1;
+    shape.contains(&cell(layout, index, last))
+}
+
 /// Whether each cell of a chunk that lies outside a shape has the blank.
 pub(crate) fn is_blank_outside(
     blank: &[u8],
@@ -67,6 +78,9 @@ pub(crate) fn is_blank_outside(
         → lies_in (slice_index_or (chunk_cells index.now layout.now.chunk) k []) shape.now ≡ false
         → piece_at (length blank.now) k bytes.now ≡ blank.now) }
 {
+    if is_within(layout, shape, index) {
+        return true;
+    }
     let mut rest = bytes;
     for k in 0..cell_number(layout) {
         let at = cell(layout, index, k);

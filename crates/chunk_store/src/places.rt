@@ -32,7 +32,7 @@ pub(crate) fn read_places(
     ensures { IfOk result (λ v. v.items
         ≡ flat_map (bytes_at chunks.now frame.now) (cells_from from many shape.now)) }
 {
-    let mut out = Vec::new(alloc);
+    let mut out = Vec::with_capacity(alloc, many.saturating_mul(frame.size as u64) as usize)?;
     let mut done = 0;
     while done < many {
         let stretch = stretch_at(&frame.layout, shape, from + done, many - done);

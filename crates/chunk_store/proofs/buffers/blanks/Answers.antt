@@ -11,4 +11,4 @@ returns-clause-each c =
     let size : length c.copy_strided.new.out ≡ c.in_ok-bytes.bytes.len = omega (arith, c.copy_strided.ensures.len, ap length c.as_mut_slice.ensures.value, c.in_ok-bytes.bytes.ok.0) in
     let items = with_items_is c.in_ok-bytes.bytes c.copy_strided.new.out size in
     subst (λ (bs : List ℕ). (k : ℕ) → k < cell_count f.layout.chunk → piece_at f.size k bs ≡ f.blank.items) (sym items)
-    (λ k h. all_blank c.cell_number-many.result f.size c.as_slice.result.now c.copy_strided.new.out (ap length c.as_slice.ensures.value ∙ c.requires.blank) c.copy_strided.ensures.copied k (omega (arith, h, c.cell_number-many.ensures)) ∙ c.as_slice.ensures.value)
+    (λ k h. all_blank c.cell_number-many.result f.size c.as_slice-blank.result.now c.copy_strided.new.out (ap length c.as_slice-blank.ensures.value ∙ c.requires.blank) c.copy_strided.ensures.copied k (omega (arith, h, c.cell_number-many.ensures)) ∙ c.as_slice-blank.ensures.value)
