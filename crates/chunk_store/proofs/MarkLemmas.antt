@@ -1,24 +1,32 @@
 -- Marks as a function from a chunk to what is known of it.
-use Rattle.std.proofs.Common.{◌≡◌, ℕ, zero, suc, ◌+◌, ◌<◌, ◌≤◌, ◌||◌, Bool, true, false, cond, bytes_eq, List, [], ◌∷◌, length, drop, get_or, Option, Some, None, Result, Ok, Err, OnOk, OnErr, min, Less, refl, sym, ap, subst, ◌∙◌, ◌⊎◌, inl, inr, arith}
+use Rattle.std.proofs.Common.{◌≡◌, ℕ, zero, suc, ◌+◌, ◌<◌, ◌≤◌, ◌||◌, ◌&&◌, Bool, true, false, cond, bytes_eq, List, [], ◌∷◌, All, length, drop, get_or, Option, Some, None, Result, Ok, Err, OnOk, OnErr, min, Less, Greater, nat_cmp, refl, sym, ap, subst, ◌∙◌, ◌⊎◌, inl, inr, arith}
 use Rattle.std.specs.Prelude.{⊤}
-use Rattle.std.specs.List.{AllByRecursion}
+use Rattle.std.specs.List.{AllByRecursion, filter}
+use Rattle.std.specs.BTreeMap.Range.{entries_between, range_contains}
+use Rattle.std.specs.declared.ops.Bound.{Bound}
+use Rattle.std.specs.declared.ops.Bound.TheVariants.{Excluded, Unbounded}
+use Rattle.std.specs.Cmp.{nat_cmp_is}
+use Rattle.std.specs.Cmp.Lexicographic.{slice_cmp}
+use Rattle.std.specs.Ordering.{is_gt, is_lt, ordering_then}
 use Rattle.std.specs.List.Sorted.{IsStrictlySortedBy}
 use Rattle.std.specs.Map.{lookup, keys_of}
 use Rattle.std.specs.Map.Calls.{RetainsPairs}
 use Rattle.std.proofs.lemmas.Bool.{cases_Bool, cases_lt}
 use Rattle.std.proofs.lemmas.List.{drop_more, drop_all}
+use Rattle.std.proofs.lemmas.List.Elements.{All-head, All-tail}
 use Rattle.std.proofs.lemmas.Map.Keys.{sorted_head, sorted_tail}
 use Rattle.std.proofs.lemmas.Slice.Eq.{bytes_eq-Decides}
 use Rattle.short_lists.specs.Order.{list_order}
+use Rattle.short_lists.specs.OrderLaws.{shorter_first}
 use Rattle.chunk_layout.specs.Chunks.{quotients}
 use Rattle.chunk_store.specs.Cells.{put}
 use Rattle.shapes.specs.declared.Shape.{Shape}
 use Rattle.std.specs.declared.alloc.AllocError.{AllocError}
-use Rattle.chunk_store.specs.Buffers.{has_cell, when_cleared}
+use Rattle.chunk_store.specs.Buffers.{flags_of, has_cell, when_cleared}
 use Rattle.chunk_store.specs.declared.buffers.Held.{Held}
-use Rattle.chunk_store.specs.Marks.{IsNoted, touches, keeps, keeps_axis}
+use Rattle.chunk_store.specs.Marks.{IsNoted, is_after, is_later, touches, keeps, keeps_axis}
 use Rattle.chunk_store.proofs.KeyLemmas.{put_cases}
-use Rattle.chunk_store.proofs.NextLemmas.{less_apart}
+use Rattle.chunk_store.proofs.NextLemmas.{less_apart, same_order}
 
 -- ---- picked cells
 
@@ -178,3 +186,53 @@ note_new o p index none each i = elim (put_cases o index (Some false) i) [
   | inl here ↦ inr (here.0, ap o (sym here.0) ∙ none, each i ∙ here.1)
   | inr other ↦ inl (each i ∙ other)
 ]
+
+-- ---- the entries that come after a chunk, in the order of keys
+
+-- with no more axes, what comes after a chunk is behind it
+behind_after : (a k : List ℕ) → length a ≤ length k → is_lt (slice_cmp nat_cmp a k) ≡ true → is_lt (list_order a k) ≡ true
+behind_after a k few later = elim (cases_lt (length a) (length k)) [
+  | inl less ↦ ap is_lt (shorter_first a k less)
+  | inr high ↦ ap is_lt (same_order a k (omega (arith, few, high))) ∙ later
+]
+
+-- the least key has no more axes than another
+least_axes : (least k : List ℕ) → is_gt (list_order least k) ≡ false → length least ≤ length k
+least_axes least k h = elim (cases_lt (length k) (length least)) [
+  | inl less ↦ absurd (let both : true ≡ false = sym (ap (λ o. is_gt (ordering_then o (slice_cmp nat_cmp least k))) (sym (nat_cmp_is (length least) (length k) Greater less))) ∙ h in cc)
+  | inr high ↦ high
+]
+
+module _ (test : Option Bool → Bool) (after : Option (List ℕ)) (start : Bound (List ℕ)) where
+  abbrev later : List (List ℕ × Held) → List (List ℕ × Bool)
+  later es = filter (is_later test after) (flags_of es)
+
+  abbrev from_start : List (List ℕ × Held) → List (List ℕ × Held)
+  from_start es = entries_between list_order start Unbounded es
+
+  not_later : (a t q : Bool) → (a ≡ true → q ≡ true) → q ≡ false → (t && a) ≡ false
+  not_later true t q h off = absurd (let both : true ≡ false = sym (h refl) ∙ off in cc)
+  not_later false true q h off = refl
+  not_later false false q h off = refl
+
+  pub later_kept : (es : List (List ℕ × Held)) → All (λ k. is_after after k ≡ true → range_contains list_order start Unbounded k ≡ true) (keys_of es) → later (from_start es) ≡ later es
+  later_kept [] low = refl
+  later_kept (e ∷ es) low =
+      let flag : List ℕ × Bool = (e.0, e.1.changed) in
+      let rest = later_kept es (All-tail (λ k. is_after after k ≡ true → range_contains list_order start Unbounded k ≡ true) e.0 (keys_of es) low) in
+      elim (cases_Bool (range_contains list_order start Unbounded e.0)) [
+        | inl on ↦
+            ap (λ b. later (cond b (e ∷ from_start es) (from_start es))) on
+            ∙ ap (λ xs. cond (is_later test after flag) (flag ∷ xs) xs) rest
+        | inr off ↦
+            let gone = not_later (is_after after e.0) (test (Some e.1.changed)) (range_contains list_order start Unbounded e.0) (All-head (λ k. is_after after k ≡ true → range_contains list_order start Unbounded k ≡ true) e.0 (keys_of es) low) off in
+            ap (λ b. later (cond b (e ∷ from_start es) (from_start es))) off ∙ rest ∙ sym (ap (λ b. cond b (flag ∷ later es) (later es)) gone)
+      ]
+
+pub later_behind : (test : Option Bool → Bool) (a least : List ℕ) (es : List (List ℕ × Held)) → length a ≤ length least → All (λ k. is_gt (list_order least k) ≡ false) (keys_of es)
+    → filter (is_later test (Some a)) (flags_of (entries_between list_order (Excluded a) Unbounded es)) ≡ filter (is_later test (Some a)) (flags_of es)
+later_behind test a least es few low =
+    later_kept test (Some a) (Excluded a) es (λ j d h later. ap (λ b. b && true) (behind_after a (get_or (keys_of es) j d) (omega (arith, few, least_axes least (get_or (keys_of es) j d) (low j d h))) later))
+
+pub later_all : (test : Option Bool → Bool) (after : Option (List ℕ)) (es : List (List ℕ × Held)) → filter (is_later test after) (flags_of (entries_between list_order Unbounded Unbounded es)) ≡ filter (is_later test after) (flags_of es)
+later_all test after es = later_kept test after Unbounded es (λ j d h later. refl)

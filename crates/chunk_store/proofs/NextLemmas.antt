@@ -109,7 +109,7 @@ is_false true h = absurd (h refl)
 is_false false h = refl
 
 -- lists of one length are ordered by their numbers alone
-same_order : (i j : List ℕ) → length i ≡ length j → list_order i j ≡ slice_cmp nat_cmp i j
+pub same_order : (i j : List ℕ) → length i ≡ length j → list_order i j ≡ slice_cmp nat_cmp i j
 same_order i j e = ap (λ n. ordering_then (nat_cmp (length i) n) (slice_cmp nat_cmp i j)) (sym e) ∙ ap (λ o. ordering_then o (slice_cmp nat_cmp i j)) (tied_itself nat_cmp_total (length i))
 
 module _ (test : Option Bool → Bool) (none : test None ≡ false) where

@@ -1,6 +1,10 @@
 //! Which of the chunks that are held changed.
 
-ghost use Rattle.std.specs.Prelude.{◌≡◌, ℕ, List, is_some, length, option_map};
+ghost use Rattle.std.specs.Prelude.{◌≡◌, ℕ, Bool, List, Option, is_some, length, option_map};
+ghost use Rattle.std.specs.BTreeMap.{IsOrdered};
+ghost use Rattle.std.specs.BTreeMap.Range.{entries_between};
+ghost use Rattle.std.specs.Range.Bound.{bound_map};
+ghost use Rattle.std.specs.declared.ops.Bound.TheVariants.{Unbounded};
 ghost use Rattle.std.specs.List.{filter};
 ghost use Rattle.std.specs.List.Sorted.{IsStrictlySortedBy};
 ghost use Rattle.std.specs.Map.{keys_of};
@@ -11,10 +15,13 @@ ghost use Rattle.chunk_store.specs.Buffers.{has_cell, flags_of, when_cleared};
 ghost use Rattle.chunk_store.specs.Cells.{find_in};
 ghost use Rattle.chunk_store.specs.Marks.{flagged, is_after, is_later, first_key};
 
-use crate::buffers::Chunks;
+use crate::buffers::{Chunks, Held};
 use crate::chunks::has_cell;
 use chunk_layout::Layout;
 use shapes::{Dims, Shape};
+use std::collections::BTreeMap;
+use std::collections::btree_map::Range;
+use std::ops::Bound;
 
 /// Takes each chunk as unchanged, and drops changed ones that have no cell of a shape.
 pub(crate) fn clear_flags(chunks: &mut Chunks, layout: &Layout, shape: &Shape)
@@ -37,7 +44,7 @@ pub(crate) fn first_changed(chunks: &Chunks, after: Option<&Dims>) -> Option<Dim
         (flags_of chunks.now.entries)) }
     ensures ordered { IsStrictlySortedBy list_order (keys_of chunks.now.entries) }
 {
-    for (index, held) in chunks {
+    for (index, held) in rest_after(chunks, after) {
         if held.changed && comes_after(after, index) {
             return Some(*index);
         }
@@ -52,12 +59,38 @@ pub(crate) fn first_known(chunks: &Chunks, after: Option<&Dims>) -> Option<Dims>
         (flags_of chunks.now.entries)) }
     ensures ordered { IsStrictlySortedBy list_order (keys_of chunks.now.entries) }
 {
-    for (index, _) in chunks {
+    for (index, _) in rest_after(chunks, after) {
         if comes_after(after, index) {
             return Some(*index);
         }
     }
     None
+}
+
+/// The chunks among which are all that come after one: those behind it in the map's order, or all
+/// where a chunk has fewer axes, since these stand first there.
+fn rest_after<'a>(chunks: &'a Chunks, after: Option<&Dims>) -> Range<'a, Dims, Held>
+    ensures same { (test : Option Bool → Bool)
+        → filter (is_later test (option_map (λ d. d.now) after.entry)) (flags_of result)
+        ≡ filter (is_later test (option_map (λ d. d.now) after.entry)) (flags_of chunks.now.entries) }
+    ensures ordered { IsStrictlySortedBy list_order (keys_of chunks.now.entries) }
+{
+    if let Some(after) = after {
+        if let Some((least, _)) = chunks.first_key_value() {
+            if after.len() <= least.len() {
+                return entries_from(chunks, Bound::Excluded(after));
+            }
+        }
+    }
+    entries_from(chunks, Bound::Unbounded)
+}
+
+fn entries_from<'a, K: Ord, V>(entries: &'a BTreeMap<K, V>, start: Bound<&K>) -> Range<'a, K, V>
+    ensures from { result
+        ≡ entries_between K.cmp (bound_map (λ k. k.now) start.entry) Unbounded entries.now.entries }
+    ensures ordered { IsOrdered K.cmp entries.now }
+{
+    entries.range((start, Bound::Unbounded))
 }
 
 fn comes_after(after: Option<&Dims>, index: &Dims) -> bool
