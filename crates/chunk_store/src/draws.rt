@@ -49,6 +49,24 @@ impl Draws {
         dims
     }
 
+    /// An axis' dim, 0 now and then.
+    fn extent(&mut self, most: u64) -> u64 {
+        if self.below(20) == 0 {
+            return 0;
+        }
+        self.from(1, most)
+    }
+
+    /// An array's dims, shorter where there are more axes.
+    fn extents(&mut self, axes: u64) -> Dims {
+        let most = if axes < 3 { 9 } else { 6 };
+        let mut dims = Dims::new();
+        for _ in 0..axes {
+            dims.keep(self.extent(most));
+        }
+        dims
+    }
+
     /// A number below each of these.
     fn inside(&mut self, dims: &Dims) -> Dims {
         let mut at = Dims::new();
@@ -56,6 +74,36 @@ impl Draws {
             at.keep(self.below(*n));
         }
         at
+    }
+
+    /// The index of a chunk, often of the last on each axis, which may reach out of the array.
+    fn chunk_in(&mut self, counts: &Dims) -> Dims {
+        if self.below(2) == 0 {
+            return self.inside(counts);
+        }
+        let mut index = Dims::new();
+        for n in counts.as_slice() {
+            index.keep(n.saturating_sub(1));
+        }
+        index
+    }
+
+    /// An index that no chunk has: it is too large on one axis, or has an axis more.
+    fn chunk_beyond(&mut self, counts: &Dims) -> Dims {
+        let axis = self.below((counts.len() as u64).saturating_add(1));
+        let mut index = Dims::new();
+        for n in counts.as_slice() {
+            let is_there = index.len() as u64 == axis;
+            index.keep(if is_there {
+                self.from(*n, 2)
+            } else {
+                self.below(*n)
+            });
+        }
+        if index.len() as u64 == axis {
+            index.keep(0);
+        }
+        index
     }
 }
 
@@ -105,11 +153,12 @@ fn add_letters(rt: &(impl Abort + AllocGlobal), draws: &mut Draws, row: &mut Str
     }
 }
 
-/// A range of an axis, and how many numbers it has.
+/// A range of an axis, and how many numbers it has: none where the axis has none.
 fn add_range(rt: &(impl Abort + AllocGlobal), draws: &mut Draws, row: &mut String, n: u64) -> u64 {
-    let start = draws.below(n.saturating_add(1));
-    let wide = draws.below(n.saturating_sub(start).saturating_add(1));
-    let step = draws.from(1, 3);
+    let start = draws.below(n).min(draws.below(n));
+    let rest = n.saturating_sub(start);
+    let wide = draws.from(1, rest).max(draws.from(1, rest)).min(n);
+    let step = draws.from(1, 5);
     add_number(rt, row, start);
     add(rt, row, ":");
     add_number(rt, row, start.saturating_add(wide));
@@ -172,13 +221,14 @@ fn is_inside(at: &Dims, dims: &Dims) -> bool {
     true
 }
 
-/// The letters of a chunk, with the blank in each cell outside.
+/// The letters of a chunk, with the blank in each cell outside but for a spoilt one.
 fn add_chunk(
     rt: &(impl Abort + AllocGlobal),
     draws: &mut Draws,
     row: &mut String,
     drawn: &Drawn,
     index: &Dims,
+    spoilt: Option<&Dims>,
 ) {
     add(rt, row, " ");
     let inner = coords_in(rt.alloc(), drawn.chunk.as_slice()).expect(rt, "memory");
@@ -186,6 +236,8 @@ fn add_chunk(
         let at = cell_of_chunk(inner, index, &drawn.chunk);
         let letter = if is_inside(&at, &drawn.dims) {
             draws.letter()
+        } else if spoilt == Some(&at) {
+            'q'
         } else {
             drawn.blank
         };
@@ -193,79 +245,161 @@ fn add_chunk(
     }
 }
 
-// ---- calls
-
-/// A call on an array that may have no cell.
-fn add_any(
-    rt: &(impl Abort + AllocGlobal),
-    draws: &mut Draws,
-    row: &mut String,
-    drawn: &Drawn,
-    kind: u64,
-) {
-    if kind == 0 {
-        add(rt, row, ";read ");
-        add_select(rt, draws, row, &drawn.dims);
-    } else if kind == 1 {
-        add(rt, row, ";from ");
-        add_number(rt, row, draws.below(product(&drawn.dims).saturating_add(1)));
-    } else if kind == 2 || kind == 9 {
-        add(rt, row, ";cut");
-    } else {
-        add(rt, row, ";slab ");
-        let many = add_select(rt, draws, row, &drawn.dims);
-        add_letters(rt, draws, row, many);
+/// The cells of a chunk that are outside the array.
+fn cells_outside(rt: &(impl Abort + AllocGlobal), drawn: &Drawn, index: &Dims) -> Vec<Dims> {
+    let mut cells = Vec::new(rt.alloc());
+    let inner = coords_in(rt.alloc(), drawn.chunk.as_slice()).expect(rt, "memory");
+    for inner in inner.as_slice() {
+        let at = cell_of_chunk(inner, index, &drawn.chunk);
+        if !is_inside(&at, &drawn.dims) {
+            cells.push(at).expect(rt, "memory");
+        }
     }
+    cells
 }
 
-/// A call on an array that has a cell.
-fn add_on_cells(
+// ---- calls
+
+fn add_slab(rt: &(impl Abort + AllocGlobal), draws: &mut Draws, row: &mut String, drawn: &Drawn) {
+    add(rt, row, ";slab ");
+    let many = add_select(rt, draws, row, &drawn.dims);
+    add_letters(rt, draws, row, many);
+}
+
+fn add_places(
     rt: &(impl Abort + AllocGlobal),
     draws: &mut Draws,
     row: &mut String,
     drawn: &Drawn,
-    kind: u64,
+    many: u64,
 ) {
-    let many = draws.from(1, 4);
-    if kind == 4 {
+    let cells = product(&drawn.dims);
+    let from = draws.below(cells);
+    add(rt, row, ";places ");
+    add_number(rt, row, from);
+    add_letters(rt, draws, row, cells.saturating_sub(from).min(many));
+}
+
+fn add_install(
+    rt: &(impl Abort + AllocGlobal),
+    draws: &mut Draws,
+    row: &mut String,
+    drawn: &Drawn,
+) {
+    let index = draws.chunk_in(&chunk_counts(&drawn.dims, &drawn.chunk));
+    add(rt, row, ";install ");
+    add_list(rt, row, &index);
+    add_chunk(rt, draws, row, drawn, &index, None);
+}
+
+/// A call that writes. Where the array has no cell, it is a slab.
+fn add_write(rt: &(impl Abort + AllocGlobal), draws: &mut Draws, row: &mut String, drawn: &Drawn) {
+    let many = draws.from(1, 6);
+    let kind = draws.below(10);
+    if kind > 3 || product(&drawn.dims) == 0 {
+        add_slab(rt, draws, row, drawn);
+    } else if kind == 0 {
         add(rt, row, ";points ");
         add_points(rt, draws, row, &drawn.dims, many);
         add_letters(rt, draws, row, many);
-    } else if kind == 5 {
-        add(rt, row, ";some ");
-        add_points(rt, draws, row, &drawn.dims, many);
-    } else if kind == 6 {
-        let cells = product(&drawn.dims);
-        let from = draws.below(cells);
-        add(rt, row, ";places ");
-        add_number(rt, row, from);
-        add_letters(rt, draws, row, cells.saturating_sub(from).min(many));
+    } else if kind == 1 {
+        add_places(rt, draws, row, drawn, many);
     } else {
-        let index = draws.inside(&chunk_counts(&drawn.dims, &drawn.chunk));
-        add(rt, row, ";install ");
-        add_list(rt, row, &index);
-        add_chunk(rt, draws, row, drawn, &index);
+        add_install(rt, draws, row, drawn);
     }
 }
 
-/// One more call, and the dims after it.
+/// A call that reads.
+fn add_read(rt: &(impl Abort + AllocGlobal), draws: &mut Draws, row: &mut String, drawn: &Drawn) {
+    let many = draws.from(1, 6);
+    let kind = draws.below(6);
+    let cells = product(&drawn.dims);
+    if kind == 0 && cells > 0 {
+        add(rt, row, ";some ");
+        add_points(rt, draws, row, &drawn.dims, many);
+    } else if kind == 1 {
+        add(rt, row, ";from ");
+        add_number(rt, row, draws.below(cells.saturating_add(1)));
+    } else {
+        add(rt, row, ";read ");
+        add_select(rt, draws, row, &drawn.dims);
+    }
+}
+
+/// A letter more or less than a chunk has.
+fn add_miscounted(
+    rt: &(impl Abort + AllocGlobal),
+    draws: &mut Draws,
+    row: &mut String,
+    drawn: &Drawn,
+    index: &Dims,
+) {
+    add_chunk(rt, draws, row, drawn, index, None);
+    if draws.below(2) == 0 {
+        row.push(drawn.blank).expect(rt, "memory");
+    } else {
+        let _last = row.pop();
+    }
+}
+
+/// A chunk with a letter in a cell outside, or one miscounted where no cell is outside.
+fn add_spoilt(
+    rt: &(impl Abort + AllocGlobal),
+    draws: &mut Draws,
+    row: &mut String,
+    drawn: &Drawn,
+    index: &Dims,
+) {
+    let outside = cells_outside(rt, drawn, index);
+    let place = draws.below(outside.len() as u64) as usize;
+    match outside.as_slice().get(place) {
+        Some(at) => add_chunk(rt, draws, row, drawn, index, Some(at)),
+        None => add_miscounted(rt, draws, row, drawn, index),
+    }
+}
+
+/// Bytes that are no chunk's.
+fn add_refuse(rt: &(impl Abort + AllocGlobal), draws: &mut Draws, row: &mut String, drawn: &Drawn) {
+    let counts = chunk_counts(&drawn.dims, &drawn.chunk);
+    let kind = draws.below(4);
+    let index = if kind == 0 {
+        draws.chunk_beyond(&counts)
+    } else {
+        draws.chunk_in(&counts)
+    };
+    add(rt, row, ";refuse ");
+    add_list(rt, row, &index);
+    if kind == 0 {
+        add_chunk(rt, draws, row, drawn, &index, None);
+    } else if kind == 1 {
+        add_miscounted(rt, draws, row, drawn, &index);
+    } else {
+        add_spoilt(rt, draws, row, drawn, &index);
+    }
+}
+
+/// One more call, and the dims after it. An array with no cell is often resized.
 fn add_call(
     rt: &(impl Abort + AllocGlobal),
     draws: &mut Draws,
     row: &mut String,
     drawn: &Drawn,
 ) -> Dims {
-    let kind = draws.below(12);
-    if kind >= 10 {
-        let dims = draws.dims(drawn.dims.len() as u64, 0, 7);
+    let kind = draws.below(20);
+    if kind < 2 || (kind < 8 && product(&drawn.dims) == 0) {
+        let dims = draws.extents(drawn.dims.len() as u64);
         add(rt, row, ";resize ");
         add_list(rt, row, &dims);
         return dims;
     }
-    if kind >= 4 && kind < 9 && product(&drawn.dims) > 0 {
-        add_on_cells(rt, draws, row, drawn, kind);
+    if kind < 11 {
+        add_write(rt, draws, row, drawn);
+    } else if kind < 17 {
+        add_read(rt, draws, row, drawn);
+    } else if kind < 19 {
+        add_refuse(rt, draws, row, drawn);
     } else {
-        add_any(rt, draws, row, drawn, kind);
+        add(rt, row, ";cut");
     }
     drawn.dims
 }
@@ -288,8 +422,8 @@ fn add_parts(rt: &(impl Abort + AllocGlobal), draws: &mut Draws, row: &mut Strin
     let axes = draws.from(1, 3);
     let filled = draws.below(2) == 0;
     let drawn = Drawn {
-        dims: draws.dims(axes, 0, 7),
-        chunk: draws.dims(axes, 2, 3),
+        dims: draws.extents(axes),
+        chunk: draws.dims(axes, 1, 4),
         blank: if filled { 'z' } else { '\0' },
     };
     add(rt, row, kind_of(draws.below(4)));

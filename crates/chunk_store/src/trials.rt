@@ -466,7 +466,7 @@ fn cut(
 }
 
 /// More chunks than an array of the tables has.
-const MANY: u32 = 64;
+const MANY: u32 = 256;
 
 // ---- reads
 
@@ -653,6 +653,7 @@ fn call(
     } else if name == "refuse" {
         refuse(rt, twins, place, letters)
     } else {
+        assert!(rt; name == "cut", "{name} is no call");
         cut(rt, twins, records)
     }
 }
