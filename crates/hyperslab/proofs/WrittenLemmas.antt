@@ -35,7 +35,7 @@ more_digits n ds h p =
     let whole : n ≡ n / 10 * 10 + (48 + n % 10 - 48) = omega arith in
     (digits_push ds (48 + n % 10) p.0 (omega arith) (omega (arith, last)), whole ∙ ap (λ m. m * 10 + (48 + n % 10 - 48)) p.1 ∙ sym (spelled_push ds (48 + n % 10) 0))
 
-numeral : (n : ℕ) → n < 10 ^ 10 → IsNumeral (decimal n) n
+pub numeral : (n : ℕ) → n < 10 ^ 10 → IsNumeral (decimal n) n
 numeral n h =
     let small : n < 2 ^ 64 = omega (arith, h) in
     let digits = decimal_by_steps Spells one_digit more_digits n small in

@@ -1,0 +1,10 @@
+//! The sample of a number: the elements of its dataset, and the lines that tell the sums of its slabs.
+#![tactic(auto)]
+
+mod elements;
+mod lines;
+#[cfg(test)]
+mod tests;
+
+pub use elements::Elements;
+pub use lines::{slab_line, total_line};

@@ -1,0 +1,11 @@
+pub mod AnswerLemmas
+pub mod ArrayLemmas
+pub mod ValueLemmas
+pub mod WorldLemmas
+pub mod LoadedLemmas
+pub mod MapLemmas
+pub mod ReadLemmas
+pub mod SelectLemmas
+pub mod SumLemmas
+pub mod TextLemmas
+pub mod TreeLemmas

@@ -1,0 +1,4 @@
+pub mod Requests
+pub mod Trees
+pub mod Sums
+pub mod Worlds
