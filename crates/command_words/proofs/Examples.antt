@@ -3,7 +3,7 @@ use Rattle.std.proofs.Common.{◌≡◌, List, [], ◌∷◌, Some, None, codes,
 use Rattle.command_words.specs.Lines.{Piece}
 use Rattle.command_words.specs.Reading.{pieces_of}
 use Rattle.command_words.specs.Numbers.{number_between}
-use Rattle.command_words.specs.Commands.{command_of, export, export_row, import, init_row}
+use Rattle.command_words.specs.Commands.{command_of, export, export_row, import, init_row, sample}
 
 abbrev both : List Piece
 both = (codes "journal", codes "j") ∷ (codes "path", codes "/lab") ∷ []
@@ -38,6 +38,21 @@ a_group_owns_nothing = refl
 
 no_path : command_of (codes "export" ∷ codes "lab" ∷ []) ≡ None
 no_path = refl
+
+a_sample : command_of (codes "sample" ∷ codes "4294967295" ∷ []) ≡ Some (sample 4294967295)
+a_sample = refl
+
+one_past_it : command_of (codes "sample" ∷ codes "4294967296" ∷ []) ≡ None
+one_past_it = refl
+
+a_sample_of_none : command_of (codes "sample" ∷ []) ≡ None
+a_sample_of_none = refl
+
+a_sample_of_two : command_of (codes "sample" ∷ codes "1" ∷ codes "1" ∷ []) ≡ None
+a_sample_of_two = refl
+
+a_sample_with_an_option : command_of (codes "sample" ∷ codes "1" ∷ codes "--journal=j" ∷ []) ≡ None
+a_sample_with_an_option = refl
 
 three_options : pieces_of init_row (codes "--lanes=2" ∷ codes "--config" ∷ codes "c" ∷ codes "--journal=j" ∷ [])
     ≡ Some ((codes "lanes", codes "2") ∷ (codes "config", codes "c") ∷ (codes "journal", codes "j") ∷ [])

@@ -20,7 +20,7 @@ use Rattle.clap.proofs.OnLiterals.{clap_on_literals}
 use Rattle.command_words.specs.Lines.{Text, Row, Piece}
 use Rattle.command_words.specs.Reading.{pieces_of}
 use Rattle.command_words.specs.Commands.{Verb, command_of, export_row, import_row, init_row}
-use Rattle.command_words.specs.Commands.{meaning_of, pieces_in, session_row, values_of}
+use Rattle.command_words.specs.Commands.{meaning_of, pieces_in, sample_row, session_row, values_of}
 use Rattle.command_words.specs.Commands.{verb_named, verbs, verify_row}
 use Rattle.command_words.specs.Apps.{command_found, found_values, hsds_app}
 use Rattle.command_words.proofs.Steps.{rows_for, rules_of}
@@ -128,11 +128,14 @@ export_named = record { apart = λ n e. cc; options = refl; met = refl; found = 
 import_named : Named import_row.name import_row
 import_named = record { apart = λ n e. cc; options = refl; met = refl; found = refl }
 
+sample_named : Named sample_row.name sample_row
+sample_named = record { apart = λ n e. refl; options = refl; met = refl; found = refl }
+
 verify_named : Named verify_row.name verify_row
 verify_named = record { apart = λ n e. cc; options = refl; met = refl; found = refl }
 
 all_named : AllNamed verbs
-all_named = (init_named, (session_named, (export_named, (import_named, (verify_named, tt)))))
+all_named = (init_named, (session_named, (export_named, (import_named, (sample_named, (verify_named, tt))))))
 
 -- a verb that a name finds has this name, and is one of them
 named_in : (list : List Verb) (name : Text) (verb : Verb) → AllNamed list

@@ -14,12 +14,13 @@ use Rattle.command_words.specs.Lines.{Text, Row, Piece, Part, IsLine, piece_of}
 use Rattle.command_words.specs.Reading.{pieces_of, value_of}
 use Rattle.command_words.specs.Numbers.{number_between}
 
--- the files of the configuration and of the journal, the number of lanes, the path of a domain, and its owner
+-- the files of the configuration and of the journal, the number of lanes, the path of a domain, its owner, and the number of a sample
 pub data Command : Type 0 where
   init : Text → Text → ℕ → Command
   session : Text → Text → Command
   export : Text → Text → Command
   import : Text → Text → Text → Command
+  sample : ℕ → Command
   verify : Text → Command
 
 -- the value of each name, where a line has one
@@ -67,6 +68,10 @@ owner_of name = if is_owner name then Some name else None
 abbrev pub owner_in : Values → Option Text
 owner_in values = owner_of (text_in (codes "owner") (codes "default") values)
 
+-- N of `sample`, from 0 to 2^32 - 1
+abbrev pub n_in : Values → Option ℕ
+n_in values = option_and_then (number_between 0 4294967295) (values (codes "n"))
+
 -- `init --config F --journal F --lanes N`
 abbrev pub init_row : Row
 init_row = record {
@@ -112,6 +117,13 @@ abbrev pub import_of : Values → Option Command
 import_of values =
     option_and_then (λ path. option_map (import path (journal_in values)) (owner_in values)) (path_in values)
 
+-- `sample N`
+abbrev pub sample_row : Row
+sample_row = record { name = codes "sample"; options = []; place = Some (codes "n") }
+
+abbrev pub sample_of : Values → Option Command
+sample_of values = option_map sample (n_in values)
+
 -- `verify --journal F`
 abbrev pub verify_row : Row
 verify_row = record { name = codes "verify"; options = codes "journal" ∷ []; place = None }
@@ -125,6 +137,7 @@ verbs =
     ∷ record { row = session_row; meaning = session_of }
     ∷ record { row = export_row; meaning = export_of }
     ∷ record { row = import_row; meaning = import_of }
+    ∷ record { row = sample_row; meaning = sample_of }
     ∷ record { row = verify_row; meaning = verify_of }
     ∷ []
 

@@ -6,10 +6,10 @@ use Rattle.object_ids.specs.declared.names.NameFault.{NameFault}
 use Rattle.object_ids.specs.declared.names.NameFault.TheVariants as name
 use Rattle.object_ids.specs.declared.paths.PathFault.{PathFault}
 use Rattle.object_ids.specs.declared.paths.PathFault.TheVariants as path
-use Rattle.command_words.specs.Commands.{Command, init, session, export, import, verify}
+use Rattle.command_words.specs.Commands.{Command, init, session, export, import, sample, verify}
 use Rattle.command_words.specs.declared.command.Wanted.{Wanted}
 use Rattle.command_words.specs.declared.command.Wanted.TheVariants.{Init, Session, Export, Import}
-use Rattle.command_words.specs.declared.command.Wanted.TheVariants.{Verify}
+use Rattle.command_words.specs.declared.command.Wanted.TheVariants.{Sample, Verify}
 use Rattle.command_words.specs.declared.command.WordsFault.{WordsFault}
 use Rattle.command_words.specs.declared.command.WordsFault.TheVariants.{Refused, NoMemory}
 use Rattle.command_words.specs.declared.row.Row.{Row}
@@ -21,6 +21,7 @@ seen (Init config journal lanes) = init config.now journal.now lanes
 seen (Session config journal) = session config.now journal.now
 seen (Export path journal) = export path journal.now
 seen (Import path journal owner) = import path journal.now owner
+seen (Sample n) = sample n
 seen (Verify journal) = verify journal.now
 
 -- the words are this command, or none; or memory ran out
@@ -45,6 +46,7 @@ HasLanes (Init config journal lanes) = (1 ≤ lanes) × (lanes ≤ 16)
 HasLanes (Session config journal) = Unit {0}
 HasLanes (Export path journal) = Unit {0}
 HasLanes (Import path journal owner) = Unit {0}
+HasLanes (Sample n) = Unit {0}
 HasLanes (Verify journal) = Unit {0}
 
 abbrev pub row_of : Row → line.Row

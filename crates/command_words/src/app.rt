@@ -9,9 +9,9 @@ ghost use Rattle.clap.specs.declared.builder.Command.TheViews.{out-Command as fi
 ghost use Rattle.command_words.specs.Apps.{given_option, app_for, bare_app, hsds_app};
 ghost use Rattle.command_words.specs.Apps.{command_found, found_values};
 ghost use Rattle.command_words.specs.Commands.{config_in, export_of, export_row, import_of, import_row};
-ghost use Rattle.command_words.specs.Commands.{init_of, init_row, journal_in, lanes_in, owner_in, owner_of};
-ghost use Rattle.command_words.specs.Commands.{path_in, pieces_in, session_of, session_row, text_in};
-ghost use Rattle.command_words.specs.Commands.{verify_of, verify_row};
+ghost use Rattle.command_words.specs.Commands.{init_of, init_row, journal_in, lanes_in, n_in, owner_in};
+ghost use Rattle.command_words.specs.Commands.{owner_of, path_in, pieces_in, sample_of, sample_row};
+ghost use Rattle.command_words.specs.Commands.{session_of, session_row, text_in, verify_of, verify_row};
 ghost use Rattle.command_words.specs.Seen.{Answers, HasLanes};
 
 use crate::command::{
@@ -19,7 +19,7 @@ use crate::command::{
     Wanted, WordsFault,
 };
 use crate::number::number_between;
-use crate::row::{EXPORT, IMPORT, INIT, SESSION, VERIFY};
+use crate::row::{EXPORT, IMPORT, INIT, SAMPLE, SESSION, VERIFY};
 use clap::error::ErrorKind;
 use clap::{Arg, ArgMatches, Command, Error};
 use object_ids::{DomainPath, Name, read_path};
@@ -58,6 +58,7 @@ fn hsds_app<'a>(alloc: Global) -> Result<Command<'a>, AllocError>
     let app = with_command(app, session_app(alloc)?)?;
     let app = with_command(app, export_app(alloc)?)?;
     let app = with_command(app, import_app(alloc)?)?;
+    let app = with_command(app, sample_app(alloc)?)?;
     with_command(app, verify_app(alloc)?)
 }
 
@@ -117,6 +118,13 @@ fn import_app<'a>(alloc: Global) -> Result<Command<'a>, AllocError>
         .arg(place(alloc, "path"))
 }
 
+fn sample_app<'a>(alloc: Global) -> Result<Command<'a>, AllocError>
+    ensures { IfOk result (λ c.
+        (app_of c ≡ app_for sample_row) × ((fields_of c).has_globals ≡ false)) }
+{
+    Command::new(alloc, SAMPLE.name).arg(place(alloc, "n"))
+}
+
 fn verify_app<'a>(alloc: Global) -> Result<Command<'a>, AllocError>
     ensures { IfOk result (λ c.
         (app_of c ≡ app_for verify_row) × ((fields_of c).has_globals ≡ false)) }
@@ -158,6 +166,9 @@ fn command_from<'a>(
     }
     if name == IMPORT.name {
         return import_from(alloc, matches);
+    }
+    if name == SAMPLE.name {
+        return sample_from(matches);
     }
     if name == VERIFY.name {
         return Ok(verify_from(matches));
@@ -209,6 +220,16 @@ fn import_from<'a>(alloc: Global, matches: &ArgMatches<'a>) -> Result<Wanted<'a>
         journal: journal_from(matches),
         owner: owner_from(alloc, matches)?,
     })
+}
+
+fn sample_from<'a>(matches: &ArgMatches<'a>) -> Result<Wanted<'a>, WordsFault>
+    ensures command { Answers result (sample_of (found_values (rows_of (found_of matches.now)))) }
+    ensures lanes { IfOk result HasLanes }
+{
+    match n_from(matches) {
+        Some(n) => Ok(Wanted::Sample { n }),
+        None => Err(WordsFault::Refused),
+    }
 }
 
 fn verify_from<'a>(matches: &ArgMatches<'a>) -> Wanted<'a>
@@ -270,6 +291,12 @@ fn lanes_from(matches: &ArgMatches) -> Option<u32>
         None => Some(DEFAULT_LANES),
         Some(text) => number_between(text, 1, MAX_LANES),
     }
+}
+
+fn n_from(matches: &ArgMatches) -> Option<u32>
+    ensures { result ≡ n_in (found_values (rows_of (found_of matches.now))) }
+{
+    number_between(value_in(matches, "n")?, 0, u32::MAX)
 }
 
 fn value_or<'a>(matches: &ArgMatches<'a>, name: &str, default: &'a str) -> &'a str

@@ -59,6 +59,11 @@ pub enum Wanted<'a> {
         /// The owner of the new domain.
         owner: Name,
     },
+    /// `sample`: print the sums of a sample world.
+    Sample {
+        /// The number that its values begin with.
+        n: u32,
+    },
     /// `verify`: say what the journal holds.
     Verify {
         /// The journal's file.

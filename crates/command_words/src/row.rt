@@ -39,6 +39,13 @@ pub const IMPORT: Row<'static> = Row {
     place: Some("path"),
 };
 
+/// `sample`
+pub const SAMPLE: Row<'static> = Row {
+    name: "sample",
+    options: &[],
+    place: Some("n"),
+};
+
 /// `verify`
 pub const VERIFY: Row<'static> = Row {
     name: "verify",
@@ -61,6 +68,9 @@ pub fn row_named(name: &str) -> Option<Row<'static>>
     }
     if name == IMPORT.name {
         return Some(IMPORT);
+    }
+    if name == SAMPLE.name {
+        return Some(SAMPLE);
     }
     if name == VERIFY.name {
         return Some(VERIFY);

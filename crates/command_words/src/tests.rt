@@ -37,6 +37,7 @@ fn text_of(alloc: Global, command: &Wanted) -> Result<String, AllocError> {
             journal,
             owner,
         } => { format!(in alloc; "import {} {journal} {}", path.text(), owner.text()) }
+        Wanted::Sample { n } => format!(in alloc; "sample {n}"),
         Wanted::Verify { journal } => format!(in alloc; "verify {journal}"),
     }
 }
@@ -157,6 +158,24 @@ fn owned(alloc: Global, bytes: usize) -> Result<String, AllocError> {
 }
 
 #[test]
+fn a_sample_has_a_number(rt: HostRuntime) -> Result<(), Fail> {
+    let alloc = rt.alloc();
+    for (line, command) in [
+        ("sample|0", "sample 0"),
+        ("sample|1", "sample 1"),
+        ("sample|00", "sample 0"),
+        ("sample|0000000001", "sample 1"),
+        ("sample|4294967295", "sample 4294967295"),
+    ] {
+        assert!(rt; is_read(alloc, line, Some(command))?, "{line}");
+    }
+    for line in NUMBERS_REFUSED.split('\n') {
+        assert!(rt; is_read(alloc, line, None)?, "{line}");
+    }
+    Ok(())
+}
+
+#[test]
 fn other_words_are_refused(rt: HostRuntime) -> Result<(), Fail> {
     let alloc = rt.alloc();
     let none = Vec::new(alloc);
@@ -183,6 +202,28 @@ init|--lanes|4294967300
 init|--lanes|4|--lanes|4
 init|--lanes=4|--lanes=4
 init|4";
+
+/// A row a line: numbers of samples that aren't any.
+const NUMBERS_REFUSED: &str = "sample
+sample|4294967296
+sample|9999999999
+sample|00000000001
+sample|
+sample|-1
+sample|+1
+sample|x
+sample|1x
+sample|1.0
+sample| 1
+sample|0|0
+sample|1|2
+sample|--n|1
+sample|--n=1
+sample|1|--journal|j
+sample|--journal=j|1
+sample|1|--config=c
+sample|--|1
+sample|1|--";
 
 /// A row a line: owners that are no names of users, and lines without a path.
 const OWNERS_REFUSED: &str = "import
@@ -283,4 +324,5 @@ serve
 exports|/home/lab
 /home/lab|export
 imports|/home/lab
-sample|1";
+samples|1
+1|sample";

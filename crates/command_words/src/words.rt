@@ -16,11 +16,13 @@ use std::alloc::{AllocError, Global};
 /// - `export PATH --journal F`, where PATH is a path that [`read_path`](object_ids::read_path) reads;
 /// - `import PATH --journal F --owner U`, where U is `default` or the name of a user: a name of at most 255 bytes that
 ///   does not begin with `g:`;
+/// - `sample N`, where N is 0 to 4,294,967,295, as 1 to 10 digits;
 /// - `verify --journal F`.
 ///
-/// The options and PATH stand in any order, each at most once and PATH exactly once; an option is
-/// `--name value` or `--name=value`. A value and PATH aren't empty and don't begin with `-`. Without
-/// its option the configuration's file is `hsds.toml`, the journal's `hsds.journal`, N is 4 and U is `default`.
+/// The options, PATH and the N of `sample` stand in any order, each option at most once and PATH and
+/// that N exactly once; an option is `--name value` or `--name=value`. A value, PATH and N aren't empty
+/// and don't begin with `-`. Without its option the configuration's file is `hsds.toml`, the journal's
+/// `hsds.journal`, the N of `init` is 4 and U is `default`.
 ///
 /// # Errors
 ///

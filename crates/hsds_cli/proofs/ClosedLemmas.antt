@@ -1,7 +1,7 @@
 -- How a session's link left the world, by the session's status.
 use Rattle.std.proofs.Common.{◌≡◌, ◌⊎◌, inl, inr, ℕ, Option, Some, None, Result, Ok, Err, OnOk, refl, sym, ap, subst, ◌∙◌}
 use Rattle.edge_traits.specs.declared.disk.Disk.{Ghosts}
-use Rattle.command_words.specs.Commands.{Command, export, import, init, session, verify}
+use Rattle.command_words.specs.Commands.{Command, export, import, init, sample, session, verify}
 use Rattle.flush_journal.specs.declared.why.Why.{Why}
 use Rattle.flush_journal.specs.declared.why.Why.TheVariants as why
 use Rattle.link_service.specs.declared.end.LinkEnd.{LinkEnd}
@@ -55,4 +55,5 @@ module _ {D : Type 0} (met : Ghosts D) (sides : Sides) (before after : D) (close
   kept_or_refused (Some (session config journal)) status h = of_session status h
   kept_or_refused (Some (export path journal)) status h = none_closed closed c h.2 is
   kept_or_refused (Some (import path journal owner)) status h = none_closed closed c h.1 is
+  kept_or_refused (Some (sample n)) status h = none_closed closed c h.2 is
   kept_or_refused (Some (verify journal)) status h = none_closed closed c h.2 is

@@ -2,7 +2,7 @@
 use Rattle.std.proofs.Common.{◌≡◌, ◌≢◌, ◌⊎◌, inl, inr, ℕ, ◌≤◌, ◌++◌, ◌∙◌, List, length, Option, Some, None, Result, Ok, Err, refl, sym, ap, subst, append-nil, length-append, arith}
 use Rattle.std.specs.Io.KnownBytes.{Consumes}
 use Rattle.edge_traits.specs.declared.disk.Disk.{Ghosts}
-use Rattle.command_words.specs.Commands.{Command, export, import, init, session, verify}
+use Rattle.command_words.specs.Commands.{Command, export, import, init, sample, session, verify}
 use Rattle.flush_journal.specs.declared.why.Why.{Why}
 use Rattle.flush_journal.specs.declared.why.Why.TheVariants as why
 use Rattle.json_import.specs.Loads.{LoadsText}
@@ -26,6 +26,7 @@ use Rattle.hsds_cli.specs.Imports.{IsImported}
 use Rattle.hsds_cli.specs.Makings.{IsInit}
 use Rattle.hsds_cli.specs.Openings.{IsSession, IsVerified, Serves, status_after}
 use Rattle.hsds_cli.specs.Runs.{IsCommanded}
+use Rattle.hsds_cli.specs.Sampled.{IsSampled}
 use Rattle.hsds_cli.specs.Sides.{Sides, SpellsNone, configured}
 use Rattle.hsds_cli.specs.Status.{number_of}
 
@@ -173,6 +174,21 @@ module _ {D : Type 0} (met : Ghosts D) (honest : met.honest) (sides : Sides) (be
   of_import path journal owner InputCut h u = absurd h
   of_import path journal owner Budget h u = absurd h
 
+  of_sample : (n : ℕ) (status : Status) → IsSampled n sides status → IsUndisturbed met (sample n) sides before after closed → IsEnd status
+  of_sample n Done h u = inl refl
+  of_sample n NoMemory h u = inr refl
+  of_sample n WriteFault h u = absurd (u.calm.out h.0.3)
+  of_sample n Words h u = absurd h.0
+  of_sample n Configuration h u = absurd h.0
+  of_sample n ReadFault h u = absurd h.0
+  of_sample n DiskFault h u = absurd h.0
+  of_sample n NotAJournal h u = absurd h.0
+  of_sample n Refused h u = absurd h.0
+  of_sample n JournalExists h u = absurd h.0
+  of_sample n InputCut h u = absurd h.0
+  of_sample n UsedUp h u = absurd h.0
+  of_sample n Budget h u = absurd h.0
+
   of_session : (config journal : List ℕ) (status : Status) → IsSession met sides before after closed status → IsUndisturbed met (session config journal) sides before after closed → IsEnd status
   of_session config journal Done h u = inl refl
   of_session config journal NoMemory h u = inr refl
@@ -195,4 +211,5 @@ module _ {D : Type 0} (met : Ghosts D) (honest : met.honest) (sides : Sides) (be
   complete (session config journal) status h u = of_session config journal status h u
   complete (export path journal) status h u = of_export path journal status h.0 u
   complete (import path journal owner) status h u = of_import path journal owner status h.0 u
+  complete (sample n) status h u = of_sample n status h.0 u
   complete (verify journal) status h u = of_verify journal status h.0 u

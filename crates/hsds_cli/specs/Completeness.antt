@@ -6,7 +6,7 @@ use Rattle.std.specs.Prelude.{◌≡◌, ◌≢◌, ◌⊎◌, ℕ, ◌<◌, Lis
 use Rattle.domain_imports.specs.Faults.{adopt_fault}
 use Rattle.edge_traits.specs.Causes.{Rose}
 use Rattle.edge_traits.specs.declared.disk.Disk.{Ghosts}
-use Rattle.command_words.specs.Commands.{Command, export, import, init, session, verify}
+use Rattle.command_words.specs.Commands.{Command, export, import, init, sample, session, verify}
 use Rattle.configuration.specs.declared.config.Config.{Config}
 use Rattle.flush_journal.specs.Files.{magic}
 use Rattle.flush_journal.specs.declared.why.Why.TheVariants as why
@@ -63,6 +63,7 @@ Finds met (init config journal lanes) sides before = IsConfigured sides.text × 
 Finds met (session config journal) sides before = IsConfigured sides.text × IsOpenable (met.reads before) × IsWholeInput sides.left_before
 Finds met (export path journal) sides before = IsOpenable (met.reads before) × HasDocument (met.reads before) path
 Finds met (import path journal owner) sides before = IsOpenable (met.reads before) × HasAdoptable (met.reads before) path sides.left_before
+Finds met (sample n) sides before = Unit {0}
 Finds met (verify journal) sides before = IsOpenable (met.reads before)
 
 pub record IsCalm {D : Type 0} (met : Ghosts D) (sides : Sides) (before after : D) : Type 0 where
@@ -80,6 +81,7 @@ MeetsRoom met (session config journal) sides before after closed =
 MeetsRoom met (export path journal) sides before after closed = ⊥
 MeetsRoom met (import path journal owner) sides before after closed =
     (end : ℕ) × (need : ℕ) × (room : ℕ) × IsStopped met path owner sides before after (why.JournalFull end need room)
+MeetsRoom met (sample n) sides before after closed = ⊥
 MeetsRoom met (verify journal) sides before after closed = ⊥
 
 -- the command finds what it needs, nothing fails, and each keeping has room

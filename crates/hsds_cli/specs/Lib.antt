@@ -5,5 +5,6 @@ pub mod Makings
 pub mod Openings
 pub mod Exports
 pub mod Imports
+pub mod Sampled
 pub mod Runs
 pub mod Completeness

@@ -2,7 +2,7 @@
 use Rattle.std.specs.Prelude.{◌≡◌, ◌⊎◌, ℕ, List, Option, Some, None, ⊤}
 use Rattle.edge_traits.specs.Causes.{Rose}
 use Rattle.edge_traits.specs.declared.disk.Disk.{Ghosts}
-use Rattle.command_words.specs.Commands.{Command, command_of, export, import, init, session, verify}
+use Rattle.command_words.specs.Commands.{Command, command_of, export, import, init, sample, session, verify}
 use Rattle.flush_journal.specs.Unchanged.{SameBytes}
 use Rattle.kept_sessions.specs.declared.outcome.Closed.{Closed}
 use Rattle.hsds_cli.specs.declared.status.Status.{Status}
@@ -11,13 +11,14 @@ use Rattle.hsds_cli.specs.Exports.{IsExported}
 use Rattle.hsds_cli.specs.Imports.{IsImported}
 use Rattle.hsds_cli.specs.Makings.{IsAsBefore, IsInit}
 use Rattle.hsds_cli.specs.Openings.{IsSession, IsVerified}
+use Rattle.hsds_cli.specs.Sampled.{IsSampled}
 use Rattle.hsds_cli.specs.Sides.{Sides, SpellsNone}
 
 -- the words are none, or there was no memory to find one in them
 abbrev pub IsNoCommand : Status → Type 0
 IsNoCommand status = (status ≡ Words) ⊎ (status ≡ NoMemory)
 
--- what a command does; `export` and `verify` write nothing to the disk
+-- what a command does; `export` and `verify` write nothing to the disk, and `sample` doesn't touch it
 abbrev pub IsCommanded : {D : Type 0} (met : Ghosts D) → Option Command → Sides → D → D → Option Closed → Status → Type 0
 IsCommanded met None sides before after closed status = IsNoCommand status × IsAsBefore sides before after × (closed ≡ None)
 IsCommanded met (Some (init config journal lanes)) sides before after closed status = IsInit met lanes sides before after status × (closed ≡ None)
@@ -25,6 +26,7 @@ IsCommanded met (Some (session config journal)) sides before after closed status
 IsCommanded met (Some (export path journal)) sides before after closed status =
     IsExported met path sides before after status × (met.honest → SameBytes met before after) × (closed ≡ None)
 IsCommanded met (Some (import path journal owner)) sides before after closed status = IsImported met path owner sides before after status × (closed ≡ None)
+IsCommanded met (Some (sample n)) sides before after closed status = IsSampled n sides status × (after ≡ before) × (closed ≡ None)
 IsCommanded met (Some (verify journal)) sides before after closed status =
     IsVerified met sides before after status × (met.honest → SameBytes met before after) × (closed ≡ None)
 

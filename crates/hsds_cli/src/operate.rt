@@ -1,4 +1,4 @@
-//! The commands that wait for nobody: `init` makes a journal, and `verify` tells of one.
+//! The commands that wait for nobody: `init` makes a journal, `verify` tells of one, and `sample` tells of a world of its own.
 
 ghost use Rattle.std.specs.Prelude.{◌≡◌, ◌≤◌, ℕ, List, None, Option};
 ghost use Rattle.edge_traits.specs.Causes.{Rose};
@@ -6,6 +6,7 @@ ghost use Rattle.flush_journal.specs.Unchanged.{SameBytes, SameDisk};
 ghost use Rattle.hsds_cli.specs.Lines.{IsPrinted, IsTold, verify_line};
 ghost use Rattle.hsds_cli.specs.Makings.{IsInit, making_status};
 ghost use Rattle.hsds_cli.specs.Openings.{IsVerified, opening_status};
+ghost use Rattle.sample_values.specs.Samples.{sample_text};
 
 use crate::command_end::CommandEnd;
 use crate::configured::configured;
@@ -16,6 +17,7 @@ use flush_journal::{JournalRefused, Report, Why};
 use kept_journals::{
     OpenFault, OpenRefused, Opened, first_roots_by_runs_and_serials, make_journal, open_world,
 };
+use samples::sample_text;
 use std::alloc::Global;
 
 /// Makes a journal for so many lanes of the configured folders and domains, and prints their numbers.
@@ -126,7 +128,19 @@ fn tell<K: Sink>(alloc: Global, report: Report, run: u32, out: &mut K) -> Status
     }
 }
 
-/// Prints a line.
+/// Prints the sums of the sample that begins with a number. It needs no disk, and reads nothing.
+pub fn sample<K: Sink>(alloc: Global, n: u32, out: &mut K) -> Status
+    ensures told { IsTold (sample_text n) (K.held out.old) (K.held out.new)
+        (K.faults out.old) (K.faults out.new) result }
+    ensures later { K.faults out.old ≤ K.faults out.new }
+{
+    match sample_text(alloc, n) {
+        Ok(text) => print(out, text.as_str()),
+        Err(_) => Status::NoMemory,
+    }
+}
+
+/// Prints a text whole.
 pub fn print<K: Sink>(out: &mut K, line: &str) -> Status
     ensures printed { IsPrinted line.now (K.held out.old) (K.held out.new)
         (K.faults out.old) (K.faults out.new) result }

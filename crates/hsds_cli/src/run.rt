@@ -12,7 +12,7 @@ ghost use Rattle.hsds_cli.specs.Sides.{sides_of};
 use crate::command_end::CommandEnd;
 use crate::export::export;
 use crate::import::import;
-use crate::operate::{init, verify};
+use crate::operate::{init, sample, verify};
 use crate::session::session;
 use crate::status::Status;
 use command_words::{Wanted, WordsFault, wanted};
@@ -38,7 +38,8 @@ pub struct Finished<D, F> {
 
 /// Does what the words say: `init` makes a journal of the configuration, `session` serves the world that a journal keeps to
 /// `input` and `out` as one link, `export` prints the document of a domain, `import` makes a document of `input` a new
-/// domain, and `verify` tells a journal's numbers. The doors come back as they were.
+/// domain, `sample` prints the sums of a sample world, and `verify` tells a journal's numbers. The doors come back as they
+/// were.
 pub fn run<C: Source, S: Source, K: Sink, D: Disk, F: Door>(
     alloc: Global,
     words: &[String],
@@ -113,6 +114,11 @@ fn obey<C: Source, S: Source, K: Sink, D: Disk>(
         Ok(Wanted::Session { .. }) => session(alloc, config, input, out, disk),
         Ok(Wanted::Export { path, .. }) => export(alloc, &path, out, disk),
         Ok(Wanted::Import { path, owner, .. }) => import(alloc, &path, &owner, input, out, disk),
+        Ok(Wanted::Sample { n }) => CommandEnd {
+            status: sample(alloc, n, out),
+            disk,
+            closed: None,
+        },
         Ok(Wanted::Verify { .. }) => verify(alloc, out, disk),
         Err(WordsFault::Refused) => CommandEnd {
             status: Status::Words,

@@ -151,7 +151,7 @@ pub fn disk_of(alloc: Global, bytes: &[u8], room: u64, failing: Vec<u64>) -> Res
 }
 
 /// The words of a line, between its spaces.
-fn words_of(alloc: Global, line: &str) -> Result<Vec<String>, AllocError> {
+pub fn words_of(alloc: Global, line: &str) -> Result<Vec<String>, AllocError> {
     let mut words = Vec::new(alloc);
     for word in line.split(' ') {
         words.push(String::from_str(alloc, word)?)?;

@@ -14,6 +14,7 @@ returns c =
     let session = c.in_ok-app-2.ensures ∙ ap₂ both init c.in_ok-session_app.ensures.0 in
     let export = c.in_ok-app-3.ensures ∙ ap₂ both session c.in_ok-export_app.ensures.0 in
     let import = c.in_ok-app-4.ensures ∙ ap₂ both export c.in_ok-import_app.ensures.0 in
-    IfOk-weaker c.with_command-5.result _ _
-    (λ app is. is ∙ ap₂ both import c.in_ok-verify_app.ensures.0)
-    c.with_command-5.ensures
+    let sample = c.in_ok-app-5.ensures ∙ ap₂ both import c.in_ok-sample_app.ensures.0 in
+    IfOk-weaker c.with_command-6.result _ _
+    (λ app is. is ∙ ap₂ both sample c.in_ok-verify_app.ensures.0)
+    c.with_command-6.ensures

@@ -1,9 +1,10 @@
-use Rattle.std.proofs.Common.{Option, Some, ap, sym, subst, ◌∙◌}
+use Rattle.std.proofs.Common.{Option, Some, None, ap, refl, sym, subst, ◌∙◌}
 use Rattle.command_words.specs.Commands.{Command}
 use Rattle.command_words.specs.Seen.{seen}
 use Rattle.command_words.specs.declared.command.Wanted.{Wanted}
 use Rattle.hsds_cli.specs.Runs.{IsCommanded}
 use Rattle.hsds_cli.specs.Sides.{Sides}
+use Rattle.hsds_cli.proofs.SessionLemmas.{keeps}
 use Rattle.hsds_cli.proofs.run.obey.Goals as goal
 
 pub returns-in-Ok-Init-clause-run : goal.returns-in-Ok-Init-clause-run
@@ -62,6 +63,24 @@ returns-in-Ok-Import-clause-run g c =
     } in
     subst (λ (o : Option Command). IsCommanded g.D.Disk o sides c.args.disk c.import.result.disk c.import.result.closed c.import.result.status) (sym (c.in-Ok-Import.ensures.ok ∙ ap (λ (w : Wanted). Some (seen w)) c.in-Ok-Import.field-0-is))
     (c.import.ensures.imported (g.C.Source.left c.args.config.now) (g.C.Source.faults c.args.config.now), c.import.ensures.closed)
+
+pub returns-in-Ok-Sample-clause-run : goal.returns-in-Ok-Sample-clause-run
+returns-in-Ok-Sample-clause-run g c =
+    let sides : Sides = record {
+      text = g.C.Source.left c.args.config.now;
+      left_before = g.S.Source.left c.args.input.now;
+      left_after = g.S.Source.left c.args.input.now;
+      held_before = g.K.Sink.held c.args.out.now;
+      held_after = g.K.Sink.held c.sample.new.out;
+      config_before = g.C.Source.faults c.args.config.now;
+      config_after = g.C.Source.faults c.args.config.now;
+      input_before = g.S.Source.faults c.args.input.now;
+      input_after = g.S.Source.faults c.args.input.now;
+      out_before = g.K.Sink.faults c.args.out.now;
+      out_after = g.K.Sink.faults c.sample.new.out;
+    } in
+    subst (λ (o : Option Command). IsCommanded g.D.Disk o sides c.args.disk c.args.disk None c.sample.result) (sym (c.in-Ok-Sample.ensures.ok ∙ ap (λ (w : Wanted). Some (seen w)) c.in-Ok-Sample.field-0-is))
+    ((c.sample.ensures.told, keeps _ _ refl), refl, refl)
 
 pub returns-in-Ok-Verify-clause-run : goal.returns-in-Ok-Verify-clause-run
 returns-in-Ok-Verify-clause-run g c =
