@@ -43,3 +43,15 @@ IsRefusal text before after Configuration = SpellsNone text
 IsRefusal text before after ReadFault = Rose before after
 IsRefusal text before after NoMemory = ⊤
 IsRefusal text before after status = ⊥
+
+-- a command that asks nothing of the configuration
+abbrev pub IsUnconfigured : Option Command → Type 0
+IsUnconfigured (Some (init config journal lanes)) = ⊥
+IsUnconfigured (Some (session config journal)) = ⊥
+IsUnconfigured command = ⊤
+
+-- a command that takes no input
+abbrev pub TakesNone : Option Command → Type 0
+TakesNone (Some (session config journal)) = ⊥
+TakesNone (Some (import path journal owner)) = ⊥
+TakesNone command = ⊤

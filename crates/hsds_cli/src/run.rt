@@ -6,7 +6,7 @@ ghost use Rattle.hsds_cli.specs.declared.run.TheConstants.{MAX_DOORS};
 ghost use Rattle.hsds_cli.specs.declared.status.Status.{Status};
 ghost use Rattle.hsds_cli.specs.Status.{number_of};
 ghost use Rattle.hsds_cli.specs.Completeness.{IsUndisturbed};
-ghost use Rattle.hsds_cli.specs.Runs.{IsRun, MayBeUnkept};
+ghost use Rattle.hsds_cli.specs.Runs.{IsRun, IsUnconfigured, MayBeUnkept, TakesNone};
 ghost use Rattle.hsds_cli.specs.Sides.{sides_of};
 
 use crate::command_end::CommandEnd;
@@ -62,8 +62,10 @@ pub fn run<C: Source, S: Source, K: Sink, D: Disk, F: Door>(
     ensures input_later { S.faults input.old ≤ S.faults input.new }
     ensures out_later { K.faults out.old ≤ K.faults out.new }
 
-    // Where the words are no command, the configuration isn't read.
-    ensures unread { command_of (map string_bytes words.now) ≡ None → config.new ≡ config.old }
+    // The configuration is read by `init` and `session` alone, and the input by `session` and `import`.
+    ensures unread { IsUnconfigured (command_of (map string_bytes words.now))
+        → config.new ≡ config.old }
+    ensures untaken { TakesNone (command_of (map string_bytes words.now)) → input.new ≡ input.old }
 
     ensures doors { result.doors ≡ doors }
 
@@ -107,7 +109,9 @@ fn obey<C: Source, S: Source, K: Sink, D: Disk>(
     ensures config_later { C.faults config.old ≤ C.faults config.new }
     ensures input_later { S.faults input.old ≤ S.faults input.new }
     ensures out_later { K.faults out.old ≤ K.faults out.new }
-    ensures unread { command_of (map string_bytes words.now) ≡ None → config.new ≡ config.old }
+    ensures unread { IsUnconfigured (command_of (map string_bytes words.now))
+        → config.new ≡ config.old }
+    ensures untaken { TakesNone (command_of (map string_bytes words.now)) → input.new ≡ input.old }
 {
     match wanted(alloc, words) {
         Ok(Wanted::Init { lanes, .. }) => init(alloc, lanes, config, out, disk),

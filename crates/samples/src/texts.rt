@@ -13,7 +13,7 @@ use std::alloc::{AllocError, Global};
 ///
 /// # Errors
 ///
-/// Only where memory runs out.
+/// Where memory runs out. A refusal of the document or of a read, which are not to be expected, would end so too.
 pub fn sample_text(alloc: Global, n: u32) -> Result<String, AllocError>
     ensures { IfOk result (λ text. string_bytes text ≡ text_of_sample n) }
 {
