@@ -3,6 +3,7 @@
 use crate::arrays::{made, selected};
 use crate::times::Times;
 use chunk_store::Array;
+use shapes::Dims;
 use std::time::{Clock, Duration, Instant};
 
 /// A case: an array, and selections of it that are read and written one behind the other.
@@ -17,7 +18,15 @@ pub struct Case {
     pub whole: &'static str,
     /// The selections that are read and written.
     pub parts: &'static str,
+    /// Whether each round has a new array, so that its write makes the chunks.
+    pub is_first: bool,
 }
+
+/// The bytes of a cell.
+const WIDTH: usize = 4;
+
+/// More chunks than an array of a case has.
+const MOST_CHUNKS: usize = 10_000;
 
 /// All cells.
 const WHOLE: &str = "[:,:]";
@@ -27,13 +36,22 @@ const TEN_PARTS: &str =
     "[:1000,:];[1000:2000,:];[2000:3000,:];[3000:4000,:];[4000:5000,:];[5000:6000,:];[6000:7000,:];[7000:8000,:];[8000:9000,:];[9000:,:]";
 
 /// The cases, in the order in which they are measured.
-pub static CASES: [Case; 8] = [
+pub static CASES: [Case; 9] = [
+    Case {
+        name: "first write of the whole, chunks 125x125",
+        dims: "[1000,1000]",
+        chunk: "[125,125]",
+        whole: WHOLE,
+        parts: WHOLE,
+        is_first: true,
+    },
     Case {
         name: "whole, chunks 125x125",
         dims: "[1000,1000]",
         chunk: "[125,125]",
         whole: WHOLE,
         parts: WHOLE,
+        is_first: false,
     },
     Case {
         name: "step 7 on the last axis, chunks 125x125",
@@ -41,6 +59,7 @@ pub static CASES: [Case; 8] = [
         chunk: "[125,125]",
         whole: WHOLE,
         parts: "[0:1000,0:1000:7]",
+        is_first: false,
     },
     Case {
         name: "step 7 on both axes, chunks 125x125",
@@ -48,6 +67,7 @@ pub static CASES: [Case; 8] = [
         chunk: "[125,125]",
         whole: WHOLE,
         parts: "[0:1000:7,0:1000:7]",
+        is_first: false,
     },
     Case {
         name: "one column, chunks 125x125",
@@ -55,6 +75,7 @@ pub static CASES: [Case; 8] = [
         chunk: "[125,125]",
         whole: WHOLE,
         parts: "[0:1000,5]",
+        is_first: false,
     },
     Case {
         name: "whole, chunks 1000x1",
@@ -62,6 +83,7 @@ pub static CASES: [Case; 8] = [
         chunk: "[1000,1]",
         whole: WHOLE,
         parts: WHOLE,
+        is_first: false,
     },
     Case {
         name: "whole, chunks 1000x10",
@@ -69,6 +91,7 @@ pub static CASES: [Case; 8] = [
         chunk: "[1000,10]",
         whole: WHOLE,
         parts: WHOLE,
+        is_first: false,
     },
     Case {
         name: "whole, chunks 10x1000",
@@ -76,6 +99,7 @@ pub static CASES: [Case; 8] = [
         chunk: "[10,1000]",
         whole: WHOLE,
         parts: WHOLE,
+        is_first: false,
     },
     Case {
         name: "ten times the cells, in ten parts, chunks 125x125",
@@ -83,8 +107,21 @@ pub static CASES: [Case; 8] = [
         chunk: "[125,125]",
         whole: TEN_PARTS,
         parts: TEN_PARTS,
+        is_first: false,
     },
 ];
+
+/// How many chunks an array has, or else the most that are counted.
+fn chunks_of(array: &Array) -> usize {
+    let mut last: Option<Dims> = None;
+    for count in 0..MOST_CHUNKS {
+        last = array.next_chunk(last.as_ref());
+        if last.is_none() {
+            return count;
+        }
+    }
+    MOST_CHUNKS
+}
 
 /// Reads a part of the array, writes the same bytes there, and takes both times.
 fn part_times<R: Clock + AllocGlobal>(
@@ -93,13 +130,20 @@ fn part_times<R: Clock + AllocGlobal>(
     part: &str,
 ) -> anyhow::Result<Times> {
     let slab = selected(array, part)?;
+    let chunks = chunks_of(array);
     let start = Instant::now(rt)?;
     let bytes = array.read_slab(rt.alloc(), &slab)?;
     let read = start.elapsed(rt)?;
     let start = Instant::now(rt)?;
     array.write_slab(rt.alloc(), &slab, bytes.as_slice())?;
     let write = start.elapsed(rt)?;
-    Ok(Times { read, write })
+    let cells = bytes.len() / WIDTH;
+    Ok(Times {
+        read,
+        write,
+        cells,
+        chunks,
+    })
 }
 
 /// The times of all parts together.
@@ -117,6 +161,9 @@ pub fn measured<R: Clock + AllocGlobal>(rt: &R, case: &Case, rounds: u32) -> any
     round(rt, &mut array, case.whole)?;
     let mut least = Times::both(Duration::MAX);
     for _ in 0..rounds {
+        if case.is_first {
+            array = made(rt.alloc(), case.dims, case.chunk)?;
+        }
         least = least.or_less(round(rt, &mut array, case.parts)?);
     }
     Ok(least)

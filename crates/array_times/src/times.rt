@@ -1,28 +1,36 @@
 //! Times, the least of several, and their ratios.
 
-ghost use Rattle.std.specs.Prelude.{◌≡◌, ◌+◌, ◌*◌, ◌/◌, min, max};
+ghost use Rattle.std.specs.Prelude.{◌≡◌, ◌+◌, ◌-◌, ◌*◌, ◌/◌, ◌^◌, min, max};
 ghost use Rattle.std.specs.Duration.{as_nanos, max_nanos};
 
 use std::fmt;
 use std::fmt::{Display, Formatter};
 use std::time::Duration;
 
-/// How long a read and a write took.
+/// How long a read and a write took, and what was read.
 #[derive(Clone, Copy)]
 pub struct Times {
     pub read: Duration,
     pub write: Duration,
+    /// The cells that were read.
+    pub cells: usize,
+    /// The chunks that the array had before.
+    pub chunks: usize,
 }
 
 impl Times {
-    /// The same time of both.
+    /// The same time of both, where nothing was read.
     pub fn both(time: Duration) -> Times
         ensures read { result.read ≡ time }
         ensures write { result.write ≡ time }
+        ensures cells { result.cells ≡ 0 }
+        ensures chunks { result.chunks ≡ 0 }
     {
         Times {
             read: time,
             write: time,
+            cells: 0,
+            chunks: 0,
         }
     }
 
@@ -32,21 +40,28 @@ impl Times {
             ≡ min (as_nanos self.read + as_nanos other.read) max_nanos }
         ensures write { as_nanos result.write
             ≡ min (as_nanos self.write + as_nanos other.write) max_nanos }
+        ensures cells { result.cells ≡ min (self.cells + other.cells) (2 ^ 64 - 1) }
+        ensures chunks { result.chunks ≡ min (self.chunks + other.chunks) (2 ^ 64 - 1) }
     {
         Times {
             read: self.read.saturating_add(other.read),
             write: self.write.saturating_add(other.write),
+            cells: self.cells.saturating_add(other.cells),
+            chunks: self.chunks.saturating_add(other.chunks),
         }
     }
 
-    /// The lesser of each.
+    /// The lesser of each time, and the sums of what was read.
     pub fn or_less(self, other: Times) -> Times
         ensures read { as_nanos result.read ≡ min (as_nanos self.read) (as_nanos other.read) }
         ensures write { as_nanos result.write ≡ min (as_nanos self.write) (as_nanos other.write) }
+        ensures cells { result.cells ≡ min (self.cells + other.cells) (2 ^ 64 - 1) }
+        ensures chunks { result.chunks ≡ min (self.chunks + other.chunks) (2 ^ 64 - 1) }
     {
         Times {
             read: lesser(self.read, other.read),
             write: lesser(self.write, other.write),
+            ..self.plus(other)
         }
     }
 }
