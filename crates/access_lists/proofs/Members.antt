@@ -4,9 +4,9 @@ use Rattle.std.specs.Cmp.Lexicographic.{nat_list_cmp_total}
 use Rattle.std.specs.Ordering.{match_ordering, ordering_reverse}
 use Rattle.std.specs.FinMap.{entries, entries_sorted, find, from_entries, get as get_at, get-entries, get-from_entries, is_sorted, same_map}
 use Rattle.std.specs.FinMap.Entries.{below_all}
-use Rattle.text_maps.specs.Keyed.{text_order}
-use Rattle.text_maps.proofs.KeyedMaps.{exact_texts}
-use Rattle.text_maps.proofs.Walks.{halves, less}
+use Rattle.containers.specs.TextMaps.Keyed.{text_order}
+use Rattle.containers.proofs.TextMaps.KeyedMaps.{exact_texts}
+use Rattle.containers.proofs.TextMaps.Walks.{halves, less}
 use Rattle.serde_json.specs.Data.{Data, no_members, member, put}
 use Rattle.serde_json.specs.Find.{get, get_member}
 use Rattle.access_lists.specs.declared.rights.Rights.{Rights}

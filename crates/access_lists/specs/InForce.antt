@@ -11,7 +11,7 @@ use Rattle.std.specs.Prelude.{ℕ, List, [], ◌∷◌, Bool, false, ◌||◌, O
 use Rattle.std.specs.Option.{unwrap_or}
 use Rattle.std.specs.List.{list_any}
 use Rattle.std.specs.FinMap.{FinMap, get}
-use Rattle.text_maps.specs.Keyed.{text_order}
+use Rattle.containers.specs.TextMaps.Keyed.{text_order}
 use Rattle.access_lists.specs.declared.people.Caller.{Caller}
 use Rattle.access_lists.specs.declared.right.Right.{Right}
 use Rattle.access_lists.specs.declared.rights.Rights.{Rights}

@@ -2,6 +2,8 @@
 //!
 //! An access list maps names of users and groups to entries, and an entry is a set of six rights, as in the
 //! documentation of HSDS on ACLs.
+//!
+//! [`tokens`] has the table of bearer tokens: who sends a request.
 #![tactic(auto)]
 
 mod decision;
@@ -21,5 +23,4 @@ pub use people::{Caller, Names};
 pub use right::Right;
 pub use rights::Rights;
 
-#[cfg(test)]
-mod tests;
+pub mod tokens;

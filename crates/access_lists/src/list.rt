@@ -1,7 +1,7 @@
 ghost use Rattle.std.specs.Prelude.{◌≡◌, ◌↔◌, ◌≤◌, OnOk, OnErr, IfOk, IsErrOf, IsTrue};
 ghost use Rattle.std.specs.FinMap as map;
 ghost use Rattle.std.specs.Option.{option_copied};
-ghost use Rattle.text_maps.specs.Nexts.{IsNext, IsKeyStep};
+ghost use Rattle.containers.specs.TextMaps.Nexts.{IsNext, IsKeyStep};
 ghost use Rattle.object_ids.specs.NamedEntries.{named_entries};
 ghost use Rattle.access_lists.specs.InForce.{most_entries};
 ghost use Rattle.access_lists.specs.Lists.{IsList};
@@ -27,7 +27,7 @@ impl Model for AccessList {
     ghost use Rattle.std.specs.Prelude.{ℕ, List};
     ghost use Rattle.std.specs.FinMap as map;
     ghost use Rattle.std.specs.Coded.{coded_ℕ, coded_list};
-    ghost use Rattle.text_maps.specs.Keyed.{text_order};
+    ghost use Rattle.containers.specs.TextMaps.Keyed.{text_order};
     ghost use Rattle.access_lists.specs.declared.rights.Rights.{Rights};
     ghost use Rattle.access_lists.specs.contracts.rights.Rights as rights;
     ghost use Rattle.access_lists.specs.Lists.{IsList};

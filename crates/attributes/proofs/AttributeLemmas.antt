@@ -9,7 +9,7 @@ use Rattle.object_ids.specs.Puts.{put_fault, Blames}
 use Rattle.object_ids.specs.declared.puts.PutFault.{PutFault}
 use Rattle.object_ids.specs.declared.puts.PutFault.TheVariants.{Taken, Limit}
 use Rattle.object_ids.proofs.PutLemmas.{insert_most, remove_most}
-use Rattle.text_maps.specs.Keyed.{text_order}
+use Rattle.containers.specs.TextMaps.Keyed.{text_order}
 use Rattle.hdf_values.specs.Attributes.{content, IsSoundAttribute}
 use Rattle.hdf_values.specs.declared.attributes.Attribute.{Attribute}
 use Rattle.attributes.specs.AttributeMaps.{AttributeMap, AreAttributes, most_attributes, longest_name}

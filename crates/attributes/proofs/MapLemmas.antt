@@ -6,9 +6,9 @@ use Rattle.std.specs.List.{AllByRecursion}
 use Rattle.std.specs.Ordering.{eq_by_cmp, ordering_reverse}
 use Rattle.std.specs.FinMap.{FinMap, empty, entries, entries_sorted, find, get, insert, is_sorted, remove, same_map, get-empty, get-entries, get-insert, get-remove}
 use Rattle.std.proofs.lemmas.Cmp.{tied_itself}
-use Rattle.text_maps.specs.Keyed.{text_order}
-use Rattle.text_maps.proofs.KeyedMaps.{exact_texts}
-use Rattle.text_maps.proofs.Walks.{found_above, halves}
+use Rattle.containers.specs.TextMaps.Keyed.{text_order}
+use Rattle.containers.proofs.TextMaps.KeyedMaps.{exact_texts}
+use Rattle.containers.proofs.TextMaps.Walks.{found_above, halves}
 
 module _ {X : Type 0} (P : List ℕ → X → Type 0) where
   abbrev pub Each : FinMap text_order X → Type 0

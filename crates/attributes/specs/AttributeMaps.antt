@@ -4,7 +4,7 @@
 use Rattle.std.specs.Prelude.{◌≡◌, ℕ, ◌≤◌, List, true, Some}
 use Rattle.std.specs.FinMap.{FinMap, get, len}
 use Rattle.object_ids.specs.Names.{is_name}
-use Rattle.text_maps.specs.Keyed.{text_order}
+use Rattle.containers.specs.TextMaps.Keyed.{text_order}
 use Rattle.hdf_values.specs.Attributes.{content, IsSoundAttribute}
 use Rattle.hdf_values.specs.declared.attributes.Attribute.{Attribute}
 

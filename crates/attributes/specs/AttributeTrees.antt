@@ -6,7 +6,7 @@ use Rattle.std.specs.FinMap.{FinMap, entries}
 use Rattle.serde_json.specs.Data.{Data, null, boolean, number, string, array, object, member}
 use Rattle.serde_json.specs.View.{items_of}
 use Rattle.shapes.specs.declared.printing.Form.{Form}
-use Rattle.text_maps.specs.Keyed.{text_order}
+use Rattle.containers.specs.TextMaps.Keyed.{text_order}
 use Rattle.hdf_values.specs.Attributes.{Content, content, content_tree}
 use Rattle.hdf_values.specs.declared.attributes.Attribute.{Attribute}
 

@@ -10,7 +10,7 @@ ghost use Rattle.serde_json.specs.View.{view, items_of};
 ghost use Rattle.hdf_values.specs.Attributes.{content, IsSoundAttribute};
 ghost use Rattle.object_ids.specs.NamedEntries.{named_entries};
 ghost use Rattle.object_ids.specs.Puts.{put_fault, Blames};
-ghost use Rattle.text_maps.specs.Nexts.{IsNext, IsKeyStep};
+ghost use Rattle.containers.specs.TextMaps.Nexts.{IsNext, IsKeyStep};
 ghost use Rattle.attributes.specs.AttributeMaps.{AreAttributes, most_attributes, longest_name};
 ghost use Rattle.attributes.specs.AttributeTrees.{entry_tree, attributes_list};
 
@@ -34,7 +34,7 @@ pub struct Attributes {
 impl Model for Attributes {
     ghost use Rattle.std.specs.Coded.{coded_list, coded_ℕ};
     ghost use Rattle.std.specs.FinMap as finite;
-    ghost use Rattle.text_maps.specs.Keyed.{text_order};
+    ghost use Rattle.containers.specs.TextMaps.Keyed.{text_order};
     ghost use Rattle.hdf_values.specs.contracts.attributes.Attribute as attribute;
     ghost use Rattle.hdf_values.specs.declared.attributes.Attribute.{Attribute};
     ghost use Rattle.attributes.specs.AttributeMaps.{AreAttributes};

@@ -5,8 +5,6 @@
 
 mod attribute_map;
 mod laws;
-#[cfg(test)]
-mod tests;
 mod trees;
 
 pub use attribute_map::Attributes;

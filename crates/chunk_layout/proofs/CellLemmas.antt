@@ -15,10 +15,6 @@ dim_at [] i h k = absurd (omega arith)
 dim_at (n ∷ ns) zero h k = (All-head IsChunkDim n ns h).0
 dim_at (n ∷ ns) (suc i) h k = dim_at ns i (All-tail IsChunkDim n ns h) (omega arith)
 
-pub one_cell : (ns : List ℕ) → All IsChunkDim ns → 1 ≤ cell_count ns
-one_cell [] h = omega arith
-one_cell (n ∷ ns) h = mul-le 1 1 n (cell_count ns) (All-head IsChunkDim n ns h).0 (one_cell ns (All-tail IsChunkDim n ns h))
-
 -- ---- the walks over the axes
 
 pub quotient_next : (i : ℕ) (xs ns done : List ℕ) → i < length xs → i < length ns

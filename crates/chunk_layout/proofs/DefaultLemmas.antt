@@ -7,10 +7,10 @@ use Rattle.std.proofs.lemmas.List.{drop_more, append_assoc, length-map}
 use Rattle.std.proofs.lemmas.List.Elements.{All-nil, All-cons, All-head, All-tail}
 use Rattle.shapes.specs.declared.Shape.{Shape}
 use Rattle.shapes.specs.declared.Shape.TheVariants.{Null, Scalar, Simple}
-use Rattle.shapes.specs.declared.TheConstants.{MAX_RANK, MAX_EXTENT}
+use Rattle.shapes.specs.declared.TheConstants.{MAX_RANK, MAX_EXTENT, MAX_CHUNK_BYTES}
 use Rattle.shapes.specs.Places.{cell_count}
 use Rattle.shapes.specs.Shapes.{IsSound, dims_of}
-use Rattle.chunk_layout.specs.declared.TheConstants.{MAX_CHUNK_BYTES, DEFAULT_CHUNK_BYTES}
+use Rattle.chunk_layout.specs.declared.TheConstants.{DEFAULT_CHUNK_BYTES}
 use Rattle.chunk_layout.specs.Chunks.{IsChunkDim, IsChunk}
 use Rattle.chunk_layout.specs.Defaults.{at_least_one, largest, halve_first, halved, halved_times, IsLarge, IsHalvedDown, IsDefault}
 use Rattle.chunk_layout.specs.Layouts.{Fits}

@@ -16,12 +16,11 @@ use Rattle.json_trees.proofs.TreeLemmas.{and_then_some, map_some, list_in_array,
 use Rattle.json_trees.proofs.TableLemmas.{same_bytes}
 use Rattle.json_trees.proofs.FaultLemmas.{chosen, test_ok}
 use Rattle.shapes.specs.declared.Shape.{Shape}
-use Rattle.shapes.specs.declared.TheConstants.{MAX_RANK, MAX_EXTENT}
+use Rattle.shapes.specs.declared.TheConstants.{MAX_RANK, MAX_EXTENT, MAX_CHUNK_BYTES}
 use Rattle.shapes.specs.Extents.{SpellsList}
 use Rattle.shapes.specs.Places.{cell_count}
 use Rattle.shapes.specs.Shapes.{IsSound, dims_of}
 use Rattle.shapes.proofs.SpelledLemmas.{take_kept}
-use Rattle.chunk_layout.specs.declared.TheConstants.{MAX_CHUNK_BYTES}
 use Rattle.chunk_layout.specs.declared.Layout.{Layout}
 use Rattle.chunk_layout.specs.declared.LayoutFault.{LayoutFault}
 use Rattle.chunk_layout.specs.declared.LayoutFault.TheVariants.{NotALayout, Rank, TooBig}
@@ -29,7 +28,7 @@ use Rattle.chunk_layout.specs.Chunks.{IsChunkDim}
 use Rattle.chunk_layout.specs.Defaults.{at_least_one, IsDefault}
 use Rattle.chunk_layout.specs.Layouts.{Fits, HasClass, IsObject, IsWhole, AsksNone, AsksChunk, SpellsChunk}
 use Rattle.chunk_layout.specs.Asked.{is_chunk_dim, first_bad, is_too_big, sized_of, ranked, chunked_of, wholes_in, classed, laid, asked_of, IsAnswer}
-use Rattle.chunk_layout.proofs.CellLemmas.{one_cell}
+use Rattle.shapes.proofs.ChunkDimLemmas.{one_cell}
 use Rattle.chunk_layout.proofs.DefaultLemmas.{one_end, down_fits}
 
 -- ---- numbers that are kept

@@ -3,3 +3,4 @@ pub mod CellLemmas
 pub mod DefaultLemmas
 pub mod LayoutLemmas
 pub mod GridLemmas
+pub mod DefaultChunks

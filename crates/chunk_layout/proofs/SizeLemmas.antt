@@ -3,7 +3,7 @@ use Rattle.std.proofs.Common.{◌≡◌, ℕ, ◌*◌, ◌-◌, ◌^◌, ◌≤�
 use Rattle.std.proofs.lemmas.Bool.Decides.{nat_tests}
 use Rattle.std.proofs.lemmas.List.{drop_all}
 use Rattle.shapes.specs.Places.{cell_count}
-use Rattle.chunk_layout.specs.declared.TheConstants.{MAX_CHUNK_BYTES}
+use Rattle.shapes.specs.declared.TheConstants.{MAX_CHUNK_BYTES}
 
 pub bytes_end : (t i m : ℕ) (ns : List ℕ) → length ns ≤ i → t ≤ m → t ≡ min (t * cell_count (drop i ns)) m
 bytes_end t i m ns h k = rw (drop_all i ns h) (omega (arith, k))

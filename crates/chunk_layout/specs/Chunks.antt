@@ -1,18 +1,7 @@
 -- A grid that is cut into chunks of one size: the chunk of a cell, and its place there.
-use Rattle.std.specs.Prelude.{ℕ, ◌+◌, ◌*◌, ◌/◌, ◌%◌, ◌≤◌, List, [], ◌∷◌, All, length, map}
-use Rattle.shapes.specs.Places.{cell_count, place, coordinates, digits_by}
-use Rattle.shapes.specs.declared.TheConstants.{MAX_RANK, MAX_EXTENT}
-use Rattle.chunk_layout.specs.declared.TheConstants.{MAX_CHUNK_BYTES}
-
--- a dim of a chunk
-abbrev pub IsChunkDim : ℕ → Type 0
-IsChunkDim n = (1 ≤ n) × (n ≤ MAX_EXTENT)
-
--- the dims of a chunk: whatever the elements, it has no more of them than bytes are allowed
-pub record IsChunk (chunk : List ℕ) : Type 0 where
-  pub few_axes : length chunk ≤ MAX_RANK
-  pub dims : All IsChunkDim chunk
-  pub cells : cell_count chunk ≤ MAX_CHUNK_BYTES
+pub use Rattle.shapes.specs.ChunkDims.{IsChunkDim, IsChunk}
+use Rattle.std.specs.Prelude.{ℕ, ◌+◌, ◌*◌, ◌/◌, ◌%◌, List, [], ◌∷◌, map}
+use Rattle.shapes.specs.Places.{place, coordinates, digits_by}
 
 -- the chunk in which a cell lies: on each axis, how many chunks lie before it
 abbrev pub quotients : List ℕ → List ℕ → List ℕ

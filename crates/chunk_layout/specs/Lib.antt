@@ -10,3 +10,4 @@ pub use Rattle.json_trees.specs.Trees
 pub use Rattle.serde_json.specs.View
 pub use Rattle.serde_json.specs.Data
 pub use Rattle.serde_json.specs.Find
+pub mod DefaultChunks

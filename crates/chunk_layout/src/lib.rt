@@ -1,5 +1,7 @@
 //! How an array's cells are cut into chunks: the chunk's dims, and the chunk and place of a cell
 //! (HDF5 user guide, "Chunked storage layout"; HDF REST API, "creationProperties").
+//!
+//! [`default_chunks`] has the default chunk as a function of the dims.
 #![tactic(auto)]
 
 ghost use Rattle.std.specs.Prelude.{◌≡◌};
@@ -7,20 +9,17 @@ ghost use Rattle.std.specs.Prelude.{◌≡◌};
 use shapes::Dims;
 
 mod cells;
+pub mod default_chunks;
 mod defaults;
 mod grids;
 mod reading;
 mod sizes;
-#[cfg(test)]
-mod tests;
 
 pub use cells::{chunk_and_offset, chunk_of, coords_in_chunk, offset_in};
 pub use defaults::default_layout;
 pub use grids::{grid_of_chunks, is_in_grid};
 pub use reading::{layout_or_fault, read_layout};
-
-/// The most bytes of a chunk that a caller asks for, where it has more than one element.
-pub const MAX_CHUNK_BYTES: u64 = 1_048_576;
+pub use shapes::MAX_CHUNK_BYTES;
 
 /// The most bytes of a chunk that nobody asked for, where it has more than one element.
 pub const DEFAULT_CHUNK_BYTES: u64 = 65_536;

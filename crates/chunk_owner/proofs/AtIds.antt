@@ -19,7 +19,7 @@ use Rattle.object_acts.specs.declared.objects.Body.{Body}
 use Rattle.object_acts.specs.declared.objects.Body.TheVariants.{Group, Dataset, Datatype}
 use Rattle.object_acts.specs.Objects.{unmarked, unmarked_body, empty_group}
 use Rattle.object_acts.specs.Trees.{body_tree, object_tree}
-use Rattle.object_slots.specs.Changed.{ChangesAt}
+use Rattle.chunk_owner.specs.Slots.Changed.{ChangesAt}
 use Rattle.chunk_owner.specs.Lanes.{Objects, set_at, at_id}
 use Rattle.chunk_owner.specs.Acts.{missing, held, seen, read_by, reading, is_done, left, changed_by, changing, removed, removing}
 use Rattle.chunk_owner.proofs.Eaches.{same_id}

@@ -3,8 +3,8 @@ use Rattle.std.proofs.Common.{◌≡◌, Bool, true, false, cond, Option, Some, 
 use Rattle.std.specs.Cmp.{Equal-is}
 use Rattle.std.specs.Ordering.{eq_by_cmp}
 use Rattle.std.specs.FinMap.{empty, get, insert, remove, get-empty, get-insert, get-remove, same_map}
-use Rattle.lane_installs.proofs.Walking.{unmarked_once}
-use Rattle.text_maps.proofs.ValueMaps.{get-values}
+use Rattle.chunk_owner.proofs.OfInstalls.Walking.{unmarked_once}
+use Rattle.containers.proofs.TextMaps.ValueMaps.{get-values}
 use Rattle.object_ids.specs.IdOrder.{id_order}
 use Rattle.object_ids.specs.IdValues.{Id}
 use Rattle.object_ids.specs.declared.ids.Kind.{Kind}

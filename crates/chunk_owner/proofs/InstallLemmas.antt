@@ -6,13 +6,13 @@ use Rattle.object_ids.specs.IdValues.{Id}
 use Rattle.object_ids.specs.Ids.{InRange, lane_of}
 use Rattle.object_acts.specs.declared.objects.Object.{Object}
 use Rattle.object_acts.specs.Objects.{kind_of_body}
-use Rattle.record_keys.specs.Keys.{object, object_key}
+use Rattle.object_records.specs.Keys.Keys.{object, object_key}
 use Rattle.object_records.specs.Entries.{entry_of}
 use Rattle.object_records.specs.Objects.{object_of_body}
-use Rattle.object_slots.specs.declared.slot.Slot.{Slot}
-use Rattle.object_slots.specs.Slots.{Describes, Slots, object_of, objects_of}
-use Rattle.object_slots.proofs.Standing.{get-objects_of}
-use Rattle.lane_installs.specs.Records.{AreSound}
+use Rattle.chunk_owner.specs.declared.slots.slot.Slot.{Slot}
+use Rattle.chunk_owner.specs.Slots.Slots.{Describes, Slots, object_of, objects_of}
+use Rattle.chunk_owner.proofs.OfSlots.Standing.{get-objects_of}
+use Rattle.chunk_owner.specs.Installs.Records.{AreSound}
 use Rattle.chunk_owner.proofs.LaneLemmas.{slot_of}
 
 module _ (lanes lane run next : ℕ) (held : Held) (rules : AreSound lanes lane run next held) where

@@ -7,15 +7,15 @@ use Rattle.object_ids.specs.Ids.{lane_of}
 use Rattle.object_ids.proofs.IdOrders.{id_order_once, id_order_total}
 use Rattle.object_acts.specs.declared.objects.Object.{Object}
 use Rattle.object_acts.specs.Objects.{unmarked, IsOfKind}
-use Rattle.object_slots.specs.declared.slot.Mark.{Mark}
-use Rattle.object_slots.specs.declared.slot.Mark.TheVariants.{Kept, Changed, Dropped}
-use Rattle.object_slots.specs.declared.slot.Slot.{Slot}
-use Rattle.object_slots.specs.Settled.{Settles}
-use Rattle.object_slots.specs.Slots.{HasSameIds, Slots, object_by, object_of, objects_of}
-use Rattle.object_slots.specs.Slots.{AreOfKind as AreSlotsOfKind}
-use Rattle.object_slots.proofs.Placed.{everywhere}
-use Rattle.object_slots.proofs.Standing.{get-objects_of, objects-insert}
-use Rattle.object_slots.proofs.LaneCuts.{none_is}
+use Rattle.chunk_owner.specs.declared.slots.slot.Mark.{Mark}
+use Rattle.chunk_owner.specs.declared.slots.slot.Mark.TheVariants.{Kept, Changed, Dropped}
+use Rattle.chunk_owner.specs.declared.slots.slot.Slot.{Slot}
+use Rattle.chunk_owner.specs.Slots.Settled.{Settles}
+use Rattle.chunk_owner.specs.Slots.Slots.{HasSameIds, Slots, object_by, object_of, objects_of}
+use Rattle.chunk_owner.specs.Slots.Slots.{AreOfKind as AreSlotsOfKind}
+use Rattle.chunk_owner.proofs.OfSlots.Placed.{everywhere}
+use Rattle.chunk_owner.proofs.OfSlots.Standing.{get-objects_of, objects-insert}
+use Rattle.chunk_owner.proofs.OfSlots.LaneCuts.{none_is}
 use Rattle.chunk_owner.specs.Lanes.{AreHome, AreOfKind, AreShown, AreSlotsOf, Each, Forgets, IsWhole, Objects, StandsIn, StaysHome, StayHome, seen_lane, shown}
 use Rattle.chunk_owner.specs.Acts.{IsTouchedIn}
 use Rattle.chunk_owner.proofs.Eaches.{get-shown, option-unmarked, unmarked_kind}

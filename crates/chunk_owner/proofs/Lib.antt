@@ -6,3 +6,6 @@ pub mod NextLemmas
 pub mod LawLemmas
 pub mod KeptLemmas
 pub mod MarkLemmas
+pub mod OfInstalls
+pub mod OfOwners
+pub mod OfSlots

@@ -10,19 +10,19 @@ use Rattle.object_ops.specs.declared.grants.Grant.{Grant}
 use Rattle.object_ops.specs.declared.grants.Step.{Step}
 use Rattle.object_ops.specs.declared.replies.Reply.{Reply}
 use Rattle.object_ops.specs.Parts.{id_of}
-use Rattle.array_acts.specs.Marked.{IsDone}
+use Rattle.object_acts.specs.Arrays.Marked.{IsDone}
 use Rattle.object_acts.specs.declared.objects.Object.{Object}
 use Rattle.object_acts.specs.declared.objects.Body.{Body}
 use Rattle.object_acts.specs.declared.objects.Body.TheVariants.{Group, Dataset, Datatype}
 use Rattle.object_acts.specs.Acts.{changes_object, reads_object}
 use Rattle.object_acts.specs.Marked.{is_dirty_in}
-use Rattle.record_keys.specs.Keys.{object_key}
-use Rattle.object_slots.specs.declared.slot.Mark.TheVariants.{Changed}
-use Rattle.object_slots.specs.declared.slot.Slot.{Slot}
-use Rattle.object_slots.specs.Marking.{AddsMarks}
-use Rattle.object_slots.specs.Slots.{IsMarkedIn, Slots, object_of}
-use Rattle.object_slots.proofs.Marks.{adds_more}
-use Rattle.object_slots.proofs.Passing.{contrary}
+use Rattle.object_records.specs.Keys.Keys.{object_key}
+use Rattle.chunk_owner.specs.declared.slots.slot.Mark.TheVariants.{Changed}
+use Rattle.chunk_owner.specs.declared.slots.slot.Slot.{Slot}
+use Rattle.chunk_owner.specs.Slots.Marking.{AddsMarks}
+use Rattle.chunk_owner.specs.Slots.Slots.{IsMarkedIn, Slots, object_of}
+use Rattle.chunk_owner.proofs.OfSlots.Marks.{adds_more}
+use Rattle.containers.proofs.Passing.{contrary}
 use Rattle.chunk_owner.specs.Acts.{touched_by_make}
 use Rattle.chunk_owner.specs.Marks.{IsChangeMark, IsKeyOf, IsMarkAt, IsStepMark}
 use Rattle.chunk_owner.proofs.KeptLemmas.{touched_named}

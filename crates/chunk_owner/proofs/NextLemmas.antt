@@ -2,8 +2,8 @@
 use Rattle.std.proofs.Common.{◌≡◌, true, false, IsSome, is_some, Option, Some, None, Ordering, Less, Equal, Greater, option_map, refl, sym, ap, subst, ◌∙◌}
 use Rattle.std.specs.Ordering.{ordering_reverse}
 use Rattle.std.specs.FinMap.{entries, get}
-use Rattle.text_maps.specs.Nexts.{IsKeyStep, IsNext, first, left}
-use Rattle.text_maps.proofs.Walks.{found_key}
+use Rattle.containers.specs.TextMaps.Nexts.{IsKeyStep, IsNext, first, left}
+use Rattle.containers.proofs.TextMaps.Walks.{found_key}
 use Rattle.object_ids.specs.IdValues.{Id}
 use Rattle.object_ids.specs.IdOrder.{id_order}
 use Rattle.object_ids.proofs.IdOrders.{id_order_once, id_order_total}

@@ -8,10 +8,10 @@ use Rattle.object_ops.specs.declared.grants.Grant.{Grant}
 use Rattle.object_ops.specs.declared.grants.Step.{Step}
 use Rattle.object_acts.specs.declared.objects.Object.{Object}
 use Rattle.object_acts.specs.Acts.{reads_object}
-use Rattle.record_keys.specs.Keys.{object_key}
-use Rattle.object_slots.specs.declared.slot.Slot.{Slot}
-use Rattle.object_slots.specs.Marking.{IsOutdated, IsToDrop}
-use Rattle.object_slots.specs.Slots.{Slots, object_of}
+use Rattle.object_records.specs.Keys.Keys.{object_key}
+use Rattle.chunk_owner.specs.declared.slots.slot.Slot.{Slot}
+use Rattle.chunk_owner.specs.Slots.Marking.{IsOutdated, IsToDrop}
+use Rattle.chunk_owner.specs.Slots.Slots.{Slots, object_of}
 use Rattle.chunk_owner.specs.Acts.{touched}
 
 -- the key is the one of the object at an id, where there is an id

@@ -1,16 +1,17 @@
 //! The owner of a lane's objects: what one step of a request does to the object that it touches, what a cut adds to a
 //! batch, and a lane made from records.
+//!
+//! [`slots`] has the objects with their marks, [`installs`] makes them from records, [`owners`] has all lanes.
 #![tactic(auto)]
 
 mod absent;
-#[cfg(test)]
-mod dataset_tests;
+pub mod installs;
 mod laws;
 mod owner;
+pub mod owners;
 mod placing;
+pub mod slots;
 mod steps;
-#[cfg(test)]
-mod tests;
 mod touching;
 
 pub use laws::{

@@ -3,34 +3,36 @@
 ghost use Rattle.std.specs.Prelude.{◌≡◌, ◌<◌, ◌≤◌, ℕ, List, [], Some, None, IfOk, IfErr, IfSome, OnOk, OnErr, option_map};
 ghost use Rattle.std.specs.FinMap.{empty, get, insert};
 ghost use Rattle.std.specs.Option.{option_copied};
-ghost use Rattle.text_maps.specs.Nexts.{IsNext, IsKeyStep};
+ghost use Rattle.containers.specs.TextMaps.Nexts.{IsNext, IsKeyStep};
 ghost use Rattle.object_ids.specs.IdValues.{Id};
 ghost use Rattle.object_ids.specs.Ids.{InRange, lane_of};
 ghost use Rattle.object_ids.specs.declared.ids.Kind.TheVariants.{Group};
 ghost use Rattle.object_ops.specs.Answers.{Follows};
 ghost use Rattle.object_ops.specs.Conditions.{IsSoundOp};
-ghost use Rattle.array_acts.specs.Marked.{IsDone};
+ghost use Rattle.object_acts.specs.Arrays.Marked.{IsDone};
 ghost use Rattle.object_acts.specs.Objects.{unmarked, IsOfKind, IsTrackedBody};
 ghost use Rattle.object_acts.specs.declared.objects.Object.{Object};
 ghost use Rattle.flush_journal.specs.Batches.{records};
 ghost use Rattle.flush_journal.specs.Records.{Held};
-ghost use Rattle.record_cuts.specs.Cuts.{AppendsEach, IsCut};
-ghost use Rattle.object_slots.specs.Bodies.{IsSlotRecord, IsUndropped};
-ghost use Rattle.object_slots.specs.Marking.{AddsMarks, IsToForget};
-ghost use Rattle.object_slots.specs.Slots.{AreStill, Describes, IsMarked, IsMarkedIn, Says, StillSays};
-ghost use Rattle.object_slots.specs.declared.slot.Mark.TheVariants.{Changed};
-ghost use Rattle.lane_installs.specs.Records.{AreSound, IsFault, IsLeast, MatchFault};
+ghost use Rattle.flush_journal.specs.Cuts.Cuts.{AppendsEach, IsCut};
+ghost use Rattle.chunk_owner.specs.Slots.Bodies.{IsSlotRecord, IsUndropped};
+ghost use Rattle.chunk_owner.specs.Slots.Marking.{AddsMarks, IsToForget};
+ghost use Rattle.chunk_owner.specs.Slots.Slots.{AreStill, Describes, IsMarked, IsMarkedIn, Says, StillSays};
+ghost use Rattle.chunk_owner.specs.declared.slots.slot.Mark.TheVariants.{Changed};
+ghost use Rattle.chunk_owner.specs.Installs.Records.{AreSound, IsFault};
+ghost use Rattle.object_records.specs.InstallFaults.{MatchFault};
+ghost use Rattle.containers.specs.TextMaps.Fronts.{IsLeast};
 ghost use Rattle.chunk_owner.specs.Lanes.{AreShown, IsWhole, IsSameLane, Forgets};
 ghost use Rattle.chunk_owner.specs.Acts.{acted, touched, HasFresh, IsStepOf, IsTouchedIn};
 ghost use Rattle.chunk_owner.specs.Marks.{IsStepMark};
 
+use crate::installs::{InstallFault, install};
+use crate::slots::{Slot, are_described, cut, forget, next_id, object, put};
 use crate::steps::act_in;
 use flush_journal::{Batch, Recovered};
-use lane_installs::{InstallFault, install};
 use object_acts::Object;
 use object_ids::{IdMap, ObjectId};
 use object_ops::{Grant, Op, Reply, Step};
-use object_slots::{Slot, are_described, cut, forget, next_id, object, put};
 use std::alloc::{AllocError, Global};
 use std::marker::Model;
 
@@ -52,8 +54,8 @@ impl Model for Owner {
     ghost use Rattle.object_ids.specs.contracts.ids.ObjectId as id;
     ghost use Rattle.object_acts.specs.contracts.objects.Object as object;
     ghost use Rattle.object_acts.specs.declared.objects.Object.{Object};
-    ghost use Rattle.object_slots.specs.contracts.slot.Slot as slot;
-    ghost use Rattle.object_slots.specs.declared.slot.Slot.{Slot};
+    ghost use Rattle.chunk_owner.specs.contracts.slots.slot.Slot as slot;
+    ghost use Rattle.chunk_owner.specs.declared.slots.slot.Slot.{Slot};
     ghost use Rattle.chunk_owner.specs.Lanes.{AreSlotsOf, Lane, seen_lane};
 
     ghost Value = { Lane };

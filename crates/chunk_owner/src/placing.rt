@@ -4,20 +4,20 @@ ghost use Rattle.std.specs.Prelude.{◌≡◌, [], None};
 ghost use Rattle.std.specs.FinMap.{get};
 ghost use Rattle.object_ops.specs.Answers.{Follows};
 ghost use Rattle.object_ops.specs.Conditions.{IsSoundMake};
-ghost use Rattle.array_acts.specs.Marked.{IsDone};
+ghost use Rattle.object_acts.specs.Arrays.Marked.{IsDone};
 ghost use Rattle.object_acts.specs.Objects.{made, unmarked, IsOfKind, IsTrackedBody};
 ghost use Rattle.object_ops.specs.Parts.{kind_made};
-ghost use Rattle.record_keys.specs.Keys.{object_key};
-ghost use Rattle.object_slots.specs.Marking.{AddsMarks};
-ghost use Rattle.object_slots.specs.Slots.{AreOfKind, IsMarkedIn, StillSays, objects_of};
-ghost use Rattle.object_slots.specs.declared.slot.Mark.TheVariants.{Changed};
+ghost use Rattle.object_records.specs.Keys.Keys.{object_key};
+ghost use Rattle.chunk_owner.specs.Slots.Marking.{AddsMarks};
+ghost use Rattle.chunk_owner.specs.Slots.Slots.{AreOfKind, IsMarkedIn, StillSays, objects_of};
+ghost use Rattle.chunk_owner.specs.declared.slots.slot.Mark.TheVariants.{Changed};
 ghost use Rattle.chunk_owner.specs.Lanes.{at_id, set_at, StaysHome};
 ghost use Rattle.chunk_owner.specs.Acts.{is_done, left, placing};
 
+use crate::slots::{Slot, put};
 use object_acts::{Object, object_json};
 use object_ids::{IdMap, ObjectId};
 use object_ops::{Make, Reply};
-use object_slots::{Slot, put};
 use std::alloc::{AllocError, Global};
 
 fn is_done(reply: &Reply) -> bool

@@ -4,18 +4,18 @@ ghost use Rattle.std.specs.Prelude.{◌≡◌, IsSomeAnd, Some};
 ghost use Rattle.object_ids.specs.declared.ids.Kind.TheVariants.{Group};
 ghost use Rattle.object_ops.specs.Answers.{Follows};
 ghost use Rattle.object_ops.specs.Conditions.{IsSoundOp, IsSoundMake, IsSoundPlace};
-ghost use Rattle.array_acts.specs.Marked.{IsDone};
-ghost use Rattle.object_slots.specs.Marking.{AddsMarks};
-ghost use Rattle.object_slots.specs.Slots.{AreOfKind, StillSays, objects_of};
+ghost use Rattle.object_acts.specs.Arrays.Marked.{IsDone};
+ghost use Rattle.chunk_owner.specs.Slots.Marking.{AddsMarks};
+ghost use Rattle.chunk_owner.specs.Slots.Slots.{AreOfKind, StillSays, objects_of};
 ghost use Rattle.chunk_owner.specs.Lanes.{StayHome};
 ghost use Rattle.chunk_owner.specs.Acts.{acted, group_of, linking, make_act, making, on_touched, touched, touched_by_make, HasFresh, IsFreshFor};
 ghost use Rattle.chunk_owner.specs.Marks.{IsKeyOf, IsStepMark};
 
 use crate::placing::make_in;
+use crate::slots::Slot;
 use crate::touching::{change_in, drop_in, link_in, read_in};
 use object_ids::{IdMap, ObjectId};
 use object_ops::{Grant, LinkPlace, Make, Op, Refusal, Reply, Step};
-use object_slots::Slot;
 use std::alloc::{AllocError, Global};
 
 /// What one step answers and leaves.

@@ -6,21 +6,21 @@ ghost use Rattle.groups_links.specs.Titles.{IsGoodTitle};
 ghost use Rattle.object_ids.specs.declared.ids.Kind.TheVariants.{Group};
 ghost use Rattle.object_ops.specs.Answers.{Follows};
 ghost use Rattle.object_ops.specs.Conditions.{IsSoundOp};
-ghost use Rattle.array_acts.specs.Marked.{IsDone, was_done};
+ghost use Rattle.object_acts.specs.Arrays.Marked.{IsDone, was_done};
 ghost use Rattle.object_acts.specs.Acts.{reads_object, reply_of, changes_object, change_of};
-ghost use Rattle.record_keys.specs.Keys.{object_key};
-ghost use Rattle.object_slots.specs.Marking.{AddsMarks, IsToDrop};
-ghost use Rattle.object_slots.specs.Slots.{AreOfKind, StillSays, object_of, objects_of};
+ghost use Rattle.object_records.specs.Keys.Keys.{object_key};
+ghost use Rattle.chunk_owner.specs.Slots.Marking.{AddsMarks, IsToDrop};
+ghost use Rattle.chunk_owner.specs.Slots.Slots.{AreOfKind, StillSays, object_of, objects_of};
 ghost use Rattle.chunk_owner.specs.Lanes.{at_id, StaysHome};
 ghost use Rattle.chunk_owner.specs.Acts.{reading, changing, removing, link_to};
 ghost use Rattle.chunk_owner.specs.Marks.{IsChangeMark};
 
 use crate::absent::{is_own, is_root, missing, read_absent};
 use crate::placing::put_done;
+use crate::slots::{Slot, change_at, is_held, link_at, object, remove};
 use object_acts::{Object, change, link_made, reply};
 use object_ids::{IdMap, ObjectId};
 use object_ops::{Grant, LinkPlace, Op, Refusal, Reply};
-use object_slots::{Slot, change_at, is_held, link_at, object, remove};
 use std::alloc::{AllocError, Global};
 
 /// Reads the object of an id.

@@ -6,12 +6,12 @@ use Rattle.std.proofs.lemmas.Nat.{mul-le}
 use Rattle.std.proofs.lemmas.Bool.{cases_Bool}
 use Rattle.std.proofs.lemmas.List.{take_all}
 use Rattle.std.proofs.lemmas.Slice.Eq.{bytes_eq-Decides}
-use Rattle.short_lists.specs.Order.{list_order}
+use Rattle.containers.specs.ShortLists.Order.{list_order}
 use Rattle.hdf_values.specs.Nested.{piece_at}
 use Rattle.shapes.specs.Places.{cell_count}
 use Rattle.chunk_layout.specs.Chunks.{quotients, offset_of}
 use Rattle.chunk_layout.proofs.CellLemmas.{offset_below}
-use Rattle.strided_copies.specs.Strides.{AreCopied}
+use Rattle.chunk_store.specs.StridedCopies.Strides.{AreCopied}
 use Rattle.chunk_store.specs.Cells.{find_in, has, put}
 use Rattle.chunk_store.specs.Buffers.{AreFull, IsFrame, IsFull, bytes_at, chunk_bytes, flag_at}
 use Rattle.chunk_store.specs.declared.buffers.Frame.{Frame}
@@ -74,8 +74,8 @@ module _ (m n : Chunks) (k : List ℕ) (h : Held) (each : (i : List ℕ) → fin
   pub kept_bytes : (f : Frame) (q : List ℕ) → (quotients q f.layout.chunk ≡ k → ⊥) → bytes_at n f q ≡ bytes_at m f q
   kept_bytes f q apart = ap (bytes_in f q) (put_other (quotients q f.layout.chunk) apart)
 
-  pub put_flag : (i : List ℕ) → flag_at n i ≡ put (flag_at m) k (Some h.changed) i
-  put_flag i = ap (option_map (λ g. g.changed)) (each i) ∙ put_through (option_map (λ g. g.changed)) (find_in m) k (Some h) i
+  pub put_flag : (i : List ℕ) → flag_at n i ≡ put (flag_at m) k (Some h.dirty) i
+  put_flag i = ap (option_map (λ g. g.dirty)) (each i) ∙ put_through (option_map (λ g. g.dirty)) (find_in m) k (Some h) i
 
   pub put_has : (i : List ℕ) → has n i ≡ put (has m) k true i
   put_has i = ap is_some (each i) ∙ put_through is_some (find_in m) k (Some h) i
@@ -103,10 +103,10 @@ module _ (m n : Chunks) (k : List ℕ) (h : Held) (each : (i : List ℕ) → fin
       ∙ sym (found_bytes m f q k None (sym e) (none_from (find_in m k) none))) in
       same_or (quotients q f.layout.chunk) k (bytes_at n f q ≡ bytes_at m f q) blank (kept_bytes f q)
 
-  pub added_flag : has m k ≡ false → h.changed ≡ false → (i : List ℕ) → (flag_at n i ≡ flag_at m i) ⊎ ((k ≡ i) × (flag_at m i ≡ None) × (flag_at n i ≡ Some false))
-  added_flag none unchanged i =
-      let gone : flag_at m k ≡ None = ap (option_map (λ g. g.changed)) (none_from (find_in m k) none) in
-      note_new (flag_at m) (flag_at n) k gone (λ j. put_flag j ∙ ap (λ b. put (flag_at m) k (Some b) j) unchanged) i
+  pub added_flag : has m k ≡ false → h.dirty ≡ false → (i : List ℕ) → (flag_at n i ≡ flag_at m i) ⊎ ((k ≡ i) × (flag_at m i ≡ None) × (flag_at n i ≡ Some false))
+  added_flag none clean i =
+      let gone : flag_at m k ≡ None = ap (option_map (λ g. g.dirty)) (none_from (find_in m k) none) in
+      note_new (flag_at m) (flag_at n) k gone (λ j. put_flag j ∙ ap (λ b. put (flag_at m) k (Some b) j) clean) i
 
 -- ---- the same chunks
 
@@ -115,7 +115,7 @@ module _ (m n : Chunks) (each : (i : List ℕ) → find_in n i ≡ find_in m i) 
   same_bytes f q = ap (bytes_in f q) (each (quotients q f.layout.chunk))
 
   pub same_flag : (i : List ℕ) → flag_at n i ≡ flag_at m i
-  same_flag i = ap (option_map (λ g. g.changed)) (each i)
+  same_flag i = ap (option_map (λ g. g.dirty)) (each i)
 
   pub same_full : (f : Frame) → AreFull m f → AreFull n f
   same_full f full i = subst (IsFull (chunk_bytes f)) (sym (each i)) (full i)

@@ -26,7 +26,8 @@ use Rattle.shapes.specs.Shapes.{LiesIn, lies_in, dims_of}
 use Rattle.shapes.proofs.InsideLemmas.{inside_read, inside_told, lies_told, lies_read}
 use Rattle.chunk_layout.specs.Chunks.{IsChunkDim, IsChunk, quotients, offset_of, corner, cell_at, chunk_cells}
 use Rattle.chunk_layout.specs.Grids.{LiesInGrid}
-use Rattle.chunk_layout.proofs.CellLemmas.{one_cell, offset_below, one_cell_there, cell_back, chunk_listed}
+use Rattle.chunk_layout.proofs.CellLemmas.{offset_below, one_cell_there, cell_back, chunk_listed}
+use Rattle.shapes.proofs.ChunkDimLemmas.{one_cell}
 use Rattle.chunk_layout.proofs.DefaultLemmas.{fits_chunk}
 use Rattle.chunk_layout.proofs.GridLemmas.{grid_begun, begun_grid, in_grid_rank, small_index}
 use Rattle.chunk_store.specs.Cells.{find_in, has, value_in, put}

@@ -76,9 +76,9 @@ module _ (f : Frame) (old new : Shape) (i : List ℕ) where
   still_full None p e = subst (IsFull (chunk_bytes f)) (sym e) tt
   still_full (Some h) p e = subst (IsFull (chunk_bytes f)) (sym e.1) e.2.full
 
-  flag_cut : (o p : Option Held) → IsChanged (IsCut f (dims_of old) new) i o p → option_map (λ h. h.changed) p ≡ after_cut (keeps i f.layout.chunk (dims_of old) (dims_of new)) (option_map (λ h. h.changed) o)
-  flag_cut None p e = ap (option_map (λ h. h.changed)) e
-  flag_cut (Some h) p e = ap (option_map (λ h. h.changed)) e.1 ∙ ap Some e.2.changed ∙ flag_cond (keeps i f.layout.chunk (dims_of old) (dims_of new)) h.changed
+  flag_cut : (o p : Option Held) → IsChanged (IsCut f (dims_of old) new) i o p → option_map (λ h. h.dirty) p ≡ after_cut (keeps i f.layout.chunk (dims_of old) (dims_of new)) (option_map (λ h. h.dirty) o)
+  flag_cut None p e = ap (option_map (λ h. h.dirty)) e
+  flag_cut (Some h) p e = ap (option_map (λ h. h.dirty)) e.1 ∙ ap Some e.2.dirty ∙ flag_cond (keeps i f.layout.chunk (dims_of old) (dims_of new)) h.dirty
 
 module _ (m n : Chunks) (f : Frame) (old new : Shape) (frame : IsFrame f) (sound : IsSound old) (ranks : length f.layout.chunk ≡ length (dims_of old)) (re : IsResized old (dims_of new) new)
     (indexes : (i : List ℕ) → has m i ≡ true → IsIndex f.layout.chunk i)

@@ -1,4 +1,4 @@
--- Records of the changed chunks turn what was held into what stands.
+-- Records of the dirty chunks turn what was held into what stands.
 use Rattle.std.proofs.Common.{◌≡◌, ℕ, zero, suc, ◌+◌, ◌*◌, ◌<◌, ◌≤◌, Bool, true, false, cond, eq-eqb, List, [], ◌∷◌, ◌++◌, length, take, drop, get_or, Option, Some, None, All, refl, sym, ap, subst, ◌∙◌, ◌⊎◌, inl, inr, arith}
 use Rattle.std.specs.List.{flat_map}
 use Rattle.std.proofs.lemmas.List.{take_at}
@@ -31,7 +31,7 @@ cut_stands body h i None on = on
 cut_stands body h i (Some false) on = on
 cut_stands body h i (Some true) on = by_grid h i (in_grid h i) refl
 
--- after the records of the changed chunks are written, the records stand for each chunk
+-- after the records of the dirty chunks are written, the records stand for each chunk
 pub cut_tracked : (kept : List ℕ → List ℕ) (s t : Stored) → t.grid ≡ s.grid → ((i : List ℕ) → state t i ≡ cleared (in_grid s.grid i) (state s i)) → IsTracked kept s → IsTracked (cut kept s) t
 unfolding IsTracked
 cut_tracked kept s t same states on = λ i.
@@ -132,14 +132,14 @@ clean_value body h at o w lies none on = elim (clean body h (quotients at h.chun
       ∙ ap (λ bs. take (size_of h.kind) (drop (offset_of at h.chunk * size_of h.kind) bs)) (sym blank.1) ∙ content_piece h at w lies
 ]
 
--- where no chunk is marked as changed, the records give each cell its bytes
+-- where no chunk is marked as dirty, the records give each cell its bytes
 pub reads_back : (kept : List ℕ → List ℕ) (s : Stored) → IsWhole s.grid → IsTracked kept s → ((i : List ℕ) → is_dirty s i ≡ false) → ReadsAs kept s.grid
 unfolding IsTracked
 reads_back kept s w on none = λ at lies.
     let i = quotients at s.grid.chunk in
     clean_value (kept i) s.grid at (state s i) w lies (none i) (on i)
 
--- so do the records after those of the changed chunks are written
+-- so do the records after those of the dirty chunks are written
 pub cut_reads : (kept : List ℕ → List ℕ) (s : Stored) → IsWhole s.grid → IsTracked kept s → ReadsAs (cut kept s) s.grid
 unfolding IsTracked
 cut_reads kept s w on = λ at lies.

@@ -7,7 +7,7 @@ use Rattle.std.specs.Map.Calls.{CallableOnEachPair, RetainsPairs, SomeCallAtPair
 use Rattle.std.proofs.lemmas.Bool.{cases_Bool}
 use Rattle.std.proofs.lemmas.Map.Keys.{sorted_head, sorted_tail}
 use Rattle.std.proofs.lemmas.Slice.Eq.{bytes_eq-Decides}
-use Rattle.short_lists.specs.Order.{list_order}
+use Rattle.containers.specs.ShortLists.Order.{list_order}
 use Rattle.chunk_store.proofs.NextLemmas.{less_apart}
 
 -- ---- what stands at the key of an entry

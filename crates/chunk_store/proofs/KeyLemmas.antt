@@ -9,8 +9,8 @@ use Rattle.std.specs.declared.alloc.Global.{Global}
 use Rattle.std.proofs.lemmas.Map.Entries.{lookup-filter-keys}
 use Rattle.std.proofs.lemmas.Slice.Eq.{bytes_eq-Decides}
 use Rattle.std.proofs.lemmas.Bool.{cases_Bool}
-use Rattle.short_lists.specs.Order.{list_order}
-use Rattle.short_lists.specs.OrderLaws.{equal_where_tied}
+use Rattle.containers.specs.ShortLists.Order.{list_order}
+use Rattle.containers.specs.ShortLists.OrderLaws.{equal_where_tied}
 use Rattle.chunk_store.specs.Cells.{find_in, value_in, has, put}
 
 -- the order of keys ties equal lists alone

@@ -14,6 +14,7 @@ mod ArrayLemmas
 mod ValueLemmas
 pub mod BufferLemmas
 pub mod TouchLemmas
+mod ChunkBoxLemmas
 pub mod SlabLemmas
 mod RowLemmas
 mod TurnLemmas
@@ -24,3 +25,5 @@ mod AccessLemmas
 mod EntryLemmas
 mod CutChunkLemmas
 mod PartLemmas
+pub mod BoxCopies
+pub mod StridedCopies

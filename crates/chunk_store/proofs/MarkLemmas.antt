@@ -16,8 +16,8 @@ use Rattle.std.proofs.lemmas.List.{drop_more, drop_all}
 use Rattle.std.proofs.lemmas.List.Elements.{All-head, All-tail}
 use Rattle.std.proofs.lemmas.Map.Keys.{sorted_head, sorted_tail}
 use Rattle.std.proofs.lemmas.Slice.Eq.{bytes_eq-Decides}
-use Rattle.short_lists.specs.Order.{list_order}
-use Rattle.short_lists.specs.OrderLaws.{shorter_first}
+use Rattle.containers.specs.ShortLists.Order.{list_order}
+use Rattle.containers.specs.ShortLists.OrderLaws.{shorter_first}
 use Rattle.chunk_layout.specs.Chunks.{quotients}
 use Rattle.chunk_store.specs.Cells.{put}
 use Rattle.shapes.specs.declared.Shape.{Shape}
@@ -171,10 +171,10 @@ least_past a b c d k h = elim (least_of (min (min a b) c) d k h) [
 
 -- ---- what a walk over all chunks leaves
 
-pub changed_cleared : (chunk : List ℕ) (s : Shape) (q : List ℕ) (o : Option Held)
-    → changed_by (λ k v. cond v.changed (has_cell chunk s k) true) (λ k v. record { bytes = v.bytes; changed = false }) q o ≡ when_cleared (has_cell chunk s q) o
-changed_cleared chunk s q None = refl
-changed_cleared chunk s q (Some v) = refl
+pub dirty_cleared : (chunk : List ℕ) (s : Shape) (q : List ℕ) (o : Option Held)
+    → changed_by (λ k v. cond v.dirty (has_cell chunk s k) true) (λ k v. record { bytes = v.bytes; dirty = false }) q o ≡ when_cleared (has_cell chunk s q) o
+dirty_cleared chunk s q None = refl
+dirty_cleared chunk s q (Some v) = refl
 
 -- either a new mark was set, or nothing changed
 pub set_or_kept : {A B : Type 0} (r : Result ⊤ AllocError) → OnOk r A → OnErr r B → A ⊎ B
@@ -218,14 +218,14 @@ module _ (test : Option Bool → Bool) (after : Option (List ℕ)) (start : Boun
   pub later_kept : (es : List (List ℕ × Held)) → All (λ k. is_after after k ≡ true → range_contains list_order start Unbounded k ≡ true) (keys_of es) → later (from_start es) ≡ later es
   later_kept [] low = refl
   later_kept (e ∷ es) low =
-      let flag : List ℕ × Bool = (e.0, e.1.changed) in
+      let flag : List ℕ × Bool = (e.0, e.1.dirty) in
       let rest = later_kept es (All-tail (λ k. is_after after k ≡ true → range_contains list_order start Unbounded k ≡ true) e.0 (keys_of es) low) in
       elim (cases_Bool (range_contains list_order start Unbounded e.0)) [
         | inl on ↦
             ap (λ b. later (cond b (e ∷ from_start es) (from_start es))) on
             ∙ ap (λ xs. cond (is_later test after flag) (flag ∷ xs) xs) rest
         | inr off ↦
-            let gone = not_later (is_after after e.0) (test (Some e.1.changed)) (range_contains list_order start Unbounded e.0) (All-head (λ k. is_after after k ≡ true → range_contains list_order start Unbounded k ≡ true) e.0 (keys_of es) low) off in
+            let gone = not_later (is_after after e.0) (test (Some e.1.dirty)) (range_contains list_order start Unbounded e.0) (All-head (λ k. is_after after k ≡ true → range_contains list_order start Unbounded k ≡ true) e.0 (keys_of es) low) off in
             ap (λ b. later (cond b (e ∷ from_start es) (from_start es))) off ∙ rest ∙ sym (ap (λ b. cond b (flag ∷ later es) (later es)) gone)
       ]
 

@@ -13,8 +13,8 @@ use Rattle.std.specs.Cmp.Derive.{both_true as both_pass}
 use Rattle.std.specs.Cmp.{tied_itself, nat_cmp_total}
 use Rattle.std.proofs.lemmas.Map.Keys.{sorted_head, sorted_tail}
 use Rattle.json_trees.proofs.TreeLemmas.{both_true}
-use Rattle.short_lists.specs.Order.{list_order}
-use Rattle.short_lists.specs.OrderLaws.{same_tied}
+use Rattle.containers.specs.ShortLists.Order.{list_order}
+use Rattle.containers.specs.ShortLists.OrderLaws.{same_tied}
 use Rattle.chunk_store.specs.Cells.{put}
 use Rattle.chunk_store.specs.Grids.{Grid}
 use Rattle.chunk_store.specs.Indexes.{IsIndex}
@@ -73,7 +73,7 @@ recorded_is kept h (i ∷ is) q = recorded_is (put kept i (body_of h i)) h is q 
       ∙ sym (ap (λ b. cond (b || list_any (bytes_eq q) is) (body_of h q) (kept q)) (apart q i n))
 ]
 
--- the records of all changed chunks are those of a cut
+-- the records of all dirty chunks are those of a cut
 pub recorded_cut : (kept : List ℕ → List ℕ) (s : Stored) (is : List (List ℕ)) → ((i : List ℕ) → list_any (bytes_eq i) is ≡ is_dirty s i) → (q : List ℕ) → recorded kept s.grid is q ≡ cut kept s q
 recorded_cut kept s is all q = recorded_is kept s.grid is q ∙ ap (λ b. cond b (body_of s.grid q) (kept q)) (all q)
 

@@ -52,15 +52,15 @@ Chunks = BTreeMap (List ℕ) Held
 
 -- ---- flags
 
-flag_cond : (b : Bool) (h : Held) (o : Option Held) (p : Option Bool) → p ≡ option_map (λ x. x.changed) o → cond b (Some h.changed) p ≡ option_map (λ x. x.changed) (cond b (Some h) o)
+flag_cond : (b : Bool) (h : Held) (o : Option Held) (p : Option Bool) → p ≡ option_map (λ x. x.dirty) o → cond b (Some h.dirty) p ≡ option_map (λ x. x.dirty) (cond b (Some h) o)
 flag_cond true h o p e = refl
 flag_cond false h o p e = e
 
-flag_found : (es : List (List ℕ × Held)) (i : List ℕ) → lookup (bytes_eq i) (flags_of es) ≡ option_map (λ h. h.changed) (lookup (bytes_eq i) es)
+flag_found : (es : List (List ℕ × Held)) (i : List ℕ) → lookup (bytes_eq i) (flags_of es) ≡ option_map (λ h. h.dirty) (lookup (bytes_eq i) es)
 flag_found [] i = refl
 flag_found (e ∷ es) i = flag_cond (bytes_eq i e.0) e.1 (lookup (bytes_eq i) es) (lookup (bytes_eq i) (flags_of es)) (flag_found es i)
 
-some_flag : (o : Option Held) → is_some (option_map (λ h. h.changed) o) ≡ is_some o
+some_flag : (o : Option Held) → is_some (option_map (λ h. h.dirty) o) ≡ is_some o
 some_flag None = refl
 some_flag (Some h) = refl
 
@@ -89,31 +89,31 @@ dims_again Null t dims h = absurd h
 dims_again Scalar t dims h = absurd h
 dims_again (Simple old limits) t dims h = ap dims_of h.0
 
--- ---- one chunk, taken as unchanged or dropped
+-- ---- one chunk, taken as clean or dropped
 
 cleared_bytes : (g : Vec ℕ Global → List ℕ) (blank : List ℕ) (b : Bool) (o : Option Held) → (b ≡ false → option_map_or (λ h. g h.bytes) o blank ≡ blank) → option_map_or (λ h. g h.bytes) (when_cleared b o) blank ≡ option_map_or (λ h. g h.bytes) o blank
 cleared_bytes g blank b None none = refl
-cleared_bytes g blank b (Some h) none = by_flag h.changed b h.bytes none
+cleared_bytes g blank b (Some h) none = by_flag h.dirty b h.bytes none
   where
-    by_flag : (changed b : Bool) (v : Vec ℕ Global) → (b ≡ false → g v ≡ blank) → option_map_or {T = Held} (λ h. g h.bytes) (cond (cond changed b true) (Some (record { bytes = v; changed = false })) None) blank ≡ g v
+    by_flag : (dirty b : Bool) (v : Vec ℕ Global) → (b ≡ false → g v ≡ blank) → option_map_or {T = Held} (λ h. g h.bytes) (cond (cond dirty b true) (Some (record { bytes = v; dirty = false })) None) blank ≡ g v
     by_flag true true v none = refl
     by_flag true false v none = sym (none refl)
     by_flag false b v none = refl
 
-cleared_flag : (b : Bool) (o : Option Held) → option_map (λ h. h.changed) (when_cleared b o) ≡ cleared b (option_map (λ h. h.changed) o)
+cleared_flag : (b : Bool) (o : Option Held) → option_map (λ h. h.dirty) (when_cleared b o) ≡ cleared b (option_map (λ h. h.dirty) o)
 cleared_flag b None = refl
-cleared_flag b (Some h) = by_flag h.changed b h.bytes
+cleared_flag b (Some h) = by_flag h.dirty b h.bytes
   where
-    by_flag : (changed b : Bool) (v : Vec ℕ Global) → option_map {T = Held} (λ h. h.changed) (cond (cond changed b true) (Some (record { bytes = v; changed = false })) None) ≡ cleared b (Some changed)
+    by_flag : (dirty b : Bool) (v : Vec ℕ Global) → option_map {T = Held} (λ h. h.dirty) (cond (cond dirty b true) (Some (record { bytes = v; dirty = false })) None) ≡ cleared b (Some dirty)
     by_flag true true v = refl
     by_flag true false v = refl
     by_flag false b v = refl
 
 cleared_full : (n : ℕ) (b : Bool) (o : Option Held) → IsFull n o → IsFull n (when_cleared b o)
 cleared_full n b None full = tt
-cleared_full n b (Some h) full = by_flag (cond h.changed b true) h.bytes full
+cleared_full n b (Some h) full = by_flag (cond h.dirty b true) h.bytes full
   where
-    by_flag : (stays : Bool) (v : Vec ℕ Global) → length v.items ≡ n → IsFull n (cond stays (Some (record { bytes = v; changed = false })) None)
+    by_flag : (stays : Bool) (v : Vec ℕ Global) → length v.items ≡ n → IsFull n (cond stays (Some (record { bytes = v; dirty = false })) None)
     by_flag true v full = full
     by_flag false v full = tt
 
@@ -439,7 +439,7 @@ module _ (e : Elem) (s : Shape) (given : Bool) (f : Frame) where
 
       clear_flags : (i : List ℕ) → state with_none i ≡ cleared (in_grid old.grid i) (state old i)
       clear_flags i =
-          state_flag n i ∙ ap (option_map (λ h. h.changed)) (each i) ∙ cleared_flag (has_cell f.layout.chunk s i) (find_in m i) ∙ ap (cleared (has_cell f.layout.chunk s i)) (sym (state_flag m i))
+          state_flag n i ∙ ap (option_map (λ h. h.dirty)) (each i) ∙ cleared_flag (has_cell f.layout.chunk s i) (find_in m i) ∙ ap (cleared (has_cell f.layout.chunk s i)) (sym (state_flag m i))
 
       pub kept_cleared : IsBuffered e s given f n
       kept_cleared = record {
@@ -465,7 +465,7 @@ module _ (e : Elem) (s : Shape) (given : Bool) (f : Frame) where
     -- ---- a chunk that was put in
 
     module _ (index : List ℕ) (bytes : Vec ℕ Global) (n : Chunks) (chunk : IsChunkOf old.grid index bytes.items)
-        (each : (i : List ℕ) → find_in n i ≡ put (find_in m) index (Some (record { bytes = bytes; changed = false })) i) where
+        (each : (i : List ℕ) → find_in n i ≡ put (find_in m) index (Some (record { bytes = bytes; dirty = false })) i) where
       abbrev with_new : Stored
       with_new = stored_in e s given f n
 
@@ -473,7 +473,7 @@ module _ (e : Elem) (s : Shape) (given : Bool) (f : Frame) where
       put_bytes q =
           let i = quotients q f.layout.chunk in
           let items = λ (o : Option Held). option_map_or (λ h. piece_at f.size (offset_of q f.layout.chunk) h.bytes.items) o f.blank.items in
-          ap items (each i) ∙ put_through items (find_in m) index (Some (record { bytes = bytes; changed = false })) i
+          ap items (each i) ∙ put_through items (find_in m) index (Some (record { bytes = bytes; dirty = false })) i
           ∙ ap (λ b. cond b (piece_at f.size (offset_of q f.layout.chunk) bytes.items) (bytes_at m f q)) (bytes_swap index i)
           ∙ ap (λ k. cond (bytes_eq i index) (piece_at k (offset_of q f.layout.chunk) bytes.items) (bytes_at m f q)) kept.sized
 
@@ -482,8 +482,8 @@ module _ (e : Elem) (s : Shape) (given : Bool) (f : Frame) where
 
       put_flags : (i : List ℕ) → state with_new i ≡ put (state old) index (Some false) i
       put_flags i =
-          state_flag n i ∙ ap (option_map (λ h. h.changed)) (each i)
-          ∙ put_through (option_map (λ h. h.changed)) (find_in m) index (Some (record { bytes = bytes; changed = false })) i
+          state_flag n i ∙ ap (option_map (λ h. h.dirty)) (each i)
+          ∙ put_through (option_map (λ h. h.dirty)) (find_in m) index (Some (record { bytes = bytes; dirty = false })) i
           ∙ ap (λ o. cond (bytes_eq index i) (Some false) o) (sym (state_flag m i))
 
       pub kept_put : IsBuffered e s given f n
@@ -505,7 +505,7 @@ module _ (e : Elem) (s : Shape) (given : Bool) (f : Frame) where
             (λ here. sym (body_some old.grid bytes.items q some_byte) ∙ chunk.outside q rank ((bytes_eq-Decides (quotients q f.layout.chunk) index).0 here) off ∙ sym filling)
             (λ other. kept.outside q rank off);
         full = λ i.
-            subst (IsFull (chunk_bytes f)) (sym (each i)) (elim (put_cases (find_in m) index (Some (record { bytes = bytes; changed = false })) i) as (λ v. IsFull (chunk_bytes f) (put (find_in m) index (Some (record { bytes = bytes; changed = false })) i)) [
+            subst (IsFull (chunk_bytes f)) (sym (each i)) (elim (put_cases (find_in m) index (Some (record { bytes = bytes; dirty = false })) i) as (λ v. IsFull (chunk_bytes f) (put (find_in m) index (Some (record { bytes = bytes; dirty = false })) i)) [
               | inl same ↦ subst (IsFull (chunk_bytes f)) (sym same.1) (chunk.encoded.whole ∙ ap (λ k. cell_count f.layout.chunk * k) (sym kept.sized))
               | inr other ↦ subst (IsFull (chunk_bytes f)) (sym other) (kept.full i)
             ]);
@@ -522,7 +522,7 @@ module _ (e : Elem) (s : Shape) (given : Bool) (f : Frame) where
     chunk_back a is index bytes = subst (λ (x : Stored). IsChunkOf x.grid index bytes) (sym is)
 
     pub installs_from : (a : Stored) → stored_in e s given f m ≡ a → (index : List ℕ) (bytes : Vec ℕ Global) (n : Chunks) → IsChunkOf a.grid index bytes.items
-        → ((i : List ℕ) → find_in n i ≡ put (find_in m) index (Some (record { bytes = bytes; changed = false })) i) → Installs a index bytes.items (stored_in e s given f n)
+        → ((i : List ℕ) → find_in n i ≡ put (find_in m) index (Some (record { bytes = bytes; dirty = false })) i) → Installs a index bytes.items (stored_in e s given f n)
     installs_from a is index bytes n chunk each =
         subst (λ (x : Stored). Installs x index bytes.items (stored_in e s given f n)) is (put_installs index bytes n (chunk_back a is index bytes.items chunk) each)
 
@@ -532,7 +532,7 @@ module _ (e : Elem) (s : Shape) (given : Bool) (f : Frame) where
     same_grown n each = record {
       same = λ q rank. ap (λ o. option_map_or (λ h. piece_at f.size (offset_of q f.layout.chunk) h.bytes.items) o f.blank.items) (each (quotients q f.layout.chunk));
       full = λ i. subst (IsFull (chunk_bytes f)) (sym (each i)) (kept.full i);
-      noted = λ i. inl (ap (option_map (λ h. h.changed)) (each i));
+      noted = λ i. inl (ap (option_map (λ h. h.dirty)) (each i));
     }
 
     pub kept_same : (n : Chunks) → ((i : List ℕ) → find_in n i ≡ find_in m i) → IsBuffered e s given f n
@@ -542,4 +542,4 @@ module _ (e : Elem) (s : Shape) (given : Bool) (f : Frame) where
     same_grid a is n each = grown_grid [] n tt (same_grown n each) ∙ ap (λ x. x.grid) is
 
     pub same_marks : (a : Stored) → stored_in e s given f m ≡ a → (n : Chunks) → ((i : List ℕ) → find_in n i ≡ find_in m i) → (i : List ℕ) → state (stored_in e s given f n) i ≡ state a i
-    same_marks a is n each i = state_flag n i ∙ ap (option_map (λ h. h.changed)) (each i) ∙ sym (state_flag m i) ∙ ap (λ (x : Stored). state x i) is
+    same_marks a is n each i = state_flag n i ∙ ap (option_map (λ h. h.dirty)) (each i) ∙ sym (state_flag m i) ∙ ap (λ (x : Stored). state x i) is

@@ -13,10 +13,10 @@ use Rattle.hyperslab.specs.declared.Slab.{Slab}
 use Rattle.hyperslab.proofs.AxisLemmas.{length-axes}
 use Rattle.hyperslab.proofs.SelectLemmas.{selected_count}
 use Rattle.hyperslab.proofs.CellLemmas.{cell_each, cell_listed, cell_once, cell_selected}
-use Rattle.hyperslab.proofs.ChunkBoxLemmas.{box_of_chunk, offset_in_chunk, length-corner, corner_ends}
+use Rattle.chunk_store.proofs.ChunkBoxLemmas.{box_of_chunk, offset_in_chunk, length-corner, corner_ends}
 use Rattle.chunk_layout.specs.Chunks.{quotients, offset_of, corner}
 use Rattle.chunk_layout.proofs.CellLemmas.{one_cell_there}
-use Rattle.box_copies.specs.Boxes.{AreFilled, AreRead, AreWritten, IsBox, LiesThere, offset}
+use Rattle.chunk_store.specs.BoxCopies.Boxes.{AreFilled, AreRead, AreWritten, IsBox, LiesThere, offset}
 use Rattle.chunk_store.specs.Buffers.{AreFull, AreThere, IsFrame, IsGrown, IsWritten, bytes_at, flag_at}
 use Rattle.chunk_store.specs.Cells.{find_in, has, put}
 use Rattle.chunk_store.specs.Grids.{written}
@@ -234,8 +234,8 @@ there_held m f s b h t there low =
 -- ---- the writes of one chunk
 
 module _ (f : Frame) (s : Slab) (origin i : List ℕ) (b : IsChunkBox f s origin i) (m n : Chunks) (old new : Held) (found : find_in m i ≡ Some old) (each : (j : List ℕ) → find_in n j ≡ put (find_in m) i (Some new) j) where
-  pub chunk_written : (bytes : List ℕ) → AreFull m f → length new.bytes.items ≡ length old.bytes.items → new.changed ≡ true → AreWritten s origin f.layout.chunk f.size bytes old.bytes.items new.bytes.items → IsChunkWritten m n f s i bytes
-  chunk_written bytes full len changed done = record {
+  pub chunk_written : (bytes : List ℕ) → AreFull m f → length new.bytes.items ≡ length old.bytes.items → new.dirty ≡ true → AreWritten s origin f.layout.chunk f.size bytes old.bytes.items new.bytes.items → IsChunkWritten m n f s i bytes
+  chunk_written bytes full len dirty done = record {
     here = λ p there.
         put_bytes m n i new each f (cell_at s p) there.1 ∙ ap (λ k. piece_at f.size k new.bytes.items) (sym (box_offset f s origin i b p there)) ∙ done.here p (in_box f s origin i b p there);
     others = λ q rank apart.
@@ -249,18 +249,18 @@ module _ (f : Frame) (s : Slab) (origin i : List ℕ) (b : IsChunkBox f s origin
         (kept_bytes m n i new each f q);
     full = put_full m n i new each f (len ∙ found_full m f i old full found) full;
     keys = put_keys m n i new each (ap is_some found);
-    flags = λ j. put_flag m n i new each j ∙ ap (λ c. put (flag_at m) i (Some c) j) changed;
+    flags = λ j. put_flag m n i new each j ∙ ap (λ c. put (flag_at m) i (Some c) j) dirty;
   }
 
 -- ---- chunk after chunk of a write
 
--- the cells of the first `k` chunks have their elements, and these chunks have changed
+-- the cells of the first `k` chunks have their elements, and these chunks are dirty
 pub record AreChunksWritten (m n : Chunks) (f : Frame) (s : Slab) (k : ℕ) (bytes : List ℕ) : Type 0 where
   pub here : (b p : ℕ) → b < k → IsThere f s (touched_at s f.layout.chunk b) p → bytes_at n f (cell_at s p) ≡ piece_at f.size p bytes
   pub others : (q : List ℕ) → length q ≡ length f.layout.chunk → ((p : ℕ) → p < cell_count (extents s) → cell_at s p ≡ q → ⊥) → bytes_at n f q ≡ bytes_at m f q
   pub full : AreFull n f
   pub keys : (i : List ℕ) → has n i ≡ has m i
-  pub changed : (b : ℕ) → b < k → flag_at n (touched_at s f.layout.chunk b) ≡ Some true
+  pub dirty : (b : ℕ) → b < k → flag_at n (touched_at s f.layout.chunk b) ≡ Some true
   pub kept : (i : List ℕ) → ((b : ℕ) → b < k → touched_at s f.layout.chunk b ≡ i → ⊥) → flag_at n i ≡ flag_at m i
 
 pub write_first : (m : Chunks) (f : Frame) (s : Slab) (bytes : List ℕ) → AreFull m f → AreChunksWritten m m f s 0 bytes
@@ -269,7 +269,7 @@ write_first m f s bytes full = record {
   others = λ q rank apart. refl;
   full = full;
   keys = λ i. refl;
-  changed = λ b low. absurd (omega (arith, low));
+  dirty = λ b low. absurd (omega (arith, low));
   kept = λ i apart. refl;
 }
 
@@ -286,11 +286,11 @@ write_more m n o f s k i bytes h rank is done box = record {
   others = λ q long apart. box.others q long (λ p there e. apart p there.0 e) ∙ done.others q long apart;
   full = box.full;
   keys = λ j. box.keys j ∙ done.keys j;
-  changed = λ b low.
+  dirty = λ b low.
       let j = touched_at s f.layout.chunk b in
       box.flags j ∙ same_or j i (put (flag_at n) i (Some true) j ≡ Some true)
       (λ same. ap (put (flag_at n) i (Some true)) same ∙ put_here (flag_at n) i (Some true))
-      (λ other. put_else (flag_at n) i (Some true) j other ∙ done.changed b (earlier (touched_at s f.layout.chunk) k b j low refl (λ e. other (e ∙ sym is))));
+      (λ other. put_else (flag_at n) i (Some true) j other ∙ done.dirty b (earlier (touched_at s f.layout.chunk) k b j low refl (λ e. other (e ∙ sym is))));
   kept = λ j apart.
       box.flags j ∙ put_else (flag_at n) i (Some true) j (λ e. apart k (omega arith) (sym (e ∙ is)))
       ∙ done.kept j (λ b low e. apart b (omega (arith, low)) e);
@@ -335,7 +335,7 @@ module _ (m n : Chunks) (f : Frame) (s : Slab) (k : ℕ) (bytes : List ℕ) (h :
         let cell = listed found.0 found.1 in
         let chunk = t.each found.0 cell.0 in
         let same : touched_at s f.layout.chunk chunk.0 ≡ i = chunk.2 ∙ ap (λ x. quotients x f.layout.chunk) (sym cell.1) ∙ found.2 in
-        ap (flag_at n) (sym same) ∙ done.changed chunk.0 (omega (arith, chunk.1, l)) ∙ sym (ap (λ b. cond b (Some true) (flag_at m i)) on)
+        ap (flag_at n) (sym same) ∙ done.dirty chunk.0 (omega (arith, chunk.1, l)) ∙ sym (ap (λ b. cond b (Some true) (flag_at m i)) on)
     | inr off ↦
         let none = λ (b : ℕ) (low : b < k) (e : touched_at s f.layout.chunk b ≡ i).
         (let on = chunk_touched s f.layout.chunk b h t (omega (arith, low, l)) dims fits in

@@ -8,7 +8,7 @@ use Rattle.hdf_values.specs.Nested.{piece_at, pieces_at}
 use Rattle.hdf_values.proofs.JoinLemmas.{joined_whole}
 use Rattle.chunk_layout.specs.Chunks.{quotients, offset_of}
 use Rattle.chunk_layout.proofs.CellLemmas.{one_cell_there}
-use Rattle.strided_copies.proofs.StrideLemmas.{length-cut, piece_of_cut}
+use Rattle.chunk_store.proofs.StridedCopies.StrideLemmas.{length-cut, piece_of_cut}
 use Rattle.chunk_store.specs.Buffers.{AreFull, IsFrame, IsWritten, bytes_at, chunk_bytes, flag_at}
 use Rattle.chunk_store.specs.Cells.{find_in, put}
 use Rattle.chunk_store.specs.Grids.{written}
@@ -111,8 +111,8 @@ module _ (m n : Chunks) (f : Frame) (t : Stretch) (ats : List (List ℕ)) (bs : 
       kept_bytes m n t.index w is f q apart
       ∙ sym (apart_written q (λ j low same. apart (ap (λ x. quotients x f.layout.chunk) (sym same) ∙ (on.each j low).index)))
 
-  pub stretch_written : AreFull m f → length w.bytes.items ≡ chunk_bytes f → w.changed ≡ true → IsWritten m n f ats bs
-  stretch_written full size changed = record {
+  pub stretch_written : AreFull m f → length w.bytes.items ≡ chunk_bytes f → w.dirty ≡ true → IsWritten m n f ats bs
+  stretch_written full size dirty = record {
     cells = λ q rank.
         same_or (quotients q f.layout.chunk) t.index (bytes_at n f q ≡ written (bytes_at m f) f.size ats bs q)
         (λ here. elim (cases_lt (offset_of q f.layout.chunk) t.offset) [
@@ -125,6 +125,6 @@ module _ (m n : Chunks) (f : Frame) (t : Stretch) (ats : List (List ℕ)) (bs : 
         (other_cell q);
     full = put_full m n t.index w is f size full;
     flags = λ i.
-        put_flag m n t.index w is i ∙ ap (λ b. cond (bytes_eq t.index i) (Some b) (flag_at m i)) changed
+        put_flag m n t.index w is i ∙ ap (λ b. cond (bytes_eq t.index i) (Some b) (flag_at m i)) dirty
         ∙ ap (λ b. cond b (Some true) (flag_at m i)) (sym (touches_index f.layout.chunk t ats i on));
   }

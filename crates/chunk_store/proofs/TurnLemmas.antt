@@ -39,7 +39,7 @@ noted_both a b o p r (inl same) step = subst (λ (x : Option Bool). IsNoted (a |
 noted_both a b o p r (inr new) (inl same) = inr (new.0, ap (λ x. x || b) new.1, same ∙ new.2)
 noted_both a b o p r (inr new) (inr again) = inr (new.0, ap (λ x. x || b) new.1, again.2)
 
-some_flag : (o : Option Held) → is_some o ≡ is_some (option_map (λ h. h.changed) o)
+some_flag : (o : Option Held) → is_some o ≡ is_some (option_map (λ h. h.dirty) o)
 some_flag None = refl
 some_flag (Some h) = refl
 

@@ -17,13 +17,13 @@ use Rattle.chunk_store.specs.declared.buffers.Held.{Held}
 abbrev pub bytes_at : BTreeMap (List ℕ) Held → Frame → List ℕ → List ℕ
 bytes_at m f at = option_map_or (λ h. piece_at f.size (offset_of at f.layout.chunk) h.bytes.items) (find_in m (quotients at f.layout.chunk)) f.blank.items
 
--- what is known of a chunk: nothing, or whether it changed
+-- what is known of a chunk: nothing, or whether it is dirty
 abbrev pub flag_at : BTreeMap (List ℕ) Held → List ℕ → Option Bool
-flag_at m i = option_map (λ h. h.changed) (find_in m i)
+flag_at m i = option_map (λ h. h.dirty) (find_in m i)
 
 -- the flags of the chunks that are held
 abbrev pub flags_of : List (List ℕ × Held) → List (List ℕ × Bool)
-flags_of es = map (λ e. (e.0, e.1.changed)) es
+flags_of es = map (λ e. (e.0, e.1.dirty)) es
 
 -- how many bytes a chunk has
 abbrev pub chunk_bytes : Frame → ℕ
@@ -48,13 +48,13 @@ pub record IsFrame (f : Frame) : Type 0 where
 abbrev pub AreThere : BTreeMap (List ℕ) Held → Frame → List (List ℕ) → Type 0
 AreThere m f ats = (k : ℕ) → k < length ats → has m (quotients (slice_index_or ats k []) f.layout.chunk) ≡ true
 
--- chunks of these cells may have come, unchanged and with blanks alone
+-- chunks of these cells may have come, clean and with blanks alone
 pub record IsGrown (m n : BTreeMap (List ℕ) Held) (f : Frame) (ats : List (List ℕ)) : Type 0 where
   pub same : (q : List ℕ) → length q ≡ length f.layout.chunk → bytes_at n f q ≡ bytes_at m f q
   pub full : AreFull n f
   pub noted : (i : List ℕ) → IsNoted (touches f.layout.chunk ats i) (flag_at m i) (flag_at n i)
 
--- these cells have the elements of the bytes in turn, and their chunks have changed
+-- these cells have the elements of the bytes in turn, and their chunks are dirty
 pub record IsWritten (m n : BTreeMap (List ℕ) Held) (f : Frame) (ats : List (List ℕ)) (bytes : List ℕ) : Type 0 where
   pub cells : (q : List ℕ) → length q ≡ length f.layout.chunk → bytes_at n f q ≡ written (bytes_at m f) f.size ats bytes q
   pub full : AreFull n f
@@ -66,7 +66,7 @@ pub record IsWritten (m n : BTreeMap (List ℕ) Held) (f : Frame) (ats : List (L
 abbrev pub has_cell : List ℕ → Shape → List ℕ → Bool
 has_cell chunk s i = nat_eq (length i) (length chunk) && lies_in (corner i chunk) s
 
--- the chunk taken as unchanged, or none where it changed and has no cell
+-- the chunk taken as clean, or none where it is dirty and has no cell
 abbrev pub when_cleared : Bool → Option Held → Option Held
 when_cleared inside None = None
-when_cleared inside (Some h) = cond (cond h.changed inside true) (Some (record { bytes = h.bytes; changed = false })) None
+when_cleared inside (Some h) = cond (cond h.dirty inside true) (Some (record { bytes = h.bytes; dirty = false })) None

@@ -22,3 +22,5 @@ pub use Rattle.shapes.specs.Places
 pub use Rattle.shapes.specs.Shapes
 pub use Rattle.chunk_layout.specs.Layouts
 pub use Rattle.chunk_layout.specs.Chunks
+pub mod BoxCopies
+pub mod StridedCopies

@@ -16,7 +16,7 @@ use Rattle.chunk_store.specs.Cells.{put}
 use Rattle.chunk_store.specs.Grids.{Grid, value_at, blank_of, with_values, coded_grid, coded_dims}
 use Rattle.chunk_store.specs.Indexes.{IsIndex}
 
--- an array, and the chunks that were written or installed, each with whether it changed
+-- an array, and the chunks that were written or installed, each with whether it is dirty
 pub record Stored : Type 0 where
   pub grid : Grid
   pub marks : List (List ℕ × Bool)
@@ -25,7 +25,7 @@ abbrev pub coded_stored : Coded Stored
 coded_stored =
     code_by (Grid × List (List ℕ × Bool)) (coded× coded_grid (coded_list (coded× coded_dims coded_bool))) (λ s. (s.grid, s.marks)) (λ p. record { grid = p.0; marks = p.1 }) (λ s. refl)
 
--- what is known of a chunk: nothing, or whether it changed
+-- what is known of a chunk: nothing, or whether it is dirty
 abbrev pub state : Stored → List ℕ → Option Bool
 state s i = lookup (bytes_eq i) s.marks
 
@@ -62,17 +62,17 @@ body_of h i = cond (in_grid h i) (content h i) []
 
 -- ---- records, as a function from a chunk to its body, which is empty where there is no record
 
--- the body of a chunk's record stands for the chunk, where nothing is known of it, or it is not marked as changed
+-- the body of a chunk's record stands for the chunk, where nothing is known of it, or it is not marked as dirty
 abbrev pub Stands : List ℕ → Option Bool → Grid → List ℕ → Type 0
 Stands body None h i = (body ≡ []) × (in_grid h i ≡ true → content h i ≡ all_blank h i)
 Stands body (Some true) h i = Unit {0}
 Stands body (Some false) h i = (in_grid h i ≡ true) × ((body ≡ content h i) ⊎ ((body ≡ []) × (content h i ≡ all_blank h i)))
 
--- the records stand for each chunk that is not marked as changed
+-- the records stand for each chunk that is not marked as dirty
 unfoldable pub IsTracked : (List ℕ → List ℕ) → Stored → Type 0
 IsTracked kept s = (i : List ℕ) → Stands (kept i) (state s i) s.grid i
 
--- the records after those of the changed chunks are written
+-- the records after those of the dirty chunks are written
 abbrev pub cut : (List ℕ → List ℕ) → Stored → List ℕ → List ℕ
 cut kept s i = cond (is_dirty s i) (body_of s.grid i) (kept i)
 
@@ -95,15 +95,15 @@ ReadsAs kept h = (at : List ℕ) → LiesIn at h.shape → body_value h (kept (q
 abbrev pub touches : List ℕ → List (List ℕ) → List ℕ → Bool
 touches chunk ats i = list_any (λ at. bytes_eq (quotients at chunk) i) ats
 
--- after a write the chunks of the written cells have changed, and of every other chunk the same is known as before
+-- after a write the chunks of the written cells are dirty, and of every other chunk the same is known as before
 abbrev pub MarksWritten : Stored → List (List ℕ) → Stored → Type 0
 MarksWritten s ats t = (i : List ℕ) → state t i ≡ cond (touches s.grid.chunk ats i) (Some true) (state s i)
 
--- of a chunk the same is known as before, or it is one of those, nothing was known of it, and now it is known as unchanged
+-- of a chunk the same is known as before, or it is one of those, nothing was known of it, and now it is known as clean
 abbrev pub IsNoted : Bool → Option Bool → Option Bool → Type 0
 IsNoted touched o p = (p ≡ o) ⊎ ((o ≡ None) × (touched ≡ true) × (p ≡ Some false))
 
--- a write that found no memory may have noted chunks of the cells as unchanged
+-- a write that found no memory may have noted chunks of the cells as clean
 abbrev pub MarksBegun : Stored → List (List ℕ) → Stored → Type 0
 MarksBegun s ats t = (i : List ℕ) → IsNoted (touches s.grid.chunk ats i) (state s i) (state t i)
 
@@ -116,7 +116,7 @@ abbrev pub keeps : List ℕ → List ℕ → List ℕ → List ℕ → Bool
 keeps (i ∷ is) (n ∷ ns) (old ∷ olds) (new ∷ news) = keeps_axis i n old new && keeps is ns olds news
 keeps is ns olds news = true
 
--- after other dims each known chunk that lost a cell, or has none left, has changed, and of every other chunk the same is known as before
+-- after other dims each known chunk that lost a cell, or has none left, is dirty, and of every other chunk the same is known as before
 abbrev pub after_cut : Bool → Option Bool → Option Bool
 after_cut kept None = None
 after_cut kept (Some b) = cond kept (Some b) (Some true)
@@ -128,7 +128,7 @@ MarksCut s dims t = (i : List ℕ) → state t i ≡ after_cut (keeps i s.grid.c
 abbrev pub AreIndexes : Stored → Type 0
 AreIndexes s = (i : List ℕ) → IsSome (state s i) → IsIndex s.grid.chunk i
 
--- ---- changed chunks, or all known ones, one after another
+-- ---- dirty chunks, or all known ones, one after another
 
 abbrev pub ComesAfter : Option (List ℕ) → List ℕ → Type 0
 ComesAfter None i = Unit {0}
@@ -152,11 +152,11 @@ abbrev pub IsNext : (List ℕ → Bool) → Option (List ℕ) → Option (List �
 IsNext is_meant after None = (i : List ℕ) → ComesAfter after i → is_meant i ≡ false
 IsNext is_meant after (Some i) = (is_meant i ≡ true) × ComesAfter after i × ((j : List ℕ) → ComesAfter after j → is_meant j ≡ true → slice_cmp nat_cmp i j ≢ Greater)
 
--- the next changed chunk
+-- the next dirty chunk
 abbrev pub IsNextDirty : Stored → Option (List ℕ) → Option (List ℕ) → Type 0
 IsNextDirty s after next = IsNext (is_dirty s) after next
 
--- the next known chunk, changed or not
+-- the next known chunk, dirty or not
 abbrev pub IsNextChunk : Stored → Option (List ℕ) → Option (List ℕ) → Type 0
 IsNextChunk s after next = IsNext (is_known s) after next
 

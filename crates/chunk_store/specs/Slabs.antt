@@ -20,7 +20,7 @@ pub record IsChunkRead (m : BTreeMap (List ℕ) Held) (f : Frame) (s : Slab) (i 
   pub here : (p : ℕ) → IsThere f s i p → piece_at f.size p out ≡ bytes_at m f (cell_at s p)
   pub others : (p : ℕ) → (IsThere f s i p → ⊥) → piece_at f.size p out ≡ piece_at f.size p old
 
--- the selected cells of the chunk have the elements, all other cells what they had, and the chunk has changed
+-- the selected cells of the chunk have the elements, all other cells what they had, and the chunk is dirty
 pub record IsChunkWritten (m n : BTreeMap (List ℕ) Held) (f : Frame) (s : Slab) (i bytes : List ℕ) : Type 0 where
   pub here : (p : ℕ) → IsThere f s i p → bytes_at n f (cell_at s p) ≡ piece_at f.size p bytes
   pub others : (q : List ℕ) → length q ≡ length f.layout.chunk → ((p : ℕ) → IsThere f s i p → cell_at s p ≡ q → ⊥) → bytes_at n f q ≡ bytes_at m f q

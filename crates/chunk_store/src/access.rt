@@ -104,7 +104,7 @@ fn grow_selected(
     grow_slab(alloc, chunks, frame, slab)
 }
 
-/// Writes elements into picked cells, whose chunks are all held, and takes these as changed.
+/// Writes elements into picked cells, whose chunks are all held, and takes these as dirty.
 pub(crate) fn write(chunks: &mut Chunks, frame: &Frame, shape: &Shape, picks: &Picks, bytes: &[u8])
     requires frame { IsFrame frame.now }
     requires full { AreFull chunks.old frame.now }

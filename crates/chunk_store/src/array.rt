@@ -1,4 +1,4 @@
-//! An array and the chunks that changed.
+//! An array and the chunks that are dirty.
 
 ghost use Rattle.std.specs.Prelude.{◌≡◌, ◌≤◌, ◌+◌, ◌↔◌, ℕ, List, [], All, IsSome, length, option_map, false};
 ghost use Rattle.std.specs.Prelude.{Some, None, Err, IfOk, IfSome, IsTrue, OnOk, OnErr};
@@ -26,7 +26,7 @@ use crate::buffers::{Chunks, Frame, put_chunk};
 use crate::chunks::{cell_number, has_cell, is_blank_outside};
 use crate::cutting::cut;
 use crate::elements::{are_elements, blank_bytes};
-use crate::marks::{clear_flags, first_changed, first_known};
+use crate::marks::{clear_flags, first_dirty, first_known};
 use crate::picks::Picks;
 use chunk_layout::Layout;
 use hdf_types::ElemType;
@@ -37,7 +37,7 @@ use std::alloc::{AllocError, Global};
 use std::collections::BTreeMap;
 use std::marker::Model;
 
-/// An array, and which of its chunks have changed since they were last taken as unchanged.
+/// An array, and which of its chunks are dirty: they changed since they were last taken as clean.
 #[derive(Drop)]
 pub struct Array {
     elem: ElemType,
@@ -79,7 +79,7 @@ impl From<AllocError> for InstallFault {
 }
 
 impl Array {
-    /// An array in which each cell has the fill, or zero where none is given. No chunk of it has changed.
+    /// An array in which each cell has the fill, or zero where none is given. No chunk of it is dirty.
     ///
     /// # Errors
     ///
@@ -293,16 +293,16 @@ impl Array {
         self.shape = shape;
     }
 
-    /// The first changed chunk behind one, or of all, in row-major order.
+    /// The first dirty chunk behind one, or of all, in row-major order.
     pub fn next_dirty(&self, after: Option<&Dims>) -> Option<Dims>
         ensures next { IsNextDirty self.now (option_map (λ d. d.now) after.entry) result }
         ensures known { IfSome result (λ i. IsSome (state self.now i)) }
         ensures index { IfSome result (λ i. IsIndex self.now.grid.chunk i) }
     {
-        first_changed(&self.chunks, after)
+        first_dirty(&self.chunks, after)
     }
 
-    /// The first chunk behind one, or of all, of which anything is known, changed or not, in row-major order.
+    /// The first chunk behind one, or of all, of which anything is known, dirty or not, in row-major order.
     pub fn next_chunk(&self, after: Option<&Dims>) -> Option<Dims>
         ensures next { IsNextChunk self.now (option_map (λ d. d.now) after.entry) result }
         ensures known { IfSome result (λ i. IsSome (state self.now i)) }
@@ -326,7 +326,7 @@ impl Array {
         held.bytes.as_slice()
     }
 
-    /// Takes each chunk as unchanged, and forgets those outside the array. It takes no memory.
+    /// Takes each chunk as clean, and forgets those outside the array. It takes no memory.
     pub fn clear_dirty(&mut self)
         ensures same { self.new.grid ≡ self.old.grid }
         ensures marks { (i : List ℕ) → state self.new i
@@ -337,18 +337,13 @@ impl Array {
         clear_flags(&mut self.chunks, &self.frame.layout, &self.shape);
     }
 
-    /// Puts in the bytes of a chunk, which then is unchanged.
+    /// Puts in the bytes of a chunk, which then is clean.
     ///
     /// # Errors
     ///
     /// `BadChunk` where the index names no chunk of the array, the bytes are not so many elements, or a cell outside
     /// the array has not the fill; else `NoMemory`. After either the array is as before.
-    pub fn install(
-        &mut self,
-        alloc: Global,
-        index: &Dims,
-        bytes: Vec<u8>,
-    ) -> Result<(), InstallFault>
+    pub fn install(&mut self, index: &Dims, bytes: Vec<u8>) -> Result<(), InstallFault>
         ensures done { OnOk result (self.new.grid
             ≡ with_chunk self.old.grid index.now bytes.items) }
         ensures marks { OnOk result ((i : List ℕ)

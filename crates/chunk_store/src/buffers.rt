@@ -8,11 +8,11 @@ ghost use Rattle.chunk_store.specs.Cells.{put, find_in, has};
 ghost use Rattle.chunk_store.specs.Buffers.{AreFull, IsFrame, bytes_at, chunk_bytes, flag_at};
 
 use crate::chunks::cell_number;
+use crate::strided_copies::{Strided, copy_strided};
 use chunk_layout::Layout;
 use shapes::Dims;
 use std::alloc::{AllocError, Global};
 use std::collections::BTreeMap;
-use strided_copies::{Strided, copy_strided};
 
 /// What the chunks of an array have in common.
 #[derive(Drop)]
@@ -30,8 +30,8 @@ pub(crate) struct Frame {
 pub(crate) struct Held {
     /// The elements of its cells in row-major order.
     pub(crate) bytes: Vec<u8>,
-    /// Whether it changed since it was last taken as unchanged.
-    pub(crate) changed: bool,
+    /// Whether it is dirty: it changed since it was last taken as clean.
+    pub(crate) dirty: bool,
 }
 
 /// The chunks that were written or installed.
@@ -118,15 +118,15 @@ pub(crate) fn add_chunk(
     put_chunk(chunks, index, bytes)
 }
 
-/// Holds a chunk with these bytes, as an unchanged one.
+/// Holds a chunk with these bytes, as a clean one.
 pub(crate) fn put_chunk(chunks: &mut Chunks, index: &Dims, bytes: Vec<u8>) -> Result<(), AllocError>
     ensures done { OnOk result ((i : List ℕ) → find_in chunks.new i ≡ put (find_in chunks.old)
-        index.now (Some (record { bytes = bytes; changed = false })) i) }
+        index.now (Some (record { bytes = bytes; dirty = false })) i) }
     ensures kept { OnErr result ((i : List ℕ) → find_in chunks.new i ≡ find_in chunks.old i) }
 {
     let held = Held {
         bytes,
-        changed: false,
+        dirty: false,
     };
     match chunks.insert(*index, held) {
         Ok(_) => Ok(()),

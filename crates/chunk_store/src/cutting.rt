@@ -13,12 +13,12 @@ ghost use Rattle.chunk_store.specs.Marks.{after_cut, keeps, keeps_axis};
 
 use crate::buffers::{Chunks, Frame, Held};
 use crate::chunks::cell_number;
+use crate::strided_copies::{Strided, copy_strided};
 use chunk_layout::{coords_in_chunk, is_in_grid};
 use shapes::{Dims, Shape};
-use strided_copies::{Strided, copy_strided};
 
 /// Puts the fill into each cell of the chunks that lies outside a shape's other dims, and takes the
-/// chunks that these cut as changed.
+/// chunks that these cut as dirty.
 pub(crate) fn cut(chunks: &mut Chunks, frame: &Frame, old: &Shape, new: &Shape)
     requires frame { IsFrame frame.now }
     requires full { AreFull chunks.old frame.now }
@@ -55,7 +55,7 @@ fn cut_chunk(held: &mut Held, frame: &Frame, index: &Dims, old: &Shape, new: &Sh
     if is_kept(index, &frame.layout.chunk, &old.dims(), &new.dims()) {
         return;
     }
-    held.changed = true;
+    held.dirty = true;
     cut_bytes(&mut held.bytes, frame, index, new);
 }
 

@@ -62,9 +62,9 @@ pub fn writes_joined()
         ≡ writes h (first ++ later) (front ++ behind) }
 {}
 
-/// The records that stand for an array give each cell its bytes, once those of the changed chunks
+/// The records that stand for an array give each cell its bytes, once those of the dirty chunks
 /// are written, as [`crate::Array::clear_dirty`] takes them; or at once, where nothing is marked
-/// as changed. Records give cells to one array alone.
+/// as dirty. Records give cells to one array alone.
 pub fn records_stand()
     ensures reads { (held : List ℕ → List ℕ) (s : Stored) → IsWhole s.grid → IsTracked held s
         → ((i : List ℕ) → is_dirty s i ≡ false) → ReadsAs held s.grid }
@@ -92,8 +92,8 @@ pub fn chunks_installed()
         → quotients at h.chunk ≢ i → value_at (with_chunk h i bytes) at ≡ value_at h at }
 {}
 
-/// Chunks that are meant, as the changed ones or all that are known, one after another until there
-/// is no next one, are all of them. Where these are the changed ones, their records written in turn
+/// Chunks that are meant, as the dirty ones or all that are known, one after another until there
+/// is no next one, are all of them. Where these are the dirty ones, their records written in turn
 /// are those that stand after [`crate::Array::clear_dirty`].
 pub fn chunks_in_turn()
     ensures first { (is_meant : List ℕ → Bool) → Covers is_meant [] None }

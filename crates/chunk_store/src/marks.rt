@@ -1,4 +1,4 @@
-//! Which of the chunks that are held changed.
+//! Which of the chunks that are held are dirty.
 
 ghost use Rattle.std.specs.Prelude.{◌≡◌, ℕ, Bool, List, Option, is_some, length, option_map};
 ghost use Rattle.std.specs.BTreeMap.{IsOrdered};
@@ -8,7 +8,7 @@ ghost use Rattle.std.specs.declared.ops.Bound.TheVariants.{Unbounded};
 ghost use Rattle.std.specs.List.{filter};
 ghost use Rattle.std.specs.List.Sorted.{IsStrictlySortedBy};
 ghost use Rattle.std.specs.Map.{keys_of};
-ghost use Rattle.short_lists.specs.Order.{list_order};
+ghost use Rattle.containers.specs.ShortLists.Order.{list_order};
 ghost use Rattle.shapes.specs.Shapes.{dims_of};
 ghost use Rattle.chunk_layout.specs.Chunks.{IsChunk};
 ghost use Rattle.chunk_store.specs.Buffers.{has_cell, flags_of, when_cleared};
@@ -23,7 +23,7 @@ use std::collections::BTreeMap;
 use std::collections::btree_map::Range;
 use std::ops::Bound;
 
-/// Takes each chunk as unchanged, and drops changed ones that have no cell of a shape.
+/// Takes each chunk as clean, and drops dirty ones that have no cell of a shape.
 pub(crate) fn clear_flags(chunks: &mut Chunks, layout: &Layout, shape: &Shape)
     requires chunk { IsChunk layout.now.chunk }
     requires rank { length layout.now.chunk ≡ length (dims_of shape.now) }
@@ -31,21 +31,21 @@ pub(crate) fn clear_flags(chunks: &mut Chunks, layout: &Layout, shape: &Shape)
         ≡ when_cleared (has_cell layout.now.chunk shape.now i) (find_in chunks.old i) }
 {
     chunks.retain(|index, held| {
-        let stays = !held.changed || has_cell(layout, shape, index);
-        held.changed = false;
+        let stays = !held.dirty || has_cell(layout, shape, index);
+        held.dirty = false;
         stays
     });
 }
 
-/// The first changed chunk that comes after one, or of all.
-pub(crate) fn first_changed(chunks: &Chunks, after: Option<&Dims>) -> Option<Dims>
+/// The first dirty chunk that comes after one, or of all.
+pub(crate) fn first_dirty(chunks: &Chunks, after: Option<&Dims>) -> Option<Dims>
     ensures first { result
         ≡ first_key (filter (is_later flagged (option_map (λ d. d.now) after.entry))
         (flags_of chunks.now.entries)) }
     ensures ordered { IsStrictlySortedBy list_order (keys_of chunks.now.entries) }
 {
     for (index, held) in rest_after(chunks, after) {
-        if held.changed && comes_after(after, index) {
+        if held.dirty && comes_after(after, index) {
             return Some(*index);
         }
     }

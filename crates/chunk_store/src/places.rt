@@ -69,7 +69,7 @@ pub(crate) fn grow_places(
 }
 
 /// Writes elements into `many` cells from a place on, whose chunks are all held, and takes these as
-/// changed.
+/// dirty.
 pub(crate) fn write_places(
     chunks: &mut Chunks,
     frame: &Frame,

@@ -51,7 +51,7 @@ pub(crate) fn grow_points(
     Ok(())
 }
 
-/// Writes elements into cells, whose chunks are all held, and takes these as changed. Where a cell
+/// Writes elements into cells, whose chunks are all held, and takes these as dirty. Where a cell
 /// is repeated the last element counts.
 pub(crate) fn write_points(chunks: &mut Chunks, frame: &Frame, points: &[Dims], bytes: &[u8])
     requires frame { IsFrame frame.now }

@@ -5,15 +5,15 @@ ghost use Rattle.std.specs.List.{flat_map};
 ghost use Rattle.shapes.specs.Places.{cell_count};
 ghost use Rattle.chunk_layout.specs.Chunks.{IsChunk, corner};
 ghost use Rattle.hyperslab.specs.Selected.{IsSlab, FitsIn, extents, selected};
-ghost use Rattle.box_copies.specs.Boxes.{AreWritten, IsBox};
+ghost use Rattle.chunk_store.specs.BoxCopies.Boxes.{AreWritten, IsBox};
 ghost use Rattle.chunk_store.specs.Buffers.{AreFull, AreThere, IsFrame, IsGrown, IsWritten, bytes_at, chunk_bytes};
 ghost use Rattle.chunk_store.specs.Cells.{has};
 ghost use Rattle.chunk_store.specs.Indexes.{IsIndex};
 ghost use Rattle.chunk_store.specs.Slabs.{IsChunkRead, IsChunkWritten};
 
+use crate::box_copies::{fill_box, read_box, write_box};
 use crate::buffers::{Chunks, Frame, Held, add_chunk};
 use crate::touched::Touched;
-use box_copies::{fill_box, read_box, write_box};
 use hyperslab::Slab;
 use shapes::Dims;
 use std::alloc::{AllocError, Global};
@@ -104,7 +104,7 @@ pub(crate) fn grow_slab(
     Ok(())
 }
 
-/// Writes elements into selected cells, whose chunks are all held, and takes these as changed.
+/// Writes elements into selected cells, whose chunks are all held, and takes these as dirty.
 pub(crate) fn write_slab(chunks: &mut Chunks, frame: &Frame, slab: &Slab, bytes: &[u8])
     requires frame { IsFrame frame.now }
     requires full { AreFull chunks.old frame.now }
@@ -123,7 +123,7 @@ pub(crate) fn write_slab(chunks: &mut Chunks, frame: &Frame, slab: &Slab, bytes:
     }
 }
 
-/// Writes the selected cells of a chunk that is held, and takes it as changed.
+/// Writes the selected cells of a chunk that is held, and takes it as dirty.
 fn write_chunk(chunks: &mut Chunks, frame: &Frame, slab: &Slab, index: &Dims, bytes: &[u8])
     requires frame { IsFrame frame.now }
     requires full { AreFull chunks.old frame.now }
@@ -149,7 +149,7 @@ fn write_held(held: &mut Held, frame: &Frame, slab: &Slab, origin: &Dims, bytes:
     ensures written { AreWritten slab.now origin.now frame.now.layout.chunk frame.now.size
         bytes.now held.old.bytes.items held.new.bytes.items }
     ensures len { length held.new.bytes.items ≡ length held.old.bytes.items }
-    ensures changed { held.new.changed ≡ true }
+    ensures dirty { held.new.dirty ≡ true }
 {
     let chunk = &frame.layout.chunk;
     write_box(
@@ -160,5 +160,5 @@ fn write_held(held: &mut Held, frame: &Frame, slab: &Slab, origin: &Dims, bytes:
         chunk,
         frame.size,
     );
-    held.changed = true;
+    held.dirty = true;
 }

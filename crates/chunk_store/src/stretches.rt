@@ -9,9 +9,9 @@ ghost use Rattle.chunk_store.specs.Cells.{has};
 ghost use Rattle.chunk_store.specs.Stretches.{IsStretch};
 
 use crate::buffers::{Chunks, Frame, Held};
+use crate::strided_copies::{Strided, copy_strided};
 use shapes::Dims;
 use std::alloc::AllocError;
-use strided_copies::{Strided, copy_strided};
 
 /// Cells of one chunk, of which each lies behind the one before.
 #[derive(Clone, Copy)]
@@ -67,7 +67,7 @@ fn add_blanks(out: &mut Vec<u8>, frame: &Frame, many: u64) -> Result<(), AllocEr
     Ok(())
 }
 
-/// Writes elements into the cells, whose chunk is held, and takes it as changed.
+/// Writes elements into the cells, whose chunk is held, and takes it as dirty.
 pub(crate) fn write_stretch(chunks: &mut Chunks, frame: &Frame, stretch: &Stretch, bytes: &[u8])
     requires frame { IsFrame frame.now }
     requires full { AreFull chunks.old frame.now }
@@ -89,7 +89,7 @@ fn overwrite(held: &mut Held, frame: &Frame, stretch: &Stretch, bytes: &[u8])
     requires full { length held.old.bytes.items ≡ chunk_bytes frame.now }
     requires room { stretch.now.offset + stretch.now.len ≤ cell_count frame.now.layout.chunk }
     requires bytes { length bytes.now ≡ stretch.now.len * frame.now.size }
-    ensures changed { held.new.changed ≡ true }
+    ensures dirty { held.new.dirty ≡ true }
     ensures full { length held.new.bytes.items ≡ chunk_bytes frame.now }
     ensures put { (j : ℕ) → j < stretch.now.len
         → piece_at frame.now.size (stretch.now.offset + j) held.new.bytes.items
@@ -99,7 +99,7 @@ fn overwrite(held: &mut Held, frame: &Frame, stretch: &Stretch, bytes: &[u8])
         → piece_at frame.now.size j held.new.bytes.items
         ≡ piece_at frame.now.size j held.old.bytes.items }
 {
-    held.changed = true;
+    held.dirty = true;
     put(&mut held.bytes, frame.size, stretch, bytes);
 }
 

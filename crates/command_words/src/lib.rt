@@ -14,6 +14,3 @@ pub use command::{
     Wanted, WordText, WordsFault,
 };
 pub use words::wanted;
-
-#[cfg(test)]
-mod tests;

@@ -14,7 +14,7 @@ use Rattle.std.proofs.lemmas.Map.Text.{is_eq-slice_cmp}
 use Rattle.std.proofs.lemmas.Slice.Eq.{bytes_eq-Decides}
 use Rattle.object_ids.specs.Paths.{parent_of, path_of, root_path, starts_with_slash}
 use Rattle.object_ids.proofs.PathLemmas.{IsLastSlash, has_last_slash, is_path-from_path_of, parent_of-at, path_cases}
-use Rattle.text_maps.specs.Keyed.{text_order}
+use Rattle.containers.specs.TextMaps.Keyed.{text_order}
 use Rattle.domains.specs.Contents.{Contents, IsFolderAt, class_at, only_root, with_node}
 use Rattle.domains.specs.declared.classes.Node.{Node}
 use Rattle.domains.specs.declared.classes.NodeClass.TheVariants.{Folder}

@@ -15,8 +15,8 @@ use Rattle.std.proofs.lemmas.Slice.Eq.{bytes_eq-Decides}
 use Rattle.object_ids.specs.IdValues.{Id}
 use Rattle.object_ids.specs.Paths.{parent_of, root_path}
 use Rattle.object_ids.specs.declared.ids.Kind.TheVariants.{Group}
-use Rattle.text_maps.specs.Keyed.{text_order}
-use Rattle.text_maps.proofs.KeyedMaps.{exact_texts}
+use Rattle.containers.specs.TextMaps.Keyed.{text_order}
+use Rattle.containers.proofs.TextMaps.KeyedMaps.{exact_texts}
 use Rattle.domains.specs.Contents.{Contents, IsDomainAt, only_root, with_node}
 use Rattle.domains.specs.declared.classes.Node.{Node}
 use Rattle.domains.specs.declared.classes.NodeClass.{NodeClass}

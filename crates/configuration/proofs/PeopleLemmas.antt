@@ -7,7 +7,7 @@ use Rattle.std.specs.FinMap.{FinMap, contains_key, get, insert, remove, get-inse
 use Rattle.std.specs.Cmp.Lexicographic.{nat_list_cmp_total}
 use Rattle.std.proofs.lemmas.Map.Text.{is_eq-slice_cmp}
 use Rattle.std.proofs.lemmas.Slice.Eq.{bytes_eq-Decides}
-use Rattle.text_maps.specs.Keyed.{text_order}
+use Rattle.containers.specs.TextMaps.Keyed.{text_order}
 use Rattle.toml.specs.Data.{Data}
 use Rattle.configuration.specs.People.{Group, group_of, groups_with, names_at}
 use Rattle.configuration.specs.Tables.{all_of}

@@ -3,12 +3,12 @@ use Rattle.std.proofs.Common.{is_eq, ◌<◌, ◌≤◌, Ordering, Less, Equal, 
 use Rattle.std.specs.Option.{option_and_then}
 use Rattle.std.specs.FinMap.{FinMap, empty, get, insert, len, len-empty, get-insert, same_map}
 use Rattle.std.specs.Cmp.Lexicographic.{nat_list_cmp_total}
-use Rattle.text_maps.proofs.KeyedMaps.{exact_texts}
+use Rattle.containers.proofs.TextMaps.KeyedMaps.{exact_texts}
 use Rattle.std.specs.BTreeMap.{insert_entry}
 use Rattle.std.specs.Map.{remove_entry}
 use Rattle.std.specs.Ordering.{match_ordering}
 use Rattle.std.specs.String.{string_cmp}
-use Rattle.text_maps.specs.Keyed.{text_order, keyed}
+use Rattle.containers.specs.TextMaps.Keyed.{text_order, keyed}
 use Rattle.object_ids.specs.Paths.{path_of, root_path}
 use Rattle.domains.specs.Contents.{Contents, only_root, with_node}
 use Rattle.domains.specs.declared.classes.Node.{Node}

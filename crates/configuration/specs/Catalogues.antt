@@ -7,7 +7,7 @@ use Rattle.std.specs.FinMap.{FinMap, contains_key, empty, entries, get, len, rem
 use Rattle.object_ids.specs.IdValues.{Id}
 use Rattle.object_ids.specs.Paths.{parent_of, path_of, root_path}
 use Rattle.object_ids.specs.declared.ids.Kind.TheVariants.{Group}
-use Rattle.text_maps.specs.Keyed.{text_order}
+use Rattle.containers.specs.TextMaps.Keyed.{text_order}
 use Rattle.domains.specs.Contents.{Contents, IsPlace, only_root, with_node}
 use Rattle.domains.specs.declared.classes.Node.{Node}
 use Rattle.domains.specs.declared.classes.NodeClass.TheVariants.{Folder, Domain}

@@ -11,7 +11,7 @@ use Rattle.std.specs.FinMap.{FinMap, empty, get, keys, len, remove}
 use Rattle.object_ids.specs.IdValues.{Id}
 use Rattle.object_ids.specs.Paths.{parent_of, root_path}
 use Rattle.object_ids.specs.declared.ids.Kind.TheVariants.{Group}
-use Rattle.text_maps.specs.Keyed.{text_order}
+use Rattle.containers.specs.TextMaps.Keyed.{text_order}
 use Rattle.domains.specs.Changes.{domain_count}
 use Rattle.domains.specs.Contents.{Contents, IsDomainAt}
 use Rattle.domains.specs.declared.classes.Node.{Node}

@@ -6,7 +6,7 @@ use Rattle.std.specs.Str.{bytes_eq}
 use Rattle.std.specs.FinMap.{FinMap, get}
 use Rattle.toml.specs.Data.{Data, Members, as_str, as_array}
 use Rattle.object_ids.specs.Names.{is_name}
-use Rattle.text_maps.specs.Keyed.{text_order}
+use Rattle.containers.specs.TextMaps.Keyed.{text_order}
 use Rattle.access_lists.specs.declared.people.Caller.{Caller}
 use Rattle.configuration.specs.Tables.{only_if, all_of, map_of, pairs_of, elements_of}
 use Rattle.configuration.specs.declared.limits.TheConstants.{MAX_NAME_LEN, MAX_GROUP_LEN, MAX_TOKEN_LEN}

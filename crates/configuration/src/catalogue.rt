@@ -2,7 +2,7 @@ ghost use Rattle.std.specs.Prelude.{◌≡◌, ◌≤◌, ◌+◌, not, length, 
 ghost use Rattle.std.specs.List.{list_all};
 ghost use Rattle.std.specs.FinMap as map;
 ghost use Rattle.object_ids.specs.Paths.{path_of, root_path};
-ghost use Rattle.text_maps.specs.Keyed.{keyed};
+ghost use Rattle.containers.specs.TextMaps.Keyed.{keyed};
 ghost use Rattle.domains.specs.Contents.{HasRoot, IsNumberFree, IsPlace, NumberFits, only_root, with_node};
 ghost use Rattle.configuration.specs.Catalogues.{ArePaths, CanBePut, catalogue_of, default_setting};
 ghost use Rattle.configuration.specs.Catalogues.{domain_node, domain_nodes, folder_node, folder_nodes};

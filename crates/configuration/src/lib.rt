@@ -21,6 +21,3 @@ pub use fault::ConfigFault;
 pub use laws::{configured_catalogue, limits_of_configurations};
 pub use limits::{MAX_BELOW_ROOT, MAX_GROUP_LEN, MAX_NAME_LEN, MAX_TOKEN_LEN};
 pub use reading::read_config;
-
-#[cfg(test)]
-mod tests;

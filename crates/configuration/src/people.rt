@@ -12,11 +12,11 @@ ghost use Rattle.configuration.specs.Tables.{all_of, elements_of};
 
 use crate::fault::Refusal;
 use crate::limits::{MAX_GROUP_LEN, MAX_NAME_LEN, MAX_TOKEN_LEN};
+use access_lists::tokens::TokenTable;
 use access_lists::{Caller, Names};
-use bearer_tokens::Tokens;
+use containers::text_maps::TextMap;
 use object_ids::Name;
 use std::alloc::{AllocError, Global};
-use text_maps::TextMap;
 use toml::{Table, Value};
 
 /// Reads the name of a user.
@@ -195,11 +195,11 @@ pub fn read_tokens(
     alloc: Global,
     table: &Table,
     memberships: &TextMap<Names>,
-) -> Result<Tokens, Refusal>
+) -> Result<TokenTable, Refusal>
     ensures ok { IfOk result (λ tokens. callers_in (names_at memberships.now) (table_view table.now) ≡ Some tokens) }
     ensures bad { IsErrOf result Refusal.BadKey → callers_in (names_at memberships.now) (table_view table.now) ≡ None }
 {
-    let mut tokens = Tokens::new(alloc);
+    let mut tokens = TokenTable::new(alloc);
     'tokens: for (key, value) in table {
         let caller = read_token(alloc, key.as_str(), value, memberships)?;
         tokens.put(key.as_bytes(), caller)?;

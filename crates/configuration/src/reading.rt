@@ -11,7 +11,7 @@ use crate::fault::{ConfigFault, Refusal};
 use crate::people::{read_groups, read_tokens};
 use crate::settings::{Settings, read_settings};
 use crate::tables::table_at;
-use bearer_tokens::Tokens;
+use access_lists::tokens::TokenTable;
 use domains::Catalogue;
 use std::alloc::Global;
 use std::str;
@@ -95,7 +95,7 @@ fn is_config_key(key: &str) -> bool
     matches!(key, "tokens" | "groups" | "folders" | "domains")
 }
 
-fn read_tokens_in(alloc: Global, table: &Table) -> Result<Tokens, Refusal>
+fn read_tokens_in(alloc: Global, table: &Table) -> Result<TokenTable, Refusal>
     ensures ok { IfOk result (λ tokens. tokens_in (table_view table.now) ≡ Some tokens) }
     ensures bad { IsErrOf result Refusal.BadKey → tokens_in (table_view table.now) ≡ None }
 {

@@ -2,7 +2,7 @@ ghost use Rattle.std.specs.Prelude.{◌≡◌, ◌<◌, ◌^◌, Some, None, IfO
 ghost use Rattle.std.specs.FinMap as map;
 ghost use Rattle.object_ids.specs.Paths.{path_of, root_path};
 ghost use Rattle.toml.specs.View.{table_view};
-ghost use Rattle.text_maps.specs.Keyed.{keyed};
+ghost use Rattle.containers.specs.TextMaps.Keyed.{keyed};
 ghost use Rattle.configuration.specs.Settings.{settings_in};
 ghost use Rattle.configuration.specs.Catalogues.{ArePaths};
 
@@ -25,7 +25,7 @@ impl Model for Settings {
     ghost use Rattle.std.specs.Prelude.{List, ℕ, string_bytes};
     ghost use Rattle.std.specs.FinMap as map;
     ghost use Rattle.std.specs.Coded.{coded_ℕ, coded_list};
-    ghost use Rattle.text_maps.specs.Keyed.{text_order, keyed};
+    ghost use Rattle.containers.specs.TextMaps.Keyed.{text_order, keyed};
     ghost use Rattle.configuration.specs.contracts.setting.Setting as setting;
     ghost use Rattle.configuration.specs.declared.setting.Setting.{Setting};
 

@@ -11,10 +11,10 @@ use Rattle.std.proofs.lemmas.Bool.Decides.{Decides-eqb}
 use Rattle.std.proofs.lemmas.Cmp.{tied_itself}
 use Rattle.std.proofs.lemmas.Slice.Eq.{bytes_eq-Decides, starts_is}
 use Rattle.std.proofs.Math.Seq.{split_at}
-use Rattle.text_maps.specs.Keyed.{text_order}
-use Rattle.text_maps.specs.Nexts.{first, left}
-use Rattle.text_maps.proofs.KeyedMaps.{exact_texts, no_length}
-use Rattle.text_maps.proofs.Walks.{less}
+use Rattle.containers.specs.TextMaps.Keyed.{text_order}
+use Rattle.containers.specs.TextMaps.Nexts.{first, left}
+use Rattle.containers.proofs.TextMaps.KeyedMaps.{exact_texts, no_length}
+use Rattle.containers.proofs.TextMaps.Walks.{less}
 use Rattle.object_ids.specs.Paths.{parent_of, path_of, root_path, starts_with_slash}
 use Rattle.object_ids.proofs.PathLemmas.{IsLongPath, has_last_slash, is_path-from_path_of, parent_of-at, parent_of-none, path_cases}
 use Rattle.domains.specs.declared.classes.Node.{Node}

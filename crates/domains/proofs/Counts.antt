@@ -1,7 +1,7 @@
 -- How many nodes pass a test.
 use Rattle.std.proofs.Common.{◌≡◌, ℕ, suc, ◌+◌, Bool, true, false, not, cond, List, [], ◌∷◌, length, count_by, refl, sym, ap, ap₂, ◌∙◌, arith}
 use Rattle.std.proofs.lemmas.List.Sums.{sum_by-cons}
-use Rattle.text_maps.specs.Keyed.{keyed}
+use Rattle.containers.specs.TextMaps.Keyed.{keyed}
 
 one_more : (b : Bool) (x y n : ℕ) → x + y ≡ n → (cond b 1 0 + x) + (cond (not b) 1 0 + y) ≡ suc n
 one_more true x y n e = omega arith

@@ -5,3 +5,4 @@ pub mod Places
 pub mod Puts
 pub mod Removals
 pub mod Roots
+pub mod OfRecords

@@ -7,7 +7,7 @@ use Rattle.std.specs.FinMap.{FinMap, empty, get, insert, len, get-insert, get-em
 use Rattle.std.proofs.lemmas.Bool.{cases_Bool}
 use Rattle.std.proofs.lemmas.Map.Text.{is_eq-slice_cmp}
 use Rattle.std.proofs.lemmas.Slice.Eq.{bytes_eq-Decides}
-use Rattle.text_maps.specs.Keyed.{text_order}
+use Rattle.containers.specs.TextMaps.Keyed.{text_order}
 use Rattle.object_ids.specs.Paths.{parent_of, path_of, root_path}
 use Rattle.object_ids.specs.declared.ids.ObjectId.{ObjectId}
 use Rattle.object_ids.proofs.PathLemmas.{parent_of-shorter}

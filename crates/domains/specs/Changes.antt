@@ -8,7 +8,7 @@
 use Rattle.std.specs.Prelude.{◌≡◌, ℕ, List, Bool, true, false, not, ◌||◌, nat_lt, count_by, Option, Some, None, Result, Ok, Err, if◌then◌else◌}
 use Rattle.std.specs.FinMap.{FinMap, contains_key, empty as no_entries, entries, get, insert, len, remove}
 use Rattle.std.specs.Str.{bytes_eq}
-use Rattle.text_maps.specs.Keyed.{text_order}
+use Rattle.containers.specs.TextMaps.Keyed.{text_order}
 use Rattle.object_ids.specs.IdValues.{Id}
 use Rattle.object_ids.specs.Paths.{parent_of, root_path}
 use Rattle.object_ids.specs.declared.ids.Kind.TheVariants.{Group}

@@ -2,8 +2,8 @@
 use Rattle.std.specs.Prelude.{◌≡◌, ◌⊎◌, ℕ, List, [], ◌∷◌, Option, Some, None, IsSome}
 use Rattle.std.specs.FinMap.{FinMap, get}
 use Rattle.std.specs.declared.cmp.Ordering.TheVariants.{Less}
-use Rattle.text_maps.specs.Keyed.{text_order}
-use Rattle.text_maps.specs.Nexts.{left}
+use Rattle.containers.specs.TextMaps.Keyed.{text_order}
+use Rattle.containers.specs.TextMaps.Nexts.{left}
 use Rattle.object_ids.specs.Paths.{path_of}
 use Rattle.domains.specs.declared.classes.Node.{Node}
 use Rattle.domains.specs.Children.{children_in}

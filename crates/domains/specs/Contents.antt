@@ -9,7 +9,7 @@
 --     with_node c path node      c with the node at the path
 use Rattle.std.specs.Prelude.{◌≡◌, ◌≢◌, ◌⊎◌, ℕ, ◌+◌, ◌<◌, ◌≤◌, ◌^◌, max, List, Option, Some, None, IsSome, option_map}
 use Rattle.std.specs.FinMap.{FinMap, empty as no_nodes, get, insert, len}
-use Rattle.text_maps.specs.Keyed.{text_order}
+use Rattle.containers.specs.TextMaps.Keyed.{text_order}
 use Rattle.object_ids.specs.Paths.{parent_of, path_of, root_path}
 use Rattle.object_ids.specs.declared.ids.Kind.TheVariants.{Group}
 use Rattle.object_ids.specs.declared.ids.ObjectId.{ObjectId}

@@ -19,12 +19,12 @@ use crate::children::{child_list, has_child};
 use crate::classes::{Node, NodeClass};
 use crate::faults::CatFault;
 use access_lists::{AccessList, Rights};
+use containers::text_maps::TextMap;
 use object_ids::{DomainPath, Kind, LimitKind, Name, ObjectId};
 use serde_json::Value;
 use std::alloc::{AllocError, Global};
 use std::collections::BTreeMap;
 use std::marker::Model;
-use text_maps::TextMap;
 
 /// The most nodes of a catalogue.
 pub const MAX_NODES: u64 = 65_536;
@@ -45,7 +45,7 @@ impl Model for Catalogue {
     ghost use Rattle.std.specs.Prelude.{ℕ, refl};
     ghost use Rattle.std.specs.FinMap as map;
     ghost use Rattle.std.specs.Coded.{code_by, coded×, coded_list, coded_ℕ};
-    ghost use Rattle.text_maps.specs.Keyed.{text_order};
+    ghost use Rattle.containers.specs.TextMaps.Keyed.{text_order};
     ghost use Rattle.domains.specs.contracts.classes.Node as node;
     ghost use Rattle.domains.specs.declared.classes.Node.{Node};
     ghost use Rattle.domains.specs.Contents.{Contents, IsCatalogue};

@@ -8,11 +8,11 @@ ghost use Rattle.domains.specs.ChildSteps.{AreCanonical, IsChildStep, IsFrom};
 ghost use Rattle.domains.specs.NodeTrees.{child_tree};
 
 use crate::classes::Node;
-use crate::json::child_json;
+use crate::node_trees::child_json;
+use containers::text_maps::TextMap;
 use object_ids::parent_text;
 use serde_json::Value;
 use std::alloc::{AllocError, Global};
-use text_maps::TextMap;
 
 // Whether a node stands right below a path.
 pub(crate) fn has_child(nodes: &TextMap<Node>, folder: &str) -> bool

@@ -39,19 +39,3 @@ impl FaultCount {
         self.count = self.count.saturating_add(1);
     }
 }
-
-#[cfg(test)]
-mod tests {
-    use super::*;
-
-    #[test]
-    fn a_count_rises_and_stands_still_at_its_end(rt: HostRuntime) {
-        let mut faults = FaultCount::new();
-        assert_eq!(rt; faults.count(), 0);
-        faults.rise();
-        assert_eq!(rt; faults.count(), 1);
-        let mut full = FaultCount { count: u64::MAX };
-        full.rise();
-        assert_eq!(rt; full.count(), u64::MAX);
-    }
-}

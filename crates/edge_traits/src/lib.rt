@@ -1,6 +1,8 @@
 //! What lies outside the service, as traits with a written meaning: sources and sinks of bytes, links, disks and
 //! doors, each with a count of faults that never falls. For each of them there is one in memory, whose calls fail where
 //! a test says so; a source, a sink and a disk stand over std's readers, writers and files.
+//!
+//! [`source_texts`] reads a source to its end, within a limit.
 #![tactic(auto)]
 
 mod disk;
@@ -38,5 +40,4 @@ pub use source::Source;
 pub use std_sink::StdSink;
 pub use std_source::StdSource;
 
-#[cfg(test)]
-mod tests;
+pub mod source_texts;

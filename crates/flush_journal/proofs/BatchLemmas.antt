@@ -6,7 +6,7 @@ use Rattle.std.proofs.lemmas.Bool.Decides.{nat_tests}
 use Rattle.std.proofs.lemmas.List.{take_at, drop_at, append-nil}
 use Rattle.flush_journal.specs.Records.{Record, cut, is_key_length, cut_key, cut_body, first_record, records_of, four_bytes, eight_bytes, encoded, encoded_all}
 use Rattle.flush_journal.specs.Frames.{record_size, framed, frame_of, framed_records, payload_of}
-use Rattle.flush_journal.specs.Gates.{EndsShut}
+use Rattle.flush_journal.specs.Markers.{EndsShut}
 use Rattle.flush_journal.proofs.RecordLemmas.{cut-append, cut_number_4-append, length-four_bytes, length-eight_bytes, records_of_first, records_of_more, records_of_nothing}
 
 cut_key-append : (key rest : List ℕ) → 0 < length key → length key < 65536 → cut_key (four_bytes (length key) ++ (key ++ rest)) ≡ Some (key, rest)

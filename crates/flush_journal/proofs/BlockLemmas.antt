@@ -87,7 +87,7 @@ blocks_read (suc f) c (rs ∷ bs) left h le =
 -- what reading gives at what is left
 unfoldable pub Stops : Content → List ℕ → Result Content ℕ → Type 0
 Stops c [] r = r ≡ Err c.end
-Stops c (gate ∷ rest) r = ((gate ≢ 1) × (r ≡ Ok c)) ⊎ ((gate ≡ 1) × (first_batch rest ≡ None) × (r ≡ Err (c.end + 1)))
+Stops c (marker ∷ rest) r = ((marker ≢ 1) × (r ≡ Ok c)) ⊎ ((marker ≡ 1) × (first_batch rest ≡ None) × (r ≡ Err (c.end + 1)))
 
 -- what reading went over
 pub record IsReading (c : Content) (bytes : List ℕ) (r : Result Content ℕ) : Type 0 where
@@ -104,14 +104,14 @@ reading_of f c [] le h = record { batches = []; left = []; whole = refl; sound =
     nothing : (f : ℕ) → read_on f c [] ≡ Err c.end
     nothing zero = refl
     nothing (suc f) = refl
-reading_of zero c (gate ∷ bytes) le h = absurd (omega arith)
-reading_of (suc f) c (gate ∷ bytes) le h = elim (cases_eq gate 1) [
-  | inr shut ↦ record { batches = []; left = gate ∷ bytes; whole = refl; sound = tt; stops = inl (shut, read_on_shut (suc f) c gate bytes shut) }
+reading_of zero c (marker ∷ bytes) le h = absurd (omega arith)
+reading_of (suc f) c (marker ∷ bytes) le h = elim (cases_eq marker 1) [
+  | inr shut ↦ record { batches = []; left = marker ∷ bytes; whole = refl; sound = tt; stops = inl (shut, read_on_shut (suc f) c marker bytes shut) }
   | inl is_open ↦
-      let went : read_on (suc f) c (gate ∷ bytes) ≡ after_batch f c (first_batch bytes) = ap (λ (g : ℕ). read_on (suc f) c (g ∷ bytes)) is_open ∙ read_on_open f c bytes in
-      subst (IsReading c (gate ∷ bytes)) (sym went) (
-      elim (first_batch bytes) as (λ o. first_batch bytes ≡ o → IsReading c (gate ∷ bytes) (after_batch f c o)) [
-        | None ↦ λ e. record { batches = []; left = gate ∷ bytes; whole = refl; sound = tt; stops = inr (is_open, e, refl) }
+      let went : read_on (suc f) c (marker ∷ bytes) ≡ after_batch f c (first_batch bytes) = ap (λ (g : ℕ). read_on (suc f) c (g ∷ bytes)) is_open ∙ read_on_open f c bytes in
+      subst (IsReading c (marker ∷ bytes)) (sym went) (
+      elim (first_batch bytes) as (λ o. first_batch bytes ≡ o → IsReading c (marker ∷ bytes) (after_batch f c o)) [
+        | None ↦ λ e. record { batches = []; left = marker ∷ bytes; whole = refl; sound = tt; stops = inr (is_open, e, refl) }
         | Some b ↦ λ e.
             let is = payload_of_batch bytes b h.1 e in
             let short = batch_shorter bytes b e in

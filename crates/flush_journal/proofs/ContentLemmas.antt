@@ -1,4 +1,4 @@
--- A journal's file is a front and a closed gate, and what stands behind the front can be changed.
+-- A journal's file is a front and a closed marker, and what stands behind the front can be changed.
 use Rattle.std.proofs.Common.{◌≡◌, ◌≢◌, ℕ, ◌+◌, ◌≤◌, ◌<◌, ◌^◌, Bool, true, false, List, [], ◌∷◌, ◌++◌, length, take, drop, Option, Some, None, Result, Ok, Err, refl, sym, ◌∙◌, ap, arith, append_assoc, length-append, take-append-drop}
 use Rattle.std.specs.Prelude.{option_map, nat_le, ◌&&◌, slice_index, if◌then◌else◌}
 use Rattle.std.specs.Result.{result_ok}
@@ -31,13 +31,13 @@ first_outside_found at (r ∷ ranges) (b ∷ bytes) e = by_test (nat_le r.0 b &&
     by_test true e k = k e refl
     by_test false e k = absurd (cc)
 
--- a file is a front and a closed gate, and goes on from the front with any other bytes
+-- a file is a front and a closed marker, and goes on from the front with any other bytes
 pub record IsContent (bytes : List ℕ) (e : Content) : Type 0 where
   pub front : List ℕ
-  pub gate : ℕ
+  pub marker : ℕ
   pub back : List ℕ
-  pub whole : bytes ≡ front ++ gate ∷ back
-  pub shut : gate ≢ 1
+  pub whole : bytes ≡ front ++ marker ∷ back
+  pub shut : marker ≢ 1
   pub place : length front ≡ e.end
   pub on : (tail : List ℕ) → content (front ++ tail) ≡ read_on (length tail) e tail
 
@@ -76,9 +76,9 @@ content_header_found bytes e none is =
     let r = read_on_found (length bytes) (fresh (slice_index bytes 11)) (drop 16 bytes) e (omega (arith, long, ap length whole)) (sym (content-header bytes none) ∙ is) in
     record {
       front = take 16 bytes ++ r.front;
-      gate = r.gate;
+      marker = r.marker;
       back = r.back;
-      whole = sym whole ∙ ap (λ (l : List ℕ). take 16 bytes ++ l) r.whole ∙ sym (append_assoc (take 16 bytes) r.front (r.gate ∷ r.back));
+      whole = sym whole ∙ ap (λ (l : List ℕ). take 16 bytes ++ l) r.whole ∙ sym (append_assoc (take 16 bytes) r.front (r.marker ∷ r.back));
       shut = r.shut;
       place = length-append (take 16 bytes) r.front ∙ omega (arith, size, r.place);
       on = λ tail.
@@ -108,19 +108,19 @@ pub record IsFront (front : List ℕ) (c : Content) : Type 0 where
 pub front_of : (bytes : List ℕ) (c : Content) (is : IsContent bytes c) → IsFront is.front c
 front_of bytes c is = record { place = is.place; on = is.on }
 
--- a front that a closed gate makes a file is such a front
+-- a front that a closed marker makes a file is such a front
 pub front_closed : (front : List ℕ) (c : Content) → content (front ++ 0 ∷ []) ≡ Ok c → length front ≡ c.end → IsFront front c
 front_closed front c is place =
     let found = content_found (front ++ 0 ∷ []) c is in
     let same : found.front ≡ front =
-    sym (take_at found.front (found.gate ∷ found.back) c.end found.place) ∙ ap (take c.end) (sym found.whole) ∙ take_at front (0 ∷ []) c.end place in
+    sym (take_at found.front (found.marker ∷ found.back) c.end found.place) ∙ ap (take c.end) (sym found.whole) ∙ take_at front (0 ∷ []) c.end place in
     record { place = place; on = λ tail. ap (λ (l : List ℕ). content (l ++ tail)) (sym same) ∙ found.on tail }
 
--- a closed gate ends the file
-pub content-shut : (front : List ℕ) (c : Content) → IsFront front c → (gate : ℕ) (tail : List ℕ) → gate ≢ 1 → content (front ++ gate ∷ tail) ≡ Ok c
-content-shut front c is gate tail shut = is.on (gate ∷ tail) ∙ read_on_shut (length (gate ∷ tail)) c gate tail shut
+-- a closed marker ends the file
+pub content-shut : (front : List ℕ) (c : Content) → IsFront front c → (marker : ℕ) (tail : List ℕ) → marker ≢ 1 → content (front ++ marker ∷ tail) ≡ Ok c
+content-shut front c is marker tail shut = is.on (marker ∷ tail) ∙ read_on_shut (length (marker ∷ tail)) c marker tail shut
 
--- an open gate and a whole frame are one batch more
+-- an open marker and a whole frame are one batch more
 pub content-opened : (front : List ℕ) (c : Content) → IsFront front c → (p : List ℕ) (rs : List Record) → length p < 2 ^ 64 → records_of p ≡ Some rs
     → (tail : List ℕ) → content (front ++ 1 ∷ (framed p ++ tail)) ≡ Ok (grown c (length p) rs)
 content-opened front c is p rs small are tail =

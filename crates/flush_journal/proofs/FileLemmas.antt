@@ -85,7 +85,7 @@ first_batch-framed p tail rs small are =
     ∙ ap (option_and_then behind_number) (cut_number_8-append (length p) (p ++ 0 ∷ tail) small)
     ∙ behind_number-cut (length p) p (0 ∷ tail) rs refl are
 
--- what is read behind an open gate
+-- what is read behind an open marker
 abbrev pub after_batch : ℕ → Content → Option Framed → Result Content ℕ
 after_batch steps c o = elim o [ None ↦ Err (c.end + 1) | Some b ↦ read_on steps (grown c b.size b.records) b.rest ]
 
@@ -93,10 +93,10 @@ pub read_on_open : (steps : ℕ) (c : Content) (bytes : List ℕ) → read_on (s
 unfolding read_on
 read_on_open steps c bytes = refl
 
-pub read_on_shut : (steps : ℕ) (c : Content) (gate : ℕ) (bytes : List ℕ) → gate ≢ 1 → read_on steps c (gate ∷ bytes) ≡ Ok c
+pub read_on_shut : (steps : ℕ) (c : Content) (marker : ℕ) (bytes : List ℕ) → marker ≢ 1 → read_on steps c (marker ∷ bytes) ≡ Ok c
 unfolding read_on
-read_on_shut zero c gate bytes shut = cond-false (eqb gate 1) (Err (c.end + 1)) (Ok c) (grind (arith, nat_tests))
-read_on_shut (suc steps) c gate bytes shut = cond-false (eqb gate 1) (after_batch steps c (first_batch bytes)) (Ok c) (grind (arith, nat_tests))
+read_on_shut zero c marker bytes shut = cond-false (eqb marker 1) (Err (c.end + 1)) (Ok c) (grind (arith, nat_tests))
+read_on_shut (suc steps) c marker bytes shut = cond-false (eqb marker 1) (after_batch steps c (first_batch bytes)) (Ok c) (grind (arith, nat_tests))
 
 pub batch_shorter : (bytes : List ℕ) (b : Framed) → first_batch bytes ≡ Some b → length b.rest + 8 ≤ length bytes
 batch_shorter bytes b e = let is = first_batch_found bytes b e in omega (arith, is.size, ap length is.whole, length-append is.body b.rest)
@@ -108,10 +108,10 @@ read_on_steps f g c [] hf hg = nothing f ∙ sym (nothing g)
   where
     nothing : (f : ℕ) → read_on f c [] ≡ Err c.end
     nothing f = refl
-read_on_steps zero g c (gate ∷ bytes) hf hg = absurd (omega arith)
-read_on_steps (suc f) zero c (gate ∷ bytes) hf hg = absurd (omega arith)
-read_on_steps (suc f) (suc g) c (gate ∷ bytes) hf hg =
-    ap (λ (r : Result Content ℕ). if gate == 1 then r else Ok c) (
+read_on_steps zero g c (marker ∷ bytes) hf hg = absurd (omega arith)
+read_on_steps (suc f) zero c (marker ∷ bytes) hf hg = absurd (omega arith)
+read_on_steps (suc f) (suc g) c (marker ∷ bytes) hf hg =
+    ap (λ (r : Result Content ℕ). if marker == 1 then r else Ok c) (
     elim (first_batch bytes) as (λ o. first_batch bytes ≡ o → after_batch f c o ≡ after_batch g c o) [
       | None ↦ λ e. refl
       | Some b ↦ λ e.
@@ -119,13 +119,13 @@ read_on_steps (suc f) (suc g) c (gate ∷ bytes) hf hg =
           read_on_steps f g (grown c b.size b.records) b.rest (omega (arith, short)) (omega (arith, short))
     ] refl)
 
--- what is read ends at a closed gate, and goes on from there with any other bytes
+-- what is read ends at a closed marker, and goes on from there with any other bytes
 pub record IsRead (c : Content) (bytes : List ℕ) (e : Content) : Type 0 where
   pub front : List ℕ
-  pub gate : ℕ
+  pub marker : ℕ
   pub back : List ℕ
-  pub whole : bytes ≡ front ++ gate ∷ back
-  pub shut : gate ≢ 1
+  pub whole : bytes ≡ front ++ marker ∷ back
+  pub shut : marker ≢ 1
   pub place : c.end + length front ≡ e.end
   pub on : (tail : List ℕ) (g : ℕ) → length (front ++ tail) ≤ g → read_on g c (front ++ tail) ≡ read_on (length tail) e tail
 
@@ -133,13 +133,13 @@ pub read_on_found : (f : ℕ) (c : Content) (bytes : List ℕ) (e : Content) →
 unfolding read_on
 read_on_found zero c [] e h is = absurd (cc)
 read_on_found (suc f) c [] e h is = absurd (cc)
-read_on_found zero c (gate ∷ bytes) e h is = absurd (omega arith)
-read_on_found (suc f) c (gate ∷ bytes) e h is = elim (cases_eq gate 1) [
+read_on_found zero c (marker ∷ bytes) e h is = absurd (omega arith)
+read_on_found (suc f) c (marker ∷ bytes) e h is = elim (cases_eq marker 1) [
   | inr shut ↦
-      let same : c ≡ e = (let ends : Ok c ≡ Ok e = sym (cond-false (eqb gate 1) (after_batch f c (first_batch bytes)) (Ok c) (grind (arith, nat_tests))) ∙ is in cc) in
-      subst (IsRead c (gate ∷ bytes)) same (record {
+      let same : c ≡ e = (let ends : Ok c ≡ Ok e = sym (cond-false (eqb marker 1) (after_batch f c (first_batch bytes)) (Ok c) (grind (arith, nat_tests))) ∙ is in cc) in
+      subst (IsRead c (marker ∷ bytes)) same (record {
         front = [];
-        gate = gate;
+        marker = marker;
         back = bytes;
         whole = refl;
         shut = shut;
@@ -147,8 +147,8 @@ read_on_found (suc f) c (gate ∷ bytes) e h is = elim (cases_eq gate 1) [
         on = λ tail g le. read_on_steps g (length tail) c tail le (omega arith);
       })
   | inl is_open ↦
-      let went : after_batch f c (first_batch bytes) ≡ Ok e = sym (cond-true (eqb gate 1) (after_batch f c (first_batch bytes)) (Ok c) (grind (arith, nat_tests))) ∙ is in
-      elim (first_batch bytes) as (λ o. first_batch bytes ≡ o → after_batch f c o ≡ Ok e → IsRead c (gate ∷ bytes) e) [
+      let went : after_batch f c (first_batch bytes) ≡ Ok e = sym (cond-true (eqb marker 1) (after_batch f c (first_batch bytes)) (Ok c) (grind (arith, nat_tests))) ∙ is in
+      elim (first_batch bytes) as (λ o. first_batch bytes ≡ o → after_batch f c o ≡ Ok e → IsRead c (marker ∷ bytes) e) [
         | None ↦ λ no w. absurd (cc)
         | Some b ↦ λ be w.
             let batch = first_batch_found bytes b be in
@@ -156,9 +156,9 @@ read_on_found (suc f) c (gate ∷ bytes) e h is = elim (cases_eq gate 1) [
             let r = read_on_found f (grown c b.size b.records) b.rest e (omega (arith, short)) w in
             record {
               front = 1 ∷ (batch.body ++ r.front);
-              gate = r.gate;
+              marker = r.marker;
               back = r.back;
-              whole = (λ i. is_open i ∷ batch.whole i) ∙ ap (λ (l : List ℕ). 1 ∷ (batch.body ++ l)) r.whole ∙ ap (λ (l : List ℕ). 1 ∷ l) (sym (append_assoc batch.body r.front (r.gate ∷ r.back)));
+              whole = (λ i. is_open i ∷ batch.whole i) ∙ ap (λ (l : List ℕ). 1 ∷ (batch.body ++ l)) r.whole ∙ ap (λ (l : List ℕ). 1 ∷ l) (sym (append_assoc batch.body r.front (r.marker ∷ r.back)));
               shut = r.shut;
               place = omega (arith, length-append batch.body r.front, batch.size, r.place);
               on = λ tail g le. go_on batch r tail g le;

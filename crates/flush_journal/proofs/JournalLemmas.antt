@@ -4,7 +4,7 @@ use Rattle.edge_traits.specs.Disks.{Only}
 use Rattle.flush_journal.specs.Records.{Record, Held, records_of, encoded_all, put_all}
 use Rattle.flush_journal.specs.Files.{Content, content}
 use Rattle.flush_journal.specs.Frames.{frame_of, need_of}
-use Rattle.flush_journal.specs.Gates.{Shut, Opened, Either, OnlyHas, EndsShut}
+use Rattle.flush_journal.specs.Markers.{Shut, Opened, Either, OnlyHas, EndsShut}
 use Rattle.flush_journal.specs.Standing.{with_batch, HasEither, HoldsEither}
 use Rattle.flush_journal.proofs.ContentLemmas.{content_found, IsFront, front_of, content-shut, content-opened, held-content}
 use Rattle.flush_journal.proofs.BatchLemmas.{length-framed, ends_shut}
@@ -18,7 +18,7 @@ pub record Start (reads : List ℕ) (images : List ℕ → Type 0) (c : Content)
 pub start_of : (reads : List ℕ) (images : List ℕ → Type 0) (c : Content) → content reads ≡ Ok c → Only reads images → Start reads images c
 start_of reads images c is only =
     let found = content_found reads c is in
-    record { front = found.front; is_front = front_of reads c found; has = record { now = (found.gate, found.back, found.shut, found.whole); only = only } }
+    record { front = found.front; is_front = front_of reads c found; has = record { now = (found.marker, found.back, found.shut, found.whole); only = only } }
 
 -- records that a batch can have
 pub record AreBatch (rs : List Record) : Type 0 where
@@ -30,7 +30,7 @@ pub length-frame_of : (rs : List Record) → rs ≢ [] → length (frame_of rs) 
 length-frame_of [] some = absurd (some refl)
 length-frame_of (r ∷ rs) some = length-framed (encoded_all (r ∷ rs))
 
--- what a batch needs is its frame and the gate before it
+-- what a batch needs is its frame and the marker before it
 pub need_of-size : (rs : List Record) (frame : List ℕ) → rs ≢ [] → frame ≡ frame_of rs → length frame + 1 ≡ need_of rs
 need_of-size rs frame some is = ap (λ (l : List ℕ). length l + 1) is ∙ omega (arith, length-frame_of rs some)
 

@@ -8,7 +8,7 @@ use Rattle.flush_journal.specs.Batches.{records, owed_size}
 use Rattle.flush_journal.specs.Records.{Record, records_of, encoded_all}
 use Rattle.flush_journal.specs.Files.{Content}
 use Rattle.flush_journal.specs.Frames.{frame_of}
-use Rattle.flush_journal.specs.Gates.{Opened, Either, AllHave, OnlyHas}
+use Rattle.flush_journal.specs.Markers.{Opened, Either, AllHave, OnlyHas}
 use Rattle.flush_journal.specs.Moments.{Leaves}
 use Rattle.flush_journal.specs.Standing.{pending_of, with_batch, Numbers, IsSettled, IsOwed, HasEither}
 use Rattle.flush_journal.proofs.ContentLemmas.{IsFront, content-shut}

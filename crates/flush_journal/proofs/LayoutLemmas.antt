@@ -4,7 +4,7 @@ use Rattle.std.specs.Prelude.{slice_index}
 use Rattle.flush_journal.specs.Records.{Record}
 use Rattle.flush_journal.specs.Files.{Content, header_ranges, first_outside, read_on, fresh, content}
 use Rattle.flush_journal.specs.Blocks.{header_bytes, blocks, IsJournal, IsLeft, IsFault}
-use Rattle.flush_journal.specs.Blocks.IsFault.{no_header, no_gate, no_payload}
+use Rattle.flush_journal.specs.Blocks.IsFault.{no_header, no_marker, no_payload}
 use Rattle.flush_journal.proofs.FileLemmas.{after_batch, read_on_open, read_on_shut}
 use Rattle.flush_journal.proofs.ContentLemmas.{content-header, content-outside}
 use Rattle.flush_journal.proofs.EncodingLemmas.{Bytes, bytes_parts}
@@ -31,8 +31,8 @@ laid_read lanes bs left some few h =
 pub journal_read : (bytes : List ℕ) (c : Content) → IsJournal bytes c → content bytes ≡ Ok c
 journal_read bytes c is =
     let bs = is.batches in
-    ap content is.whole ∙ laid_read c.lanes bs (is.gate ∷ is.rest) is.some_lane is.few_lanes (each_batch bs is.sound)
-    ∙ read_on_shut (length (is.gate ∷ is.rest)) (grown_all (fresh c.lanes) bs) is.gate is.rest is.shut
+    ap content is.whole ∙ laid_read c.lanes bs (is.marker ∷ is.rest) is.some_lane is.few_lanes (each_batch bs is.sound)
+    ∙ read_on_shut (length (is.marker ∷ is.rest)) (grown_all (fresh c.lanes) bs) is.marker is.rest is.shut
     ∙ ap (λ (x : Content). Ok x) (same_content (grown_all (fresh c.lanes) bs) c
     (grown_version (fresh c.lanes) bs ∙ sym is.version) (grown_lanes (fresh c.lanes) bs) (omega (arith, grown_count (fresh c.lanes) bs, is.count))
     (grown_end (fresh c.lanes) bs ∙ sym is.end) (grown_held (fresh c.lanes) bs ∙ sym is.held))
@@ -47,7 +47,7 @@ left_read bytes left is = ap content is.whole ∙ laid_read is.lanes is.batches 
 pub fault_read : (bytes : List ℕ) (at : ℕ) → Bytes bytes → IsFault bytes at → content bytes ≡ Err at
 unfolding read_on
 fault_read bytes at h (no_header few before here) = content-outside bytes at (begins_outside bytes at few before here)
-fault_read bytes at h (no_gate is place) =
+fault_read bytes at h (no_marker is place) =
     left_read bytes [] is ∙ ap (λ (n : ℕ). Err n) (omega (arith, place, ap length is.whole, laid_length is.lanes is.batches [] is.few_lanes))
 fault_read bytes at h (no_payload rest is none place) =
     let c = grown_all (fresh is.lanes) is.batches in
@@ -65,15 +65,15 @@ stopped : (bytes left : List ℕ) (lanes : ℕ) (bs : List (List Record)) (r : R
 unfolding Stops Says
 stopped bytes [] lanes bs r whole some few h stops =
     subst (Says bytes) (sym stops)
-    (no_gate (record { lanes = lanes; batches = bs; whole = whole; sound = all_batches bs h; some_lane = some; few_lanes = few }) (omega (arith, ap length whole, laid_length lanes bs [] few)))
-stopped bytes (gate ∷ rest) lanes bs r whole some few h (inl shut) =
+    (no_marker (record { lanes = lanes; batches = bs; whole = whole; sound = all_batches bs h; some_lane = some; few_lanes = few }) (omega (arith, ap length whole, laid_length lanes bs [] few)))
+stopped bytes (marker ∷ rest) lanes bs r whole some few h (inl shut) =
     let c = grown_all (fresh lanes) bs in
     let same : lanes ≡ c.lanes = sym (grown_lanes (fresh lanes) bs) in
     subst (Says bytes) (sym shut.1) (record {
       batches = bs;
-      gate = gate;
+      marker = marker;
       rest = rest;
-      whole = whole ∙ ap (λ (n : ℕ). header_bytes n ++ blocks bs ++ gate ∷ rest) same;
+      whole = whole ∙ ap (λ (n : ℕ). header_bytes n ++ blocks bs ++ marker ∷ rest) same;
       sound = all_batches bs h;
       shut = shut.0;
       version = grown_version (fresh lanes) bs;
@@ -83,7 +83,7 @@ stopped bytes (gate ∷ rest) lanes bs r whole some few h (inl shut) =
       end = grown_end (fresh lanes) bs;
       held = grown_held (fresh lanes) bs;
     })
-stopped bytes (gate ∷ rest) lanes bs r whole some few h (inr bad) =
+stopped bytes (marker ∷ rest) lanes bs r whole some few h (inr bad) =
     let c = grown_all (fresh lanes) bs in
     let is : bytes ≡ header_bytes lanes ++ blocks bs ++ 1 ∷ rest = whole ∙ ap (λ (g : ℕ). header_bytes lanes ++ blocks bs ++ g ∷ rest) bad.0 in
     subst (Says bytes) (sym bad.2)

@@ -1,12 +1,12 @@
 pub mod RecordLemmas
 pub mod FileLemmas
 pub mod ContentLemmas
-pub mod GateLemmas
+pub mod MarkerLemmas
 pub mod Moments
 pub mod Results
 pub mod Unchanged
 pub mod Fronts
-pub mod EndGates
+pub mod EndMarkers
 pub mod BatchLemmas
 pub mod JournalLemmas
 pub mod JournalStates
@@ -20,3 +20,5 @@ pub mod BlockLemmas
 pub mod LayoutLemmas
 pub mod KeptLemmas
 pub mod PutLemmas
+pub mod OfCuts
+pub mod OfKeepings

@@ -91,7 +91,7 @@ outside_front at [] bytes = nothing (take 0 bytes) ∙ sym (nothing bytes)
 outside_front at (r ∷ ranges) [] = refl
 outside_front at (r ∷ ranges) (b ∷ bytes) = ap (λ (o : Option ℕ). if nat_le r.0 b && nat_le b r.1 then o else Some at) (outside_front (at + 1) ranges bytes)
 
--- a batch behind an open gate
+-- a batch behind an open marker
 
 pub no_length_field : (bytes : List ℕ) → length bytes < 8 → first_batch bytes ≡ None
 unfolding behind_number
@@ -126,15 +126,15 @@ payload_cut bytes n is long =
     payload_of_batch bytes n is
     ∙ ap (option_and_then (λ (p : List ℕ × List ℕ). option_and_then (λ (rs : List Record). Some (record { size = n; records = rs; rest = p.1 })) (records_of p.0))) (cut_enough n (drop 8 bytes) long)
 
-behind_gate : (file : List ℕ) (at : ℕ) → at + 1 + 8 ≤ length file → 8 ≤ length (drop (at + 1) file)
-behind_gate file at long = omega (arith, length-drop (at + 1) file)
+behind_marker : (file : List ℕ) (at : ℕ) → at + 1 + 8 ≤ length file → 8 ≤ length (drop (at + 1) file)
+behind_marker file at long = omega (arith, length-drop (at + 1) file)
 
 pub number_found : (file slice rest : List ℕ) (at n : ℕ) → slice ≡ take 8 (drop (at + 1) file) → at + 1 + 8 ≤ length file → Some (n, rest) ≡ cut_number_8 slice
     → cut_number_8 (drop (at + 1) file) ≡ Some (n, drop 8 (drop (at + 1) file))
-number_found file slice rest at n is long read = length_field (drop (at + 1) file) rest n (behind_gate file at long) (read ∙ ap cut_number_8 is)
+number_found file slice rest at n is long read = length_field (drop (at + 1) file) rest n (behind_marker file at long) (read ∙ ap cut_number_8 is)
 
 pub number_missing : (file slice : List ℕ) (at : ℕ) → slice ≡ take 8 (drop (at + 1) file) → at + 1 + 8 ≤ length file → None ≡ cut_number_8 slice → ⊥
-number_missing file slice at is long none = some_number (drop (at + 1) file) (behind_gate file at long) (none ∙ ap cut_number_8 is)
+number_missing file slice at is long none = some_number (drop (at + 1) file) (behind_marker file at long) (none ∙ ap cut_number_8 is)
 
 -- what the payload's records say, where it is whole
 pub payload_is : (file : List ℕ) (at n : ℕ) (old new : Held) (whole : Bool) → cut_number_8 (drop (at + 1) file) ≡ Some (n, drop 8 (drop (at + 1) file)) → at + 9 + n ≤ length file
@@ -159,7 +159,7 @@ payload_is file at n old new whole is long read =
           )
     ] refl read
 
--- what is read from a gate on
+-- what is read from a marker on
 
 pub read_missing : (c : Content) (file : List ℕ) (at : ℕ) → length file ≤ at → read_from c (drop at file) ≡ Err c.end
 unfolding read_on

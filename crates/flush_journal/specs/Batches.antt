@@ -10,7 +10,7 @@ records b = framed_records b.frame.items
 abbrev pub spare : Batch → ℕ
 spare b = vec_capacity b.frame - max 9 (vec_len b.frame)
 
--- how many bytes the batch that is pending takes behind its gate
+-- how many bytes the batch that is pending takes behind its marker
 abbrev pub owed_size : Option Batch → ℕ
 owed_size None = 0
 owed_size (Some b) = length (frame_of (records b))

@@ -1,5 +1,5 @@
--- A journal's file as it is laid out: a header, whole blocks one behind the other, a gate that isn't open, and anything.
---     A block is an open gate, eight bytes payload length, and the payload, which is the encoding of its records.
+-- A journal's file as it is laid out: a header, whole blocks one behind the other, a marker that isn't open, and anything.
+--     A block is an open marker, eight bytes payload length, and the payload, which is the encoding of its records.
 use Rattle.std.specs.Prelude.{◌≡◌, ◌≢◌, ℕ, ◌+◌, ◌^◌, ◌<◌, ◌≤◌, List, [], ◌∷◌, ◌++◌, length, take, All}
 use Rattle.std.specs.List.{sum_by, flat_map}
 use Rattle.std.specs.FinMap as map
@@ -27,11 +27,11 @@ pub record IsBatch (records : List Record) : Type 0 where
 -- a file with this content
 pub record IsJournal (bytes : List ℕ) (c : Content) : Type 0 where
   pub batches : List (List Record)
-  pub gate : ℕ
+  pub marker : ℕ
   pub rest : List ℕ
-  pub whole : bytes ≡ header_bytes c.lanes ++ blocks batches ++ gate ∷ rest
+  pub whole : bytes ≡ header_bytes c.lanes ++ blocks batches ++ marker ∷ rest
   pub sound : All IsBatch batches
-  pub shut : gate ≢ 1
+  pub shut : marker ≢ 1
   pub version : c.version ≡ 1
   pub some_lane : 1 ≤ c.lanes
   pub few_lanes : c.lanes ≤ 16
@@ -61,8 +61,8 @@ abbrev pub HasNoPayload : List ℕ → Type 0
 HasNoPayload bytes = (records : List Record) (rest : List ℕ) → IsBatch records → bytes ≢ payload_bytes records ++ rest
 
 -- A file is no journal for what stands at a place: the first byte that differs from a header; or, behind whole blocks, the file's
--- length where a gate is missing, or the place of the length behind an open gate that has no whole payload of records.
+-- length where a marker is missing, or the place of the length behind an open marker that has no whole payload of records.
 pub data IsFault (bytes : List ℕ) (at : ℕ) : Type 0 where
   no_header : at < 16 → BeginsHeader bytes at → (BeginsHeader bytes (at + 1) → ⊥) → IsFault bytes at
-  no_gate : IsLeft bytes [] → at ≡ length bytes → IsFault bytes at
+  no_marker : IsLeft bytes [] → at ≡ length bytes → IsFault bytes at
   no_payload : (rest : List ℕ) → IsLeft bytes (1 ∷ rest) → HasNoPayload rest → at + length rest ≡ length bytes → IsFault bytes at

@@ -1,7 +1,7 @@
 -- What the bytes of a journal's file stand for.
 --     A header of 16 bytes: the magic, four bytes lanes (1 to 16), four zero bytes. Then batches.
---     A batch is its gate, eight bytes payload length, the payload; behind it stands the next gate. A gate is open exactly
---     where it is 1. The first closed gate is the end, and bytes after it mean nothing.
+--     A batch is its marker, eight bytes payload length, the payload; behind it stands the next marker. A marker is open exactly
+--     where it is 1. The first closed marker is the end, and bytes after it mean nothing.
 use Rattle.std.specs.Prelude.{ℕ, zero, suc, ◌+◌, List, [], ◌∷◌, ◌++◌, length, drop, slice_index, Option, Some, None, Result, Ok, Err, option_map, nat_le, ◌&&◌, ◌==◌, if◌then◌else◌}
 use Rattle.std.specs.Result.{result_ok}
 use Rattle.std.specs.FinMap as map
@@ -26,7 +26,7 @@ first_outside at [] bytes = None
 first_outside at (r ∷ ranges) [] = Some at
 first_outside at (r ∷ ranges) (b ∷ bytes) = if nat_le r.0 b && nat_le b r.1 then first_outside (at + 1) ranges bytes else Some at
 
--- what a file holds, and its numbers: `end` is the place of the first closed gate
+-- what a file holds, and its numbers: `end` is the place of the first closed marker
 pub record Content : Type 0 where
   pub version : ℕ
   pub lanes : ℕ
@@ -34,7 +34,7 @@ pub record Content : Type 0 where
   pub end : ℕ
   pub held : Held
 
--- the batch behind an open gate: its payload's length, its records, and what follows
+-- the batch behind an open marker: its payload's length, its records, and what follows
 pub record Framed : Type 0 where
   pub size : ℕ
   pub records : List Record
@@ -58,17 +58,17 @@ grown c size records = record {
   held = put_all records c.held;
 }
 
--- What stands from the gate at c.end on, where c is what stands before it, in at most as many batches as steps. An error is the
--- place of the length of an open batch whose payload isn't whole or is no list of records, or that of a missing gate.
+-- What stands from the marker at c.end on, where c is what stands before it, in at most as many batches as steps. An error is the
+-- place of the length of an open batch whose payload isn't whole or is no list of records, or that of a missing marker.
 unfoldable pub read_on : ℕ → Content → List ℕ → Result Content ℕ
 read_on steps c [] = Err c.end
-read_on zero c (gate ∷ bytes) = if gate == 1 then Err (c.end + 1) else Ok c
-read_on (suc steps) c (gate ∷ bytes) =
-    if gate == 1
+read_on zero c (marker ∷ bytes) = if marker == 1 then Err (c.end + 1) else Ok c
+read_on (suc steps) c (marker ∷ bytes) =
+    if marker == 1
     then elim (first_batch bytes) [ None ↦ Err (c.end + 1) | Some b ↦ read_on steps (grown c b.size b.records) b.rest ]
     else Ok c
 
--- a file of version 1 with this many lanes, before its first gate
+-- a file of version 1 with this many lanes, before its first marker
 abbrev pub fresh : ℕ → Content
 fresh lanes = record { version = 1; lanes = lanes; batches = 0; end = 16; held = map.empty }
 

@@ -1,4 +1,4 @@
--- A batch as it is written: its payload with its length in front and a closed gate behind.
+-- A batch as it is written: its payload with its length in front and a closed marker behind.
 use Rattle.std.specs.Prelude.{ℕ, ◌+◌, ◌-◌, List, [], ◌∷◌, ◌++◌, length, take, drop, unwrap_or}
 use Rattle.flush_journal.specs.Records.{Record, records_of, encoded_all, eight_bytes}
 
@@ -22,6 +22,6 @@ payload_of frame = take (length frame - 9) (drop 8 frame)
 unfoldable pub framed_records : List ℕ → List Record
 framed_records frame = unwrap_or (records_of (payload_of frame)) []
 
--- how many bytes a batch with these records adds to a journal behind its end, the gate at the end among them
+-- how many bytes a batch with these records adds to a journal behind its end, the marker at the end among them
 abbrev pub need_of : List Record → ℕ
 need_of rs = length (encoded_all rs) + 10

@@ -2,7 +2,7 @@ pub mod Files
 pub mod Batches
 pub mod Blocks
 pub mod Frames
-pub mod Gates
+pub mod Markers
 pub mod Moments
 pub mod Reports
 pub mod Reading
@@ -14,5 +14,7 @@ pub mod Unchanged
 pub mod Readers
 pub use Rattle.edge_traits.specs.Disks
 pub use Rattle.edge_traits.specs.Causes
-pub use Rattle.text_maps.specs.Keyed
-pub use Rattle.text_maps.specs.Nexts
+pub use Rattle.containers.specs.TextMaps.Keyed
+pub use Rattle.containers.specs.TextMaps.Nexts
+pub mod Cuts
+pub mod Keepings

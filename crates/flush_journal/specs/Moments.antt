@@ -7,3 +7,7 @@ pub record Leaves {D : Type 0} (met : Ghosts D) (old new : D) (P : List ℕ → 
   pub later : met.moment old ≤ met.moment new
   pub each : (c : List ℕ) → met.left_since new (met.moment old) c → P c
   pub before : (t : ℕ) (c : List ℕ) → t ≤ met.moment old → met.left_since new t c → met.left_since old t c ⊎ P c
+
+-- since a disk as it was, whatever a crash leaves is an image of it or has P
+abbrev pub LeavesSince : {D : Type 0} → Ghosts D → D → D → (List ℕ → Type 0) → Type 0
+LeavesSince met before after P = Leaves met before after (λ file. met.images before file ⊎ P file)

@@ -3,8 +3,8 @@ use Rattle.std.specs.Prelude.{◌≡◌, ◌≢◌, ℕ, ◌+◌, ◌<◌, ◌�
 use Rattle.edge_traits.specs.Causes.{Rose}
 use Rattle.flush_journal.specs.Records.{Record, Held, put_all}
 use Rattle.flush_journal.specs.Files.{Content, content, first_batch, read_on}
-use Rattle.flush_journal.specs.declared.read.Gate.{Gate}
-use Rattle.flush_journal.specs.declared.read.Gate.TheVariants.{Missing, Closed, Open}
+use Rattle.flush_journal.specs.declared.read.Marker.{Marker}
+use Rattle.flush_journal.specs.declared.read.Marker.TheVariants.{Missing, Closed, Open}
 use Rattle.flush_journal.specs.declared.report.Report.{Report}
 use Rattle.flush_journal.specs.declared.why.Why.{Why}
 use Rattle.flush_journal.specs.declared.why.Why.TheVariants.{DiskFault, NotAJournal, JournalFull, Exists, NoMemory}
@@ -26,17 +26,17 @@ MayRefuseReading told file before now Exists = ⊥
 abbrev pub content_of : Report → Held → Content
 content_of r held = record { version = r.version; lanes = r.lanes; batches = r.batches; end = r.end; held = held }
 
--- what is read from a gate on, where c is what stands before it
+-- what is read from a marker on, where c is what stands before it
 abbrev pub read_from : Content → List ℕ → Result Content ℕ
 read_from c bytes = read_on (length bytes) c bytes
 
--- the gate at a place
-abbrev pub GateIs : List ℕ → ℕ → Gate → Type 0
-GateIs file at Missing = length file ≤ at
-GateIs file at Closed = (at < length file) × (slice_index file at ≢ 1)
-GateIs file at Open = (at < length file) × (slice_index file at ≡ 1)
+-- the marker at a place
+abbrev pub MarkerIs : List ℕ → ℕ → Marker → Type 0
+MarkerIs file at Missing = length file ≤ at
+MarkerIs file at Closed = (at < length file) × (slice_index file at ≢ 1)
+MarkerIs file at Open = (at < length file) × (slice_index file at ≡ 1)
 
--- the batch behind an open gate, and what a map was and is
+-- the batch behind an open marker, and what a map was and is
 abbrev pub PayloadIs : List ℕ → ℕ → Held → Held → Option ℕ → Type 0
 PayloadIs file at old new None = first_batch (drop (at + 1) file) ≡ None
 PayloadIs file at old new (Some size) = (rs : List Record)

@@ -23,7 +23,7 @@ Answers end need room before now (Err why) = MayRefuse end need room before now 
 abbrev pub NoMagic : Type 0 → List ℕ → Type 0
 NoMagic told file = told → take 8 file ≢ magic
 
--- Making a journal may be refused so: where one stands, else where there is no room for the header and a gate, and by a fault only
+-- Making a journal may be refused so: where one stands, else where there is no room for the header and a marker, and by a fault only
 -- where the count rose.
 abbrev pub MayRefuseCreate : Type 0 → List ℕ → (room before now : ℕ) → Why → Type 0
 MayRefuseCreate told file room before now DiskFault = Rose before now

@@ -4,7 +4,7 @@ use Rattle.edge_traits.specs.declared.disk.Disk.{Ghosts}
 use Rattle.edge_traits.specs.Disks.{Only}
 use Rattle.flush_journal.specs.Records.{Record, Held, encoded_all}
 use Rattle.flush_journal.specs.Frames.{frame_of}
-use Rattle.flush_journal.specs.Gates.{Either}
+use Rattle.flush_journal.specs.Markers.{Either}
 use Rattle.flush_journal.specs.Files.{Content, content, held, grown}
 use Rattle.flush_journal.specs.Batches.{records}
 use Rattle.flush_journal.specs.declared.journal.Journal.{Journal}
@@ -17,7 +17,7 @@ disk_of j = j.disk
 abbrev pub numbers_of : {D : Type 0} {met : Ghosts D} → Journal D met → Report
 numbers_of j = j.numbers
 
--- the place of the closed gate
+-- the place of the closed marker
 abbrev pub end_of : {D : Type 0} {met : Ghosts D} → Journal D met → ℕ
 end_of j = j.numbers.end
 
@@ -52,7 +52,7 @@ HasEither c d bytes = (content bytes ≡ Ok c) ⊎ (content bytes ≡ Ok d)
 abbrev pub HoldsEither : Held → Held → List ℕ → Type 0
 HoldsEither m n bytes = (held bytes ≡ Some m) ⊎ (held bytes ≡ Some n)
 
--- what reads give, and each image, goes on behind one front: with a closed gate, or with the whole batch
+-- what reads give, and each image, goes on behind one front: with a closed marker, or with the whole batch
 pub record IsCut (reads : List ℕ) (images : List ℕ → Type 0) (c : Content) (rs : List Record) : Type 0 where
   pub front : List ℕ
   pub closed : content (front ++ 0 ∷ []) ≡ Ok c

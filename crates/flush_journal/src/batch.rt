@@ -9,11 +9,11 @@ use std::alloc::{AllocError, Global};
 // How many bytes stand in front of a payload: its length.
 const FRONT: usize = 8;
 
-// How many bytes a frame has beside its payload: the length, and a closed gate.
+// How many bytes a frame has beside its payload: the length, and a closed marker.
 const BESIDE: usize = FRONT + 1;
 
 /// Records in the order in which they were put in. Its bytes stand as `Journal::append` writes them: no byte, or the
-/// payload with its length in front and a closed gate behind.
+/// payload with its length in front and a closed marker behind.
 #[derive(Drop)]
 pub struct Batch {
     frame: Vec<u8>,
@@ -117,7 +117,7 @@ fn extend_reserved(frame: &mut Vec<u8>, bytes: &[u8])
     let _ = frame.extend_from_slice(bytes);
 }
 
-// Takes the closed gate off a frame; no frame becomes the room for a length.
+// Takes the closed marker off a frame; no frame becomes the room for a length.
 fn open_frame(frame: &mut Vec<u8>)
     requires room { 8 ≤ vec_capacity frame.old }
     ensures payload { drop 8 frame.new.items ≡ payload_of frame.old.items }
@@ -132,7 +132,7 @@ fn open_frame(frame: &mut Vec<u8>)
     }
 }
 
-// Puts the closed gate behind a payload, and its length in front.
+// Puts the closed marker behind a payload, and its length in front.
 fn close_frame(frame: &mut Vec<u8>)
     requires room { vec_len frame.old < vec_capacity frame.old }
     requires front { 8 ≤ vec_len frame.old }

@@ -2,7 +2,7 @@
 ghost use Rattle.std.specs.Prelude.{◌≡◌, ◌≢◌, ◌+◌, ◌<◌, ◌≤◌, ◌↔◌, ◌++◌, take, drop, IfOk, IfErr, OnOk, OnErr, Ok, IsTrue};
 ghost use Rattle.edge_traits.specs.Disks.{Only};
 ghost use Rattle.flush_journal.specs.Files.{magic, content, fresh};
-ghost use Rattle.flush_journal.specs.Gates.{GateStands};
+ghost use Rattle.flush_journal.specs.Markers.{MarkerStands};
 ghost use Rattle.flush_journal.specs.Unchanged.{SameBytes, SameDisk, TornFront};
 ghost use Rattle.flush_journal.specs.Refusals.{new_file, NoMagic, MayRefuseCreate};
 
@@ -10,7 +10,7 @@ use crate::Why;
 use crate::header::{HEADER_SIZE, MAGIC};
 use edge_traits::Disk;
 
-// How many bytes a new journal has: the header and a closed gate.
+// How many bytes a new journal has: the header and a closed marker.
 const NEW_SIZE: u64 = HEADER_SIZE + 1;
 
 // Whether a disk begins with a journal's first bytes.
@@ -26,7 +26,7 @@ fn has_magic<D: Disk>(disk: &mut D) -> Result<bool, Why>
     Ok(count == 8 && first == MAGIC)
 }
 
-// Writes the header and a closed gate, where no journal stands, and syncs.
+// Writes the header and a closed marker, where no journal stands, and syncs.
 pub fn write_new<D: Disk>(disk: &mut D, lanes: u32) -> Result<(), Why>
     requires few { lanes ≤ 16 }
     ensures file { D.honest → OnOk result

@@ -8,7 +8,7 @@ pub const VERSION: u32 = 1;
 /// A journal begins with these bytes.
 pub const MAGIC: [u8; 8] = *b"hsdsjrn1";
 
-/// The place of the first gate.
+/// The place of the first marker.
 pub const HEADER_SIZE: u64 = 16;
 
 // The least and the greatest byte at each place of the header: the magic, the lanes and zeros.

@@ -4,7 +4,7 @@ ghost use Rattle.std.specs.Prelude.{IfErr, MatchResult, None, Some, Ok, Err, Res
 ghost use Rattle.flush_journal.specs.Batches.{records, owed_size};
 ghost use Rattle.edge_traits.specs.Disks.{Only};
 ghost use Rattle.flush_journal.specs.Files.{Content, content, fresh, magic};
-ghost use Rattle.flush_journal.specs.Gates.{GateStands};
+ghost use Rattle.flush_journal.specs.Markers.{MarkerStands};
 ghost use Rattle.flush_journal.specs.Reports.{IsVersion1};
 ghost use Rattle.flush_journal.specs.Unchanged.{SameBytes, SameDisk, TornFront};
 ghost use Rattle.flush_journal.specs.Records.{Record};
@@ -12,8 +12,8 @@ ghost use Rattle.flush_journal.specs.Reading.{MayRefuseReading};
 ghost use Rattle.flush_journal.specs.Refusals.{NoMagic, MayRefuseCreate};
 
 use crate::create::write_new;
-use crate::gates::{write_again, write_frame};
 use crate::header::{HEADER_SIZE, VERSION};
+use crate::markers::{write_again, write_frame};
 use crate::read::read_journal;
 use crate::reader::Reader;
 use crate::{Batch, JournalRefused, Recovered, Report, Why};
@@ -27,7 +27,7 @@ pub struct Journal<D: Disk> {
     numbers: Report,
     pending: Option<Batch>,
     ghost version1: { IsVersion1 numbers },
-    ghost gate: { D.honest → GateStands numbers.end (owed_size pending) (D.reads disk) },
+    ghost marker: { D.honest → MarkerStands numbers.end (owed_size pending) (D.reads disk) },
     ghost some: { option_map records pending ≢ Some [] },
 }
 
@@ -55,7 +55,7 @@ impl<D: Disk> Journal<D> {
     /// # Errors
     ///
     /// `Exists` where the disk begins with a journal's first bytes, else `JournalFull` where there is no room for a
-    /// header and a gate; `DiskFault` where the disk had a fault. All but the last leave the disk as it was, and where
+    /// header and a marker; `DiskFault` where the disk had a fault. All but the last leave the disk as it was, and where
     /// it begins with a journal's first bytes each does. Never more than the first 17 bytes are touched.
     pub fn create(mut disk: D, lanes: u32) -> Result<Journal<D>, JournalRefused<D>>
         requires some { 1 ≤ lanes }

@@ -13,7 +13,7 @@ pub fn payload_is_encoding()
         ↔ ((bytes ≡ encoded_all records) × All IsRecord records)) }
 {}
 
-/// A file has a content exactly where it is a header, whole blocks, a gate that isn't open and anything behind
+/// A file has a content exactly where it is a header, whole blocks, a marker that isn't open and anything behind
 /// it, which make this content; and it is no journal exactly where one of these is missing, at the place of the
 /// first that is. What is so laid out is read so, whatever numbers stand for its bytes.
 pub fn journal_or_fault()

@@ -1,14 +1,16 @@
 //! A journal of batches of records on a disk. On a disk that keeps its rule, whatever a crash leaves after `append` has
 //! answered Ok holds the batch; and whatever one leaves at any moment since the call began has what stood there before,
 //! with the whole batch or without it.
+//!
+//! [`cuts`] has what a cut adds to a batch, [`keepings`] what a journal keeps of a world.
 #![tactic(auto)]
 
 mod batch;
 mod create;
-mod gates;
 mod header;
 mod journal;
 mod laws;
+mod markers;
 mod read;
 mod reader;
 mod records;
@@ -23,5 +25,5 @@ pub use recovered::{Body, Recovered};
 pub use report::Report;
 pub use why::{JournalRefused, Why};
 
-#[cfg(test)]
-mod tests;
+pub mod cuts;
+pub mod keepings;

@@ -2,13 +2,13 @@
 ghost use Rattle.std.specs.Prelude.{◌≡◌, ◌+◌, ◌<◌, ◌≤◌, length, IfOk, IfErr, OnOk, Ok, slice_index, MatchOption, None};
 ghost use Rattle.std.specs.FinMap as map;
 ghost use Rattle.flush_journal.specs.Files.{content, first_outside, header_ranges};
-ghost use Rattle.flush_journal.specs.Gates.{GateStands};
+ghost use Rattle.flush_journal.specs.Markers.{MarkerStands};
 ghost use Rattle.flush_journal.specs.Reports.{IsVersion1};
 ghost use Rattle.flush_journal.specs.Readers.{file_of, end_of_file, GoesOn, MayFail};
-ghost use Rattle.flush_journal.specs.Reading.{GateIs, PayloadIs, content_of};
+ghost use Rattle.flush_journal.specs.Reading.{MarkerIs, PayloadIs, content_of};
 
-use crate::gates::OPEN;
 use crate::header::{HEADER_SIZE, VERSION, outside};
+use crate::markers::OPEN;
 use crate::reader::Reader;
 use crate::records::number_8;
 use crate::{Recovered, Report, Why};
@@ -36,38 +36,38 @@ fn read_header<D: Disk>(reader: &mut Reader<D>) -> Result<u32, Why>
     Ok(u32::from(header[11]))
 }
 
-// What stands at a gate's place.
+// What stands at a marker's place.
 #[derive(Clone, Copy)]
-pub enum Gate {
+pub enum Marker {
     Missing,
     Closed,
     Open,
 }
 
-// The gate at a place.
-fn read_gate<D: Disk>(reader: &mut Reader<D>, at: u64) -> Result<Gate, Why>
+// The marker at a place.
+fn read_marker<D: Disk>(reader: &mut Reader<D>, at: u64) -> Result<Marker, Why>
     ensures on { GoesOn reader.old reader.new }
-    ensures gate { D.honest → IfOk result (GateIs (file_of reader.old) at) }
-    ensures inside { IfOk result (λ gate. gate ≡ Gate.Open → at + 1 ≤ end_of_file reader.new) }
+    ensures marker { D.honest → IfOk result (MarkerIs (file_of reader.old) at) }
+    ensures inside { IfOk result (λ marker. marker ≡ Marker.Open → at + 1 ≤ end_of_file reader.new) }
     ensures why { IfErr result (MayFail reader.old reader.new) }
 {
     if !reader.fill(at, 1)? {
-        return Ok(Gate::Missing);
+        return Ok(Marker::Missing);
     }
     if reader.slice(at, 1)[0] != OPEN {
-        return Ok(Gate::Closed);
+        return Ok(Marker::Closed);
     }
-    Ok(Gate::Open)
+    Ok(Marker::Open)
 }
 
-// Puts in the records of the batch behind the open gate at a place, and gives its payload's length; none where its
+// Puts in the records of the batch behind the open marker at a place, and gives its payload's length; none where its
 // payload isn't whole or is no list of records.
 fn read_payload<D: Disk>(
     reader: &mut Reader<D>,
     at: u64,
     recovered: &mut Recovered,
 ) -> Result<Option<u64>, Why>
-    requires gate { at + 1 ≤ end_of_file reader.old }
+    requires marker { at + 1 ≤ end_of_file reader.old }
     ensures on { GoesOn reader.old reader.new }
     ensures payload { D.honest → IfOk result
         (PayloadIs (file_of reader.old) at recovered.old recovered.new) }
@@ -104,15 +104,15 @@ fn read_batches<D: Disk>(
     ensures found { D.honest → IfOk result (λ r. content (file_of reader.old)
         ≡ Ok (content_of r recovered.new)) }
     ensures numbers { IfOk result IsVersion1 }
-    ensures gate { D.honest → IfOk result (λ r. GateStands r.end 0 (file_of reader.old)) }
+    ensures marker { D.honest → IfOk result (λ r. MarkerStands r.end 0 (file_of reader.old)) }
     ensures why { IfErr result (MayFail reader.old reader.new) }
 {
     let mut at = HEADER_SIZE;
     let mut batches = 0;
-    'gates: loop {
-        match read_gate(reader, at)? {
-            Gate::Missing => return Err(Why::NotAJournal { at }),
-            Gate::Closed => {
+    'markers: loop {
+        match read_marker(reader, at)? {
+            Marker::Missing => return Err(Why::NotAJournal { at }),
+            Marker::Closed => {
                 return Ok(Report {
                     version: VERSION,
                     lanes,
@@ -120,7 +120,7 @@ fn read_batches<D: Disk>(
                     end: at,
                 });
             }
-            Gate::Open => {}
+            Marker::Open => {}
         }
         let Some(size) = read_payload(reader, at, recovered)? else {
             return Err(Why::NotAJournal { at: at + 1 });
@@ -140,7 +140,7 @@ pub fn read_journal<D: Disk>(
     ensures found { D.honest → IfOk result (λ r. content (file_of reader.old)
         ≡ Ok (content_of r recovered.new)) }
     ensures numbers { IfOk result IsVersion1 }
-    ensures gate { D.honest → IfOk result (λ r. GateStands r.end 0 (file_of reader.old)) }
+    ensures marker { D.honest → IfOk result (λ r. MarkerStands r.end 0 (file_of reader.old)) }
     ensures why { IfErr result (MayFail reader.old reader.new) }
 {
     let lanes = read_header(reader)?;

@@ -2,15 +2,15 @@
 ghost use Rattle.std.specs.Prelude.{◌≡◌, OnOk, option_map, MatchOption, IfOk, true, false, vec_items};
 ghost use Rattle.std.specs.FinMap as map;
 ghost use Rattle.std.specs.Option.{option_copied};
-ghost use Rattle.text_maps.specs.Keyed.{keyed};
-ghost use Rattle.text_maps.specs.Nexts.{IsNext, IsKeyStep};
+ghost use Rattle.containers.specs.TextMaps.Keyed.{keyed};
+ghost use Rattle.containers.specs.TextMaps.Nexts.{IsNext, IsKeyStep};
 ghost use Rattle.flush_journal.specs.Records.{IsRecord, AreKept, put_record, put_all, records_of};
 
 use crate::records::first_record;
+use containers::text_maps::ByteMap;
 use std::alloc::{AllocError, Global};
 use std::collections::BTreeMap;
 use std::marker::Model;
-use text_maps::ByteMap;
 
 /// The body of a record.
 #[derive(Drop)]
@@ -57,7 +57,7 @@ impl Model for Recovered {
     ghost use Rattle.std.specs.Prelude.{List, ℕ};
     ghost use Rattle.std.specs.FinMap as map;
     ghost use Rattle.std.specs.Coded.{coded_ℕ, coded_list};
-    ghost use Rattle.text_maps.specs.Keyed.{text_order};
+    ghost use Rattle.containers.specs.TextMaps.Keyed.{text_order};
     ghost use Rattle.flush_journal.specs.Records.{AreKept};
 
     ghost Value = { map.FinMap text_order (List ℕ) };

@@ -9,6 +9,6 @@ pub struct Report {
     pub lanes: u32,
     /// How many batches are held.
     pub batches: u64,
-    /// The place of the first closed gate.
+    /// The place of the first closed marker.
     pub end: u64,
 }

@@ -10,7 +10,7 @@ pub enum Why {
     /// The disk had a fault.
     DiskFault,
     /// The bytes on the disk are no journal. `at` is the place of the first byte that differs from the header, of the
-    /// length of an open batch whose payload isn't whole or is no list of records, or the disk's length where a gate
+    /// length of an open batch whose payload isn't whole or is no list of records, or the disk's length where a marker
     /// is missing.
     NotAJournal { at: u64 },
     /// The batch doesn't fit: `end + need` is above `room`.

@@ -7,8 +7,8 @@ use Rattle.std.specs.FinMap.{FinMap, contains_key, empty, get, insert, len, remo
 use Rattle.std.specs.List.{list_all}
 use Rattle.std.specs.Ordering.{eq_by_cmp}
 use Rattle.json_trees.proofs.TreeLemmas.{both_true}
-use Rattle.text_maps.specs.Keyed.{text_order}
-use Rattle.text_maps.proofs.KeyedMaps.{exact_texts}
+use Rattle.containers.specs.TextMaps.Keyed.{text_order}
+use Rattle.containers.proofs.TextMaps.KeyedMaps.{exact_texts}
 use Rattle.object_ids.specs.Names.{is_name, is_name_byte}
 use Rattle.object_ids.specs.Puts.{Blames, put_fault}
 use Rattle.object_ids.specs.declared.puts.PutFault.{PutFault}

@@ -2,7 +2,7 @@
 use Rattle.std.specs.Prelude.{◌≡◌, ◌≤◌, ℕ, List, true, Some}
 use Rattle.std.specs.FinMap.{FinMap, get, len}
 use Rattle.object_ids.specs.Names.{is_name}
-use Rattle.text_maps.specs.Keyed.{text_order}
+use Rattle.containers.specs.TextMaps.Keyed.{text_order}
 use Rattle.groups_links.specs.Targets.{IsSoundLink}
 use Rattle.groups_links.specs.Titles.{IsGoodTitle, most_of_title}
 use Rattle.groups_links.specs.declared.target.LinkTo.{LinkTo}

@@ -9,7 +9,7 @@ use Rattle.object_ids.specs.declared.ids.Kind.{Kind}
 use Rattle.object_ids.specs.declared.ids.Kind.TheVariants.{Group, Dataset, Datatype}
 use Rattle.shapes.specs.declared.printing.Form.{Form}
 use Rattle.shapes.specs.declared.printing.Form.TheVariants.{Rest, Document}
-use Rattle.text_maps.specs.Keyed.{text_order}
+use Rattle.containers.specs.TextMaps.Keyed.{text_order}
 use Rattle.groups_links.specs.declared.target.LinkTo.{LinkTo}
 use Rattle.groups_links.specs.declared.target.LinkTo.TheVariants.{Hard, Soft, External}
 

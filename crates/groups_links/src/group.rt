@@ -6,7 +6,7 @@ ghost use Rattle.std.specs.FinMap as map;
 ghost use Rattle.std.specs.Option.{option_copied};
 ghost use Rattle.serde_json.specs.Data.{array};
 ghost use Rattle.serde_json.specs.View.{items_of, view};
-ghost use Rattle.text_maps.specs.Nexts.{IsKeyStep, IsNext};
+ghost use Rattle.containers.specs.TextMaps.Nexts.{IsKeyStep, IsNext};
 ghost use Rattle.object_ids.specs.Puts.{Blames, put_fault};
 ghost use Rattle.groups_links.specs.GroupLinks.{AreLinks, most_links};
 ghost use Rattle.groups_links.specs.Printed.{link_tree, links_list};
@@ -32,7 +32,7 @@ pub struct Links {
 impl Model for Links {
     ghost use Rattle.std.specs.FinMap as map;
     ghost use Rattle.std.specs.Coded.{coded_list, coded_ℕ};
-    ghost use Rattle.text_maps.specs.Keyed.{text_order};
+    ghost use Rattle.containers.specs.TextMaps.Keyed.{text_order};
     ghost use Rattle.groups_links.specs.declared.target.LinkTo.{LinkTo};
     ghost use Rattle.groups_links.specs.contracts.target.LinkTo as link_row;
     ghost use Rattle.groups_links.specs.GroupLinks.{AreLinks};

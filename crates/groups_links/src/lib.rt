@@ -9,8 +9,6 @@ mod laws;
 mod printing;
 mod reading;
 mod target;
-#[cfg(test)]
-mod tests;
 mod titles;
 
 pub use group::Links;

@@ -12,15 +12,13 @@ ghost use Rattle.hdf_types.specs.Reading.{size_of};
 ghost use Rattle.hdf_types.specs.Types.{IsSoundType};
 ghost use Rattle.hdf_types.specs.declared.faults.Cause.{Cause};
 
-use short_lists::ShortList;
+use containers::short_lists::ShortList;
 
 mod faults;
 mod leaves;
 mod members;
 mod printing;
 mod reading;
-#[cfg(test)]
-mod tests;
 mod types;
 mod walks;
 

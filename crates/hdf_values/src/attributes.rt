@@ -1,24 +1,24 @@
 //! Attributes: a small value with its type and shape.
 
-ghost use Rattle.std.specs.Prelude.{◌≡◌, ◌*◌, ◌≤◌, IfOk, IsTrue};
+ghost use Rattle.std.specs.Prelude.{◌≡◌, ◌*◌, ◌≤◌, IfOk};
 ghost use Rattle.serde_json.specs.View.{view};
 ghost use Rattle.hdf_types.specs.Reading.{size_of};
 ghost use Rattle.hdf_types.specs.Types.{IsSoundType};
 ghost use Rattle.hdf_types.specs.Views.{elem};
 ghost use Rattle.shapes.specs.Shapes.{IsSound, count_of};
 ghost use Rattle.hdf_values.specs.Attributes.{Content, content, IsAttribute, IsSoundAttribute, IsTypeAt};
-ghost use Rattle.hdf_values.specs.Attributes.{IsValueAt, attribute_of, content_tree, type_fault, value_fault};
+ghost use Rattle.hdf_values.specs.Attributes.{IsValueAt, attribute_of, type_fault, value_fault};
 ghost use Rattle.hdf_values.specs.Attributes.{typed_at, valued_at, value_or, sized_at, most_bytes};
 ghost use Rattle.json_trees.specs.Faults.{Fails, Gives};
 ghost use Rattle.json_trees.specs.Shown.{shown};
 ghost use Rattle.hdf_values.specs.Nested.{AreEncoded};
 ghost use Rattle.hdf_values.specs.declared.attributes.AttributeFault.TheVariants.{NoMemory, BadShape};
 
-use crate::shaped::{read_value, write_value};
+use crate::shaped::read_value;
 use crate::{MAX_ATTRIBUTE, ValueFault};
-use hdf_types::{Cause, ElemType, FieldPath, TypeFault, read_type, type_json};
-use serde_json::{Value, json};
-use shapes::{Form, Shape, ShapeFault, count, read_shape, shape_json};
+use hdf_types::{Cause, ElemType, FieldPath, TypeFault, read_type};
+use serde_json::Value;
+use shapes::{Shape, ShapeFault, count, read_shape};
 use std::alloc::{AllocError, Global};
 use std::marker::Model;
 
@@ -211,47 +211,6 @@ fn valued(
     match tree {
         Some(tree) => read_value(alloc, kind, shape, tree),
         None => Err(ValueFault::NotOfType { place: 0 }),
-    }
-}
-
-/// The tree of an attribute: its `shape`, its `type`, and its `value` where it is asked for. With
-/// its value it spells the same attribute.
-///
-/// # Errors
-///
-/// Only where memory runs out.
-pub fn content_json(
-    alloc: Global,
-    attribute: &Attribute,
-    form: Form,
-    with_value: bool,
-) -> Result<Value, AllocError>
-    requires { IsSoundAttribute (content attribute.now) }
-    ensures tree { IfOk result
-        (λ v. view v ≡ content_tree (content attribute.now) form with_value) }
-    ensures reads_back { IsTrue with_value
-        → IfOk result (λ v. attribute_of (view v) ≡ Ok (content attribute.now)) }
-{
-    printed(alloc, attribute, form, with_value)
-}
-
-fn printed(
-    alloc: Global,
-    attribute: &Attribute,
-    form: Form,
-    with_value: bool,
-) -> Result<Value, AllocError>
-    requires { IsSoundAttribute (content attribute.now) }
-    ensures { IfOk result (λ v. view v ≡ content_tree (content attribute.now) form with_value) }
-{
-    let Attribute { elem, shape, bytes } = attribute;
-    let kind = type_json(alloc, elem)?;
-    let cells = shape_json(alloc, shape, form)?;
-    if with_value {
-        let value = write_value(alloc, elem, shape, bytes.as_slice())?;
-        json!(in alloc; {"shape": cells, "type": kind, "value": value})
-    } else {
-        json!(in alloc; {"shape": cells, "type": kind})
     }
 }
 

@@ -14,11 +14,9 @@ mod laws;
 mod nested;
 mod pieces;
 mod shaped;
-#[cfg(test)]
-mod tests;
 mod texts;
 
-pub use attributes::{Attribute, AttributeFault, Bytes, content_json, read_attribute};
+pub use attributes::{Attribute, AttributeFault, Bytes, read_attribute};
 pub use elements::{decode, encode, is_encoded, zero};
 pub use faults::{Misfit, ValueFault};
 pub use laws::{

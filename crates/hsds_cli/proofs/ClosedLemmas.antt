@@ -4,8 +4,8 @@ use Rattle.edge_traits.specs.declared.disk.Disk.{Ghosts}
 use Rattle.command_words.specs.Commands.{Command, export, import, init, sample, session, verify}
 use Rattle.flush_journal.specs.declared.why.Why.{Why}
 use Rattle.flush_journal.specs.declared.why.Why.TheVariants as why
-use Rattle.link_service.specs.declared.end.LinkEnd.{LinkEnd}
-use Rattle.kept_sessions.specs.declared.outcome.Closed.{Closed}
+use Rattle.rest_session.specs.declared.links.end.LinkEnd.{LinkEnd}
+use Rattle.rest_session.specs.declared.kept.outcome.Closed.{Closed}
 use Rattle.hsds_cli.specs.declared.status.Status.{Status}
 use Rattle.hsds_cli.specs.declared.status.Status.TheVariants.{Done, Words, Configuration, ReadFault, WriteFault, DiskFault, NotAJournal, Refused, JournalExists, InputCut, UsedUp, Budget, NoMemory}
 use Rattle.hsds_cli.specs.Openings.{IsSession, Serves, status_after}

@@ -5,21 +5,21 @@ use Rattle.edge_traits.specs.declared.disk.Disk.{Ghosts}
 use Rattle.command_words.specs.Commands.{Command, export, import, init, sample, session, verify}
 use Rattle.flush_journal.specs.declared.why.Why.{Why}
 use Rattle.flush_journal.specs.declared.why.Why.TheVariants as why
-use Rattle.json_import.specs.Loads.{LoadsText}
-use Rattle.json_import.specs.Texts.{most_bytes}
-use Rattle.kept_imports.specs.Documents.{IsRefused}
-use Rattle.kept_journals.specs.Opening.{IsOf}
-use Rattle.kept_sessions.specs.Sessions.{IsRecovered}
-use Rattle.link_service.specs.Links.{IsPeaceful, IsTranscript, spellings}
-use Rattle.link_service.specs.declared.end.LinkEnd.{LinkEnd}
-use Rattle.link_service.specs.declared.end.LinkEnd.TheVariants as end
-use Rattle.link_service.proofs.Readings.{peaceful}
+use Rattle.documents.specs.Reader.Loads.{LoadsText}
+use Rattle.documents.specs.Reader.Texts.{most_bytes}
+use Rattle.json_import.specs.Kept.Documents.{IsRefused}
+use Rattle.service_core.specs.Journals.Opening.{IsOf}
+use Rattle.service_core.specs.Journals.Begun.{IsRecovered}
+use Rattle.rest_session.specs.Links.Links.{IsPeaceful, IsTranscript, spellings}
+use Rattle.rest_session.specs.declared.links.end.LinkEnd.{LinkEnd}
+use Rattle.rest_session.specs.declared.links.end.LinkEnd.TheVariants as end
+use Rattle.rest_session.proofs.OfLinks.Readings.{peaceful}
 use Rattle.rest_session.specs.Sessions.{IsServed}
-use Rattle.kept_sessions.specs.declared.outcome.Closed.{Closed}
+use Rattle.rest_session.specs.declared.kept.outcome.Closed.{Closed}
 use Rattle.hsds_cli.specs.declared.status.Status.{Status}
 use Rattle.hsds_cli.specs.declared.status.Status.TheVariants.{Done, Words, Configuration, ReadFault, WriteFault, DiskFault, NotAJournal, Refused, JournalExists, InputCut, UsedUp, Budget, NoMemory}
 use Rattle.service_core.specs.Steps.{World}
-use Rattle.source_texts.specs.Texts.{IsLongText, IsWholeText}
+use Rattle.edge_traits.specs.SourceTexts.Texts.{IsLongText, IsWholeText}
 use Rattle.hsds_cli.specs.Completeness.{HasAdoptable, IsConfigured, IsUndisturbed, IsWholeInput}
 use Rattle.hsds_cli.specs.Exports.{IsExported}
 use Rattle.hsds_cli.specs.Imports.{IsImported}

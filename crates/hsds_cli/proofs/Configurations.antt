@@ -6,7 +6,7 @@ use Rattle.std.proofs.lemmas.Bool.{le-leb}
 use Rattle.configuration.specs.declared.config.Config.{Config}
 use Rattle.configuration.specs.Configured.{config_of, document_in}
 use Rattle.hsds_cli.specs.declared.configured.TheConstants.{CONFIG_LIMIT}
-use Rattle.source_texts.specs.Texts.{IsWholeText}
+use Rattle.edge_traits.specs.SourceTexts.Texts.{IsWholeText}
 use Rattle.hsds_cli.specs.Sides.{Spells, configured}
 
 within_limit : (text : List ℕ) (config : Config) → length text ≤ CONFIG_LIMIT → option_and_then config_of (document_in text) ≡ Some config → configured text ≡ Some config

@@ -3,15 +3,15 @@ use Rattle.std.proofs.Common.{◌≡◌, ◌↔◌, inl, inr, ℕ, ◌≤◌, �
 use Rattle.std.specs.Io.KnownBytes.{Keeps}
 use Rattle.serde_json.specs.Data.{Data}
 use Rattle.serde_json.specs.Written.{compact_text}
-use Rattle.domain_documents.specs.Printed.{ReadsAs}
-use Rattle.domain_imports.specs.Laws.{ExportsAreLoaded, LinesAreLoaded}
+use Rattle.documents.specs.Domains.Printed.{ReadsAs}
+use Rattle.json_import.specs.Adoption.Laws.{ExportsAreLoaded, LinesAreLoaded}
 use Rattle.edge_traits.specs.declared.disk.Disk.{Ghosts}
 use Rattle.json_export.specs.Documents.{IsReadAs, IsTextOf, doc}
 use Rattle.json_export.specs.declared.faults.ExportFault.TheVariants as export
-use Rattle.kept_journals.specs.Opening.{IsOf, MayRefuseOpening}
-use Rattle.kept_journals.specs.declared.faults.OpenFault.{OpenFault}
-use Rattle.kept_journals.specs.declared.faults.OpenFault.TheVariants as fault
-use Rattle.kept_sessions.specs.Sessions.{IsRecovered}
+use Rattle.service_core.specs.Journals.Opening.{IsOf, MayRefuseOpening}
+use Rattle.service_core.specs.declared.journals.faults.OpenFault.{OpenFault}
+use Rattle.service_core.specs.declared.journals.faults.OpenFault.TheVariants as fault
+use Rattle.service_core.specs.Journals.Begun.{IsRecovered}
 use Rattle.service_core.specs.Steps.{World}
 use Rattle.hsds_cli.specs.Exports.{AreLoaded, IsDocumentTold, IsExported, IsGiven, IsLineOf, document_line}
 use Rattle.hsds_cli.specs.Openings.{opening_status}

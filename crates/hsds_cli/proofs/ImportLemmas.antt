@@ -1,22 +1,22 @@
 -- An import by its status.
 use Rattle.std.proofs.Common.{◌≡◌, inl, inr, ℕ, ◌≤◌, List, length, take, Option, Some, None, Ok, Err, refl, sym, subst, ◌∙◌, append-nil, arith}
 use Rattle.std.specs.Io.KnownBytes.{Appends, Keeps}
-use Rattle.domain_imports.specs.Adopted.{counts_of}
-use Rattle.domain_imports.specs.declared.counts.Counts.{Counts}
+use Rattle.json_import.specs.Adoption.Adopted.{counts_of}
+use Rattle.json_import.specs.declared.adoption.counts.Counts.{Counts}
 use Rattle.edge_traits.specs.Causes.{Rose}
 use Rattle.edge_traits.specs.declared.disk.Disk.{Ghosts}
 use Rattle.flush_journal.specs.declared.why.Why.{Why}
 use Rattle.flush_journal.specs.declared.why.Why.TheVariants as why
-use Rattle.kept_imports.specs.Documents.{IsRefused}
-use Rattle.kept_imports.specs.Imports.{CameTo, HasCauseOf, IsDiskFault, KeepsAdopted}
-use Rattle.kept_imports.specs.declared.outcome.Outcome.{Outcome}
-use Rattle.kept_imports.specs.declared.outcome.Outcome.TheVariants as outcome
-use Rattle.kept_journals.specs.Opening.{MayRefuseOpening}
-use Rattle.kept_journals.specs.declared.faults.OpenFault.{OpenFault}
-use Rattle.kept_journals.specs.declared.faults.OpenFault.TheVariants as fault
-use Rattle.kept_sessions.specs.Sessions.{IsUnbegun}
+use Rattle.json_import.specs.Kept.Documents.{IsRefused}
+use Rattle.json_import.specs.Kept.Imports.{CameTo, HasCauseOf, IsDiskFault, KeepsAdopted}
+use Rattle.json_import.specs.declared.kept.outcome.Outcome.{Outcome}
+use Rattle.json_import.specs.declared.kept.outcome.Outcome.TheVariants as outcome
+use Rattle.service_core.specs.Journals.Opening.{MayRefuseOpening}
+use Rattle.service_core.specs.declared.journals.faults.OpenFault.{OpenFault}
+use Rattle.service_core.specs.declared.journals.faults.OpenFault.TheVariants as fault
+use Rattle.service_core.specs.Journals.Begun.{IsUnbegun}
 use Rattle.service_core.specs.Steps.{World}
-use Rattle.source_texts.specs.Texts.{IsTaken}
+use Rattle.edge_traits.specs.SourceTexts.Texts.{IsTaken}
 use Rattle.hsds_cli.specs.Imports.{IsImported, IsOutcomeTold, IsUnopened}
 use Rattle.hsds_cli.specs.Lines.{IsTold, import_line}
 use Rattle.hsds_cli.specs.Openings.{opening_status, refusal_status}

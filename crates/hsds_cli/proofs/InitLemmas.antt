@@ -8,7 +8,7 @@ use Rattle.flush_journal.specs.Refusals.{NoMagic}
 use Rattle.flush_journal.specs.Unchanged.{SameBytes}
 use Rattle.flush_journal.specs.declared.why.Why.{Why}
 use Rattle.flush_journal.specs.declared.why.Why.TheVariants as why
-use Rattle.kept_journals.specs.FirstJournals.{IsFirstJournal, MayRefuseMaking}
+use Rattle.service_core.specs.Journals.FirstJournals.{IsFirstJournal, MayRefuseMaking}
 use Rattle.hsds_cli.specs.Lines.{IsPrinted, init_line}
 use Rattle.hsds_cli.specs.Makings.{IsInit, making_status}
 use Rattle.hsds_cli.specs.Runs.{IsRefusal}

@@ -3,19 +3,20 @@ use Rattle.std.proofs.Common.{◌≡◌, ◌⊎◌, inl, inr, ℕ, List, Option,
 use Rattle.std.specs.Io.KnownBytes.{Keeps}
 use Rattle.edge_traits.specs.Causes.{Rose}
 use Rattle.edge_traits.specs.declared.disk.Disk.{Ghosts}
-use Rattle.bearer_tokens.specs.Bearer.{TokenTable}
+use Rattle.access_lists.specs.Tokens.Bearer.{TokenTable}
 use Rattle.configuration.specs.declared.config.Config.{Config}
 use Rattle.flush_journal.specs.declared.why.Why.{Why}
 use Rattle.flush_journal.specs.declared.why.Why.TheVariants as why
-use Rattle.kept_journals.specs.declared.faults.OpenFault.{OpenFault}
-use Rattle.kept_journals.specs.declared.faults.OpenFault.TheVariants as fault
-use Rattle.kept_sessions.specs.Sessions.{HasCausesOf, IsDiskFault, IsEnded, IsUnbegun}
-use Rattle.kept_sessions.specs.declared.outcome.Closed.{Closed}
-use Rattle.kept_sessions.specs.declared.outcome.Outcome.{Outcome}
-use Rattle.kept_sessions.specs.declared.outcome.Outcome.TheVariants as outcome
-use Rattle.link_service.specs.Links.{HasCauses}
-use Rattle.link_service.specs.declared.end.LinkEnd.{LinkEnd}
-use Rattle.link_service.specs.declared.end.LinkEnd.TheVariants as end
+use Rattle.service_core.specs.declared.journals.faults.OpenFault.{OpenFault}
+use Rattle.service_core.specs.declared.journals.faults.OpenFault.TheVariants as fault
+use Rattle.rest_session.specs.Kept.Sessions.{HasCausesOf, IsDiskFault, IsEnded}
+use Rattle.service_core.specs.Journals.Begun.{IsUnbegun}
+use Rattle.rest_session.specs.declared.kept.outcome.Closed.{Closed}
+use Rattle.rest_session.specs.declared.kept.outcome.Outcome.{Outcome}
+use Rattle.rest_session.specs.declared.kept.outcome.Outcome.TheVariants as outcome
+use Rattle.rest_session.specs.Links.Links.{HasCauses}
+use Rattle.rest_session.specs.declared.links.end.LinkEnd.{LinkEnd}
+use Rattle.rest_session.specs.declared.links.end.LinkEnd.TheVariants as end
 use Rattle.hsds_cli.specs.Openings.{IsSession, Serves, SpellsSome, closed_by, status_after, status_by}
 use Rattle.hsds_cli.specs.Sides.{IsUntouched, Sides, Spells}
 use Rattle.flush_journal.specs.Unchanged.{SameBytes}

@@ -7,9 +7,9 @@ use Rattle.flush_journal.specs.Files.{Content, content}
 use Rattle.flush_journal.specs.Standing.{IsSettled, numbers_of}
 use Rattle.flush_journal.specs.declared.journal.Journal.{Journal}
 use Rattle.flush_journal.specs.declared.report.Report.{Report}
-use Rattle.kept_journals.specs.Opening.{MayRefuseOpening}
-use Rattle.kept_journals.specs.declared.faults.OpenFault.{OpenFault}
-use Rattle.kept_journals.specs.declared.faults.OpenFault.TheVariants as fault
+use Rattle.service_core.specs.Journals.Opening.{MayRefuseOpening}
+use Rattle.service_core.specs.declared.journals.faults.OpenFault.{OpenFault}
+use Rattle.service_core.specs.declared.journals.faults.OpenFault.TheVariants as fault
 use Rattle.register.specs.Decided.{Door}
 use Rattle.service_core.specs.Records.{DescribesWorld, IsWorldOf}
 use Rattle.service_core.specs.Worlds.{State, seen}

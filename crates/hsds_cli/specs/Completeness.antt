@@ -3,7 +3,7 @@
 --     IsCalm met sides before after      no count of faults rose
 --     MeetsRoom met command sides before after closed      a keeping was refused for want of room
 use Rattle.std.specs.Prelude.{◌≡◌, ◌≢◌, ◌⊎◌, ℕ, ◌<◌, List, take, length, Option, Some, None, Err}
-use Rattle.domain_imports.specs.Faults.{adopt_fault}
+use Rattle.json_import.specs.Adoption.Faults.{adopt_fault}
 use Rattle.edge_traits.specs.Causes.{Rose}
 use Rattle.edge_traits.specs.declared.disk.Disk.{Ghosts}
 use Rattle.command_words.specs.Commands.{Command, export, import, init, sample, session, verify}
@@ -12,13 +12,13 @@ use Rattle.flush_journal.specs.Files.{magic}
 use Rattle.flush_journal.specs.declared.why.Why.TheVariants as why
 use Rattle.http_wire.specs.Messages.{RequestMessage}
 use Rattle.json_export.specs.Documents.{doc}
-use Rattle.json_import.specs.Loads.{LoadsText}
-use Rattle.json_import.specs.declared.loaded.Loaded.{Loaded}
-use Rattle.kept_journals.specs.Opening.{IsOf}
-use Rattle.kept_sessions.specs.Sessions.{IsRecovered, IsUnbegun}
-use Rattle.kept_sessions.specs.declared.outcome.Closed.{Closed}
-use Rattle.link_service.specs.Links.{AllSpelled, spellings}
-use Rattle.link_service.specs.declared.end.TheConstants.{BUDGET}
+use Rattle.documents.specs.Reader.Loads.{LoadsText}
+use Rattle.documents.specs.declared.reader.loaded.Loaded.{Loaded}
+use Rattle.service_core.specs.Journals.Opening.{IsOf}
+use Rattle.service_core.specs.Journals.Begun.{IsRecovered, IsUnbegun}
+use Rattle.rest_session.specs.declared.kept.outcome.Closed.{Closed}
+use Rattle.rest_session.specs.Links.Links.{AllSpelled, spellings}
+use Rattle.rest_session.specs.declared.links.end.TheConstants.{BUDGET}
 use Rattle.hsds_cli.specs.declared.status.Status.TheVariants.{UsedUp}
 use Rattle.service_core.specs.Steps.{World}
 use Rattle.hsds_cli.specs.Exports.{IsWithheld}

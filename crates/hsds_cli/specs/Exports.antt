@@ -8,15 +8,15 @@ use Rattle.std.specs.Prelude.{◌≡◌, ◌⊎◌, ◌^◌, ◌≤◌, ⊤, ℕ
 use Rattle.std.specs.Io.KnownBytes.{Appends, Keeps}
 use Rattle.serde_json.specs.Data.{Data}
 use Rattle.serde_json.specs.Written.{compact_text}
-use Rattle.document_round_trips.specs.Held.{held_in}
-use Rattle.domain_documents.specs.Printed.{ReadsAs}
-use Rattle.domain_documents.specs.declared.home.Home.{Home}
+use Rattle.json_import.specs.RoundTrips.Held.{held_in}
+use Rattle.documents.specs.Domains.Printed.{ReadsAs}
+use Rattle.documents.specs.declared.domains.home.Home.{Home}
 use Rattle.edge_traits.specs.Causes.{Rose}
 use Rattle.edge_traits.specs.declared.disk.Disk.{Ghosts}
 use Rattle.json_export.specs.Documents.{IsTooLong, doc, home_at}
-use Rattle.json_import.specs.Loads.{LoadsText}
-use Rattle.kept_journals.specs.Opening.{IsOf}
-use Rattle.kept_sessions.specs.Sessions.{IsRecovered}
+use Rattle.documents.specs.Reader.Loads.{LoadsText}
+use Rattle.service_core.specs.Journals.Opening.{IsOf}
+use Rattle.service_core.specs.Journals.Begun.{IsRecovered}
 use Rattle.service_core.specs.Steps.{World}
 use Rattle.hsds_cli.specs.declared.status.Status.{Status}
 use Rattle.hsds_cli.specs.declared.status.Status.TheVariants.{Done, Words, Configuration, ReadFault, WriteFault, DiskFault, NotAJournal, Refused, JournalExists, InputCut, UsedUp, Budget, NoMemory}

@@ -3,19 +3,19 @@
 --     IsImported met path owner ..      what `import` does, by its status
 use Rattle.std.specs.Prelude.{◌≡◌, ◌⊎◌, ◌≤◌, ℕ, List, take, length, Option, Ok, Err}
 use Rattle.std.specs.Io.KnownBytes.{Appends, Keeps}
-use Rattle.domain_imports.specs.Adopted.{counts_of}
+use Rattle.json_import.specs.Adoption.Adopted.{counts_of}
 use Rattle.edge_traits.specs.Causes.{Rose}
 use Rattle.edge_traits.specs.declared.disk.Disk.{Ghosts}
 use Rattle.flush_journal.specs.Unchanged.{SameBytes}
 use Rattle.flush_journal.specs.declared.why.Why.{Why}
 use Rattle.flush_journal.specs.declared.why.Why.TheVariants as why
-use Rattle.kept_imports.specs.Documents.{IsRefused}
-use Rattle.kept_imports.specs.Imports.{BeginsAlone, KeepsAdopted}
-use Rattle.kept_imports.specs.declared.outcome.Outcome.{Outcome}
-use Rattle.kept_imports.specs.declared.outcome.Outcome.TheVariants as outcome
-use Rattle.kept_sessions.specs.Sessions.{IsUnbegun}
+use Rattle.json_import.specs.Kept.Documents.{IsRefused}
+use Rattle.json_import.specs.Kept.Imports.{BeginsAlone, KeepsAdopted}
+use Rattle.json_import.specs.declared.kept.outcome.Outcome.{Outcome}
+use Rattle.json_import.specs.declared.kept.outcome.Outcome.TheVariants as outcome
+use Rattle.service_core.specs.Journals.Begun.{IsUnbegun}
 use Rattle.service_core.specs.Steps.{World}
-use Rattle.source_texts.specs.Texts.{IsTaken}
+use Rattle.edge_traits.specs.SourceTexts.Texts.{IsTaken}
 use Rattle.hsds_cli.specs.declared.status.Status.{Status}
 use Rattle.hsds_cli.specs.declared.status.Status.TheVariants.{Done, Words, Configuration, ReadFault, WriteFault, DiskFault, NotAJournal, Refused, JournalExists, InputCut, UsedUp, Budget, NoMemory}
 use Rattle.hsds_cli.specs.Lines.{IsTold, import_line}

@@ -2,7 +2,7 @@
 use Rattle.std.specs.Prelude.{ℕ, ◌≤◌, List, [], ◌∷◌, ◌++◌, length, take, Option, codes, decimal}
 use Rattle.std.specs.Io.KnownBytes.{Appends, Keeps}
 use Rattle.edge_traits.specs.Causes.{Rose}
-use Rattle.domain_imports.specs.declared.counts.Counts.{Counts}
+use Rattle.json_import.specs.declared.adoption.counts.Counts.{Counts}
 use Rattle.domains.specs.Changes.{domain_count, folder_count}
 use Rattle.domains.specs.Contents.{Contents}
 use Rattle.flush_journal.specs.declared.report.Report.{Report}

@@ -9,7 +9,7 @@ use Rattle.flush_journal.specs.Refusals.{NoMagic}
 use Rattle.flush_journal.specs.Unchanged.{SameBytes}
 use Rattle.flush_journal.specs.declared.why.Why.{Why}
 use Rattle.flush_journal.specs.declared.why.Why.TheVariants as why
-use Rattle.kept_journals.specs.FirstJournals.{IsFirstJournal, MayRefuseMaking}
+use Rattle.service_core.specs.Journals.FirstJournals.{IsFirstJournal, MayRefuseMaking}
 use Rattle.hsds_cli.specs.declared.status.Status.{Status}
 use Rattle.hsds_cli.specs.declared.status.Status.TheVariants.{Done, Words, Configuration, ReadFault, WriteFault, DiskFault, NotAJournal, Refused, JournalExists, InputCut, UsedUp, Budget, NoMemory}
 use Rattle.hsds_cli.specs.Lines.{init_line}

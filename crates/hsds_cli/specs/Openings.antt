@@ -9,16 +9,18 @@ use Rattle.flush_journal.specs.Unchanged.{SameBytes}
 use Rattle.flush_journal.specs.declared.report.Report.{Report}
 use Rattle.flush_journal.specs.declared.why.Why.{Why}
 use Rattle.flush_journal.specs.declared.why.Why.TheVariants as why
-use Rattle.kept_journals.specs.Opening.{IsOf}
-use Rattle.kept_journals.specs.declared.faults.OpenFault.{OpenFault}
-use Rattle.kept_journals.specs.declared.faults.OpenFault.TheVariants as fault
-use Rattle.kept_sessions.specs.Sessions.{HoldsHeld, IsBegun, IsLinkKept, IsUnbegun, LeavesSince}
-use Rattle.kept_sessions.specs.declared.outcome.Closed.{Closed}
-use Rattle.kept_sessions.specs.declared.outcome.Outcome.{Outcome}
-use Rattle.kept_sessions.specs.declared.outcome.Outcome.TheVariants as outcome
-use Rattle.link_service.specs.Links.{HasCauses}
-use Rattle.link_service.specs.declared.end.LinkEnd.{LinkEnd}
-use Rattle.link_service.specs.declared.end.LinkEnd.TheVariants as end
+use Rattle.service_core.specs.Journals.Opening.{IsOf}
+use Rattle.service_core.specs.declared.journals.faults.OpenFault.{OpenFault}
+use Rattle.service_core.specs.declared.journals.faults.OpenFault.TheVariants as fault
+use Rattle.rest_session.specs.Kept.Sessions.{HoldsHeld, IsBegun, IsLinkKept}
+use Rattle.flush_journal.specs.Moments.{LeavesSince}
+use Rattle.service_core.specs.Journals.Begun.{IsUnbegun}
+use Rattle.rest_session.specs.declared.kept.outcome.Closed.{Closed}
+use Rattle.rest_session.specs.declared.kept.outcome.Outcome.{Outcome}
+use Rattle.rest_session.specs.declared.kept.outcome.Outcome.TheVariants as outcome
+use Rattle.rest_session.specs.Links.Links.{HasCauses}
+use Rattle.rest_session.specs.declared.links.end.LinkEnd.{LinkEnd}
+use Rattle.rest_session.specs.declared.links.end.LinkEnd.TheVariants as end
 use Rattle.register.specs.Kept.{IsUsedUp}
 use Rattle.rest_session.specs.Sessions.{Served}
 use Rattle.service_core.specs.Records.{DescribesWorld, IsWorldFault}

@@ -4,7 +4,7 @@ use Rattle.edge_traits.specs.Causes.{Rose}
 use Rattle.edge_traits.specs.declared.disk.Disk.{Ghosts}
 use Rattle.command_words.specs.Commands.{Command, command_of, export, import, init, sample, session, verify}
 use Rattle.flush_journal.specs.Unchanged.{SameBytes}
-use Rattle.kept_sessions.specs.declared.outcome.Closed.{Closed}
+use Rattle.rest_session.specs.declared.kept.outcome.Closed.{Closed}
 use Rattle.hsds_cli.specs.declared.status.Status.{Status}
 use Rattle.hsds_cli.specs.declared.status.Status.TheVariants.{Words, Configuration, ReadFault, NoMemory}
 use Rattle.hsds_cli.specs.Exports.{IsExported}

@@ -1,7 +1,7 @@
 -- What `sample` does.
 use Rattle.std.specs.Prelude.{ℕ}
 use Rattle.std.specs.Io.KnownBytes.{Keeps}
-use Rattle.sample_values.specs.Samples.{sample_text}
+use Rattle.samples.specs.Values.Samples.{sample_text}
 use Rattle.hsds_cli.specs.declared.status.Status.{Status}
 use Rattle.hsds_cli.specs.Lines.{IsTold}
 use Rattle.hsds_cli.specs.Sides.{Sides}

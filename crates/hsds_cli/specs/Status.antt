@@ -4,8 +4,8 @@ use Rattle.configuration.specs.declared.fault.ConfigFault.{ConfigFault}
 use Rattle.configuration.specs.declared.fault.ConfigFault.TheVariants as config
 use Rattle.json_export.specs.declared.faults.ExportFault.{ExportFault}
 use Rattle.json_export.specs.declared.faults.ExportFault.TheVariants as export
-use Rattle.source_texts.specs.declared.reading.TextFault.{TextFault}
-use Rattle.source_texts.specs.declared.reading.TextFault.TheVariants as text
+use Rattle.edge_traits.specs.declared.source_texts.reading.TextFault.{TextFault}
+use Rattle.edge_traits.specs.declared.source_texts.reading.TextFault.TheVariants as text
 use Rattle.hsds_cli.specs.declared.status.Status.{Status}
 use Rattle.hsds_cli.specs.declared.status.Status.TheVariants.{Done, Words, Configuration, ReadFault, WriteFault, DiskFault, NotAJournal, Refused, JournalExists, InputCut, UsedUp, Budget, NoMemory}
 

@@ -1,5 +1,5 @@
 use crate::status::Status;
-use kept_sessions::Closed;
+use rest_session::kept::Closed;
 
 /// What a command came to, the disk, and how a session's link left the world, where one was served.
 #[derive(Drop)]

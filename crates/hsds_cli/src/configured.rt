@@ -8,7 +8,7 @@ ghost use Rattle.hsds_cli.specs.Sides.{Spells};
 use crate::status::Status;
 use configuration::{Config, read_config};
 use edge_traits::Source;
-use source_texts::read_text;
+use edge_traits::source_texts::read_text;
 use std::alloc::Global;
 
 /// The most bytes of a configuration.

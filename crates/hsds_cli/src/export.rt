@@ -9,13 +9,13 @@ ghost use Rattle.hsds_cli.specs.Exports.{IsDocumentTold, IsExported, IsLineOf, I
 use crate::command_end::CommandEnd;
 use crate::operate::{opening_status, print};
 use crate::status::Status;
-use described_worlds::objects_are_whole;
-use domain_imports::exports_are_loaded;
 use edge_traits::{Disk, Sink};
 use json_export::document_text;
-use kept_journals::{OpenRefused, Opened, open_world};
+use json_import::adoption::exports_are_loaded;
 use object_ids::DomainPath;
 use service_core::World;
+use service_core::described::objects_are_whole;
+use service_core::journals::{OpenRefused, Opened, open_world};
 use std::alloc::Global;
 
 /// Prints the document of the domain at a path, of the world that a journal keeps, and a line feed. No byte of the disk changes.

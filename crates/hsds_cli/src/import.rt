@@ -10,9 +10,9 @@ use crate::lines::counts_line;
 use crate::operate::{opening_status, print};
 use crate::session::refusal_status;
 use crate::status::Status;
-use domain_imports::Counts;
 use edge_traits::{Disk, Sink, Source};
-use kept_imports::{Imported, Outcome, import_domain};
+use json_import::adoption::Counts;
+use json_import::kept::{Imported, Outcome, import_domain};
 use object_ids::{DomainPath, Name};
 use std::alloc::Global;
 

@@ -5,8 +5,8 @@ ghost use Rattle.std.specs.Io.KnownBytes.{Appends};
 ghost use Rattle.edge_traits.specs.Causes.{HasCause};
 ghost use Rattle.hsds_cli.specs.Lines.{import_line, made_line, verify_line};
 
-use domain_imports::Counts;
 use flush_journal::Report;
+use json_import::adoption::Counts;
 use std::alloc::{AllocError, Global};
 
 /// What `init` prints of the folders and domains that it kept.

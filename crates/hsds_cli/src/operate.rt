@@ -6,7 +6,7 @@ ghost use Rattle.flush_journal.specs.Unchanged.{SameBytes, SameDisk};
 ghost use Rattle.hsds_cli.specs.Lines.{IsPrinted, IsTold, verify_line};
 ghost use Rattle.hsds_cli.specs.Makings.{IsInit, making_status};
 ghost use Rattle.hsds_cli.specs.Openings.{IsVerified, opening_status};
-ghost use Rattle.sample_values.specs.Samples.{sample_text};
+ghost use Rattle.samples.specs.Values.Samples.{sample_text};
 
 use crate::command_end::CommandEnd;
 use crate::configured::configured;
@@ -14,10 +14,10 @@ use crate::lines::{made_line, report_line};
 use crate::status::Status;
 use edge_traits::{Disk, Failed, Sink, Source, write_all};
 use flush_journal::{JournalRefused, Report, Why};
-use kept_journals::{
+use samples::sample_text;
+use service_core::journals::{
     OpenFault, OpenRefused, Opened, first_roots_by_runs_and_serials, make_journal, open_world,
 };
-use samples::sample_text;
 use std::alloc::Global;
 
 /// Makes a journal for so many lanes of the configured folders and domains, and prints their numbers.

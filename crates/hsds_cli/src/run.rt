@@ -1,7 +1,7 @@
 ghost use Rattle.std.specs.Prelude.{◌≡◌, ◌⊎◌, ◌≤◌, ℕ, None, Some, map, string_bytes, vec_len};
 ghost use Rattle.command_words.specs.Commands.{Command, command_of};
 ghost use Rattle.flush_journal.specs.Unchanged.{SameDisk};
-ghost use Rattle.kept_sessions.specs.declared.outcome.Closed.{Closed};
+ghost use Rattle.rest_session.specs.declared.kept.outcome.Closed.{Closed};
 ghost use Rattle.hsds_cli.specs.declared.run.TheConstants.{MAX_DOORS};
 ghost use Rattle.hsds_cli.specs.declared.status.Status.{Status};
 ghost use Rattle.hsds_cli.specs.Status.{number_of};
@@ -17,7 +17,7 @@ use crate::session::session;
 use crate::status::Status;
 use command_words::{Wanted, WordsFault, wanted};
 use edge_traits::{Disk, Door, Sink, Source};
-use kept_sessions::Closed;
+use rest_session::kept::Closed;
 use std::alloc::Global;
 
 /// How many doors a run may have.

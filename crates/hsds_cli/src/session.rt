@@ -3,7 +3,7 @@
 ghost use Rattle.std.specs.Prelude.{◌≡◌, ◌≤◌, None};
 ghost use Rattle.flush_journal.specs.Unchanged.{SameDisk};
 ghost use Rattle.edge_traits.specs.Causes.{Rose};
-ghost use Rattle.kept_sessions.specs.Sessions.{HasCausesOf, IsDiskFault, IsEnded};
+ghost use Rattle.rest_session.specs.Kept.Sessions.{HasCausesOf, IsDiskFault, IsEnded};
 ghost use Rattle.hsds_cli.specs.Sides.{sides_of};
 ghost use Rattle.hsds_cli.specs.Openings.{IsSession, closed_by, refusal_status};
 ghost use Rattle.hsds_cli.specs.Openings.{status_by, status_of};
@@ -15,9 +15,9 @@ use crate::status::Status;
 use crate::two_ends::TwoEnds;
 use edge_traits::{Disk, Sink, Source};
 use flush_journal::Why;
-use kept_sessions::{Closed, Ended, Outcome, serve_disk};
-use link_service::LinkEnd;
 use rest_requests::Tokens;
+use rest_session::kept::{Closed, Ended, Outcome, serve_disk};
+use rest_session::links::LinkEnd;
 use std::alloc::Global;
 
 /// Serves the world that a disk keeps to two streams as one link, by the configuration.

@@ -3,8 +3,8 @@ ghost use Rattle.hsds_cli.specs.Status.{config_status, export_status, number_of,
 ghost use Rattle.hsds_cli.specs.declared.status.Status.{Status};
 
 use configuration::ConfigFault;
+use edge_traits::source_texts::TextFault;
 use json_export::ExportFault;
-use source_texts::TextFault;
 
 /// How a run of the program ends.
 #[derive(Clone, Copy, Debug, PartialEq, Eq)]

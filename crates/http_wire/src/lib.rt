@@ -34,6 +34,3 @@ pub use message::Message;
 pub use message_fault::MessageFault;
 pub use replies::{no_memory_reply, write_reply};
 pub use taken::Taken;
-
-#[cfg(test)]
-mod tests;

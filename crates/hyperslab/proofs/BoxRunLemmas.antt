@@ -11,8 +11,8 @@ use Rattle.hyperslab.specs.declared.TheConstants.{MAX_SELECTED}
 use Rattle.hyperslab.specs.Selected.{AreAxes, axes_of, cell_at, extents, point}
 use Rattle.hyperslab.proofs.SelectLemmas.{below_room}
 use Rattle.hyperslab.proofs.CellLemmas.{cell_placed}
-use Rattle.chunk_layout.specs.declared.TheConstants.{MAX_CHUNK_BYTES}
-use Rattle.chunk_layout.specs.Chunks.{IsChunkDim}
+use Rattle.shapes.specs.declared.TheConstants.{MAX_CHUNK_BYTES}
+use Rattle.shapes.specs.ChunkDims.{IsChunkDim}
 use Rattle.hyperslab.specs.declared.numbered.Numbered.{Numbered}
 use Rattle.hyperslab.specs.declared.runs.Run.{Run}
 use Rattle.hyperslab.specs.Runs.{InBox, inner, IsBoxed, IsRun, IsStep, AreRuns, AreBoxed, AreAll, AreOnce, run_at, place_at, offset_at}

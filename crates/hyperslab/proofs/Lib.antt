@@ -7,7 +7,7 @@ pub mod KeptLemmas
 pub mod TextLemmas
 pub mod WithinLemmas
 pub mod CellLemmas
-pub mod AdvanceLemmas
+pub mod StartLemmas
 pub mod AlikeLemmas
 pub mod WrittenLemmas
 pub mod OutcomeLemmas
@@ -18,4 +18,3 @@ pub mod BoxLemmas
 pub mod SideLemmas
 pub mod BoxRunLemmas
 pub mod RowLemmas
-pub mod ChunkBoxLemmas

@@ -5,12 +5,12 @@ use Rattle.std.proofs.lemmas.Bool.{cases_lt}
 use Rattle.std.proofs.lemmas.List.{drop_more, length-map}
 use Rattle.shapes.specs.Places.{cell_count}
 use Rattle.shapes.proofs.PlaceLemmas.{cell_count-room, some_factor}
-use Rattle.chunk_layout.specs.declared.TheConstants.{MAX_CHUNK_BYTES}
+use Rattle.shapes.specs.declared.TheConstants.{MAX_CHUNK_BYTES}
 use Rattle.hyperslab.specs.declared.TheConstants.{MAX_SELECTED}
 use Rattle.hyperslab.specs.declared.numbered.Numbered.{Numbered}
 use Rattle.hyperslab.specs.declared.numbered.Row.{Row}
 use Rattle.hyperslab.specs.declared.numbered.Last.{Last}
-use Rattle.chunk_layout.specs.Chunks.{IsChunkDim}
+use Rattle.shapes.specs.ChunkDims.{IsChunkDim}
 use Rattle.hyperslab.specs.Selected.{AreAxes, IsAxis, extents}
 use Rattle.hyperslab.specs.Numbered.{AreNumbered, IsLast, IsRow, Side, sides_of, run_of, moved, first_of, count_of, extent_of, wide_of, place_to, offset_to, last_count}
 use Rattle.hyperslab.proofs.BoxLemmas.{axis_of, counts, extents_to, wides, axis_in, lifted, shifted}

@@ -15,8 +15,8 @@ use Rattle.hyperslab.specs.declared.Slab.{Slab}
 use Rattle.hyperslab.proofs.AxisLemmas.{axis_with, length-axes, same_axis}
 use Rattle.hyperslab.proofs.SelectLemmas.{point_below}
 use Rattle.hyperslab.proofs.CellLemmas.{extent_above}
-use Rattle.chunk_layout.specs.Chunks.{IsChunkDim}
-use Rattle.chunk_layout.proofs.CellLemmas.{one_cell}
+use Rattle.shapes.specs.ChunkDims.{IsChunkDim}
+use Rattle.shapes.proofs.ChunkDimLemmas.{one_cell}
 use Rattle.hyperslab.specs.Numbered.{Side, sides, below, first_of, count_of, extent_of, wide_of, steps_to, place_to, offset_to, last_count, last_step}
 use Rattle.hyperslab.proofs.BoxLemmas.{axis_of, low_of, counts, extents_to, wides, axis_in, box_in, last_divides}
 

@@ -12,4 +12,4 @@ pub use Rattle.shapes.specs.Extents
 pub use Rattle.shapes.specs.Spelled
 pub use Rattle.serde_json.specs.View
 pub use Rattle.serde_json.specs.Data
-pub use Rattle.chunk_layout.specs.Chunks
+pub use Rattle.shapes.specs.ChunkDims

@@ -3,7 +3,7 @@ use Rattle.std.specs.Prelude.{◌≡◌, ℕ, ◌+◌, ◌*◌, ◌-◌, ◌%◌
 use Rattle.std.specs.List.{range_with_len}
 use Rattle.shapes.specs.Places.{cell_count, digits_by, place}
 use Rattle.hyperslab.specs.Selected.{Axis, IsSlab, axes_of, extent, extents}
-use Rattle.chunk_layout.specs.Chunks.{IsChunk}
+use Rattle.shapes.specs.ChunkDims.{IsChunk}
 use Rattle.hyperslab.specs.declared.numbered.Numbered.{Numbered}
 use Rattle.hyperslab.specs.declared.numbered.Row.{Row}
 use Rattle.hyperslab.specs.declared.numbered.Last.{Last}

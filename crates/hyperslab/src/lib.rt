@@ -10,22 +10,15 @@ ghost use Rattle.hyperslab.specs.declared.TheConstants.{MAX_DIGITS, MAX_SELECTED
 
 use shapes::Dims;
 
-mod advance;
 mod all_cells;
-mod boxes;
 mod judging;
 mod lists;
 mod numbered;
 mod reading;
-#[cfg(test)]
-mod run_tests;
 mod runs;
 mod selected;
-#[cfg(test)]
-mod tests;
 
 pub use all_cells::whole;
-pub use boxes::boxes_of_chunks;
 pub use judging::one_outcome;
 pub use lists::{from_lists, lists_or_fault};
 pub use reading::{Part, read_select, reading_or_fault, written_reads_back};

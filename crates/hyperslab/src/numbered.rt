@@ -5,7 +5,7 @@
 
 ghost use Rattle.std.specs.Prelude.{◌≡◌, ◌≤◌, ◌<◌, ◌+◌, ◌-◌, ◌/◌, ◌^◌, length, slice_index_or};
 ghost use Rattle.std.specs.List.{AllZip};
-ghost use Rattle.chunk_layout.specs.Chunks.{IsChunk};
+ghost use Rattle.shapes.specs.ChunkDims.{IsChunk};
 ghost use Rattle.hyperslab.specs.Selected.{IsSlab, extent};
 ghost use Rattle.hyperslab.specs.Numbered.{AreNumbered, IsLast, IsRow, run_of};
 

@@ -3,7 +3,7 @@
 ghost use Rattle.std.specs.Prelude.{◌≡◌, ◌+◌, ◌<◌, ◌^◌, length};
 ghost use Rattle.std.specs.Iterator.{YieldsFirst, item_count};
 ghost use Rattle.std.specs.List.{AllZip};
-ghost use Rattle.chunk_layout.specs.Chunks.{IsChunk};
+ghost use Rattle.shapes.specs.ChunkDims.{IsChunk};
 ghost use Rattle.hyperslab.specs.Selected.{IsSlab};
 ghost use Rattle.hyperslab.specs.Runs.{AreAll, AreBoxed, AreOnce, AreRuns};
 

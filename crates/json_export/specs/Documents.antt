@@ -5,9 +5,9 @@ use Rattle.serde_json.specs.Written.{compact_text}
 use Rattle.domains.specs.Contents.{class_at}
 use Rattle.domains.specs.declared.classes.NodeClass.{NodeClass}
 use Rattle.domains.specs.declared.classes.NodeClass.TheVariants.{Folder, Domain}
-use Rattle.domain_documents.specs.Documents.{document_tree}
-use Rattle.domain_documents.specs.Printed.{ReadsAs}
-use Rattle.domain_documents.specs.declared.home.Home.{Home}
+use Rattle.documents.specs.Domains.Documents.{document_tree}
+use Rattle.documents.specs.Domains.Printed.{ReadsAs}
+use Rattle.documents.specs.declared.domains.home.Home.{Home}
 use Rattle.service_core.specs.Steps.{World}
 use Rattle.json_export.specs.declared.faults.ExportFault.{ExportFault}
 use Rattle.json_export.specs.declared.faults.ExportFault.TheVariants.{NoDomain, TooLarge, NoMemory}

@@ -1,6 +1,6 @@
 -- The faults of printing, as those of an export.
-use Rattle.domain_documents.specs.declared.printed.PrintFault.{PrintFault}
-use Rattle.domain_documents.specs.declared.printed.PrintFault.TheVariants as print
+use Rattle.documents.specs.declared.domains.printed.PrintFault.{PrintFault}
+use Rattle.documents.specs.declared.domains.printed.PrintFault.TheVariants as print
 use Rattle.json_export.specs.declared.faults.ExportFault.{ExportFault}
 use Rattle.json_export.specs.declared.faults.ExportFault.TheVariants.{TooLarge, NoMemory}
 

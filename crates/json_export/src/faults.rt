@@ -3,7 +3,7 @@
 ghost use Rattle.std.specs.Prelude.{◌≡◌};
 ghost use Rattle.json_export.specs.Faults.{of_print};
 
-use domain_documents::PrintFault;
+use documents::domains::PrintFault;
 
 /// Why a document is not given.
 #[derive(Clone, Copy, Debug, PartialEq, Eq)]

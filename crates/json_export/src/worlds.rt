@@ -1,6 +1,6 @@
 //! A world as a store of objects.
 
-use domain_documents::ObjectStore;
+use documents::domains::ObjectStore;
 use object_acts::Object;
 use object_ids::ObjectId;
 use service_core::World;

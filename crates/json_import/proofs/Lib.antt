@@ -1,4 +1,4 @@
-mod CollectionLemmas
-mod ParseLemmas
-mod ObjectLemmas
-pub mod DocumentLemmas
+pub mod OfAdoption
+pub mod OfFresh
+pub mod OfKept
+pub mod RoundTrips

@@ -1,5 +1,4 @@
-pub mod Objects
-pub mod Collections
-pub mod Texts
-pub mod Documents
-pub mod Loads
+pub mod Adoption
+pub mod Fresh
+pub mod Kept
+pub mod RoundTrips

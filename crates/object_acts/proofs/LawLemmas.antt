@@ -2,7 +2,7 @@
 use Rattle.std.proofs.Common.{◌≡◌, ℕ, Bool, true, false, cond, List, Option, Some, None, refl, ap}
 use Rattle.std.specs.FinMap.{FinMap, contains_key, remove}
 use Rattle.serde_json.specs.Data.{Data}
-use Rattle.text_maps.specs.Keyed.{text_order}
+use Rattle.containers.specs.TextMaps.Keyed.{text_order}
 use Rattle.object_ids.specs.IdValues.{Id}
 use Rattle.object_ids.specs.declared.limits.LimitKind.{LimitKind}
 use Rattle.object_ids.specs.declared.limits.LimitKind.TheVariants as limit
@@ -21,7 +21,7 @@ use Rattle.object_ops.specs.declared.refusals.Refusal.TheVariants.{NoName}
 use Rattle.object_ops.specs.declared.replies.Reply.{Reply}
 use Rattle.object_ops.specs.declared.replies.Reply.TheVariants.{Done, Refused}
 use Rattle.object_ops.specs.Answers.{nothing}
-use Rattle.array_acts.specs.Arrays.{shape_changed, value_written}
+use Rattle.object_acts.specs.Arrays.Arrays.{shape_changed, value_written}
 use Rattle.object_acts.specs.declared.objects.Object.{Object}
 use Rattle.object_acts.specs.declared.objects.Body.{Body}
 use Rattle.object_acts.specs.declared.objects.Body.TheVariants.{Group, Dataset, Datatype}

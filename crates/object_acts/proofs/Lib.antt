@@ -1,1 +1,4 @@
 pub mod LawLemmas
+pub mod OfArrays
+pub mod OfDepths
+pub mod OfExact

@@ -2,7 +2,7 @@
 use Rattle.std.specs.Prelude.{ℕ, List, Bool, true, false, Option, Some, None, codes, if◌then◌else◌}
 use Rattle.std.specs.FinMap.{FinMap, get, insert, remove, contains_key}
 use Rattle.serde_json.specs.Data.{Data}
-use Rattle.text_maps.specs.Keyed.{text_order}
+use Rattle.containers.specs.TextMaps.Keyed.{text_order}
 use Rattle.object_ids.specs.IdValues.{Id}
 use Rattle.object_ids.specs.declared.limits.LimitKind.{LimitKind}
 use Rattle.object_ids.specs.declared.limits.LimitKind.TheVariants as limit
@@ -29,7 +29,7 @@ use Rattle.object_acts.specs.declared.objects.Body.{Body}
 use Rattle.object_acts.specs.declared.objects.Body.TheVariants.{Group, Dataset, Datatype}
 use Rattle.object_acts.specs.Objects.{bare}
 use Rattle.object_acts.specs.Trees.{object_tree}
-use Rattle.array_acts.specs.Arrays.{value_read, points_read, shape_read, type_read, value_written, shape_changed}
+use Rattle.object_acts.specs.Arrays.Arrays.{value_read, points_read, shape_read, type_read, value_written, shape_changed}
 
 abbrev pub Titles : Type 0
 Titles = FinMap text_order LinkTo

@@ -4,7 +4,7 @@ use Rattle.chunk_store.specs.Grids.{Grid}
 use Rattle.chunk_store.specs.Marks.{is_dirty}
 use Rattle.object_ops.specs.declared.ops.Op.{Op}
 use Rattle.object_ops.specs.declared.ops.Op.TheVariants.{PutShape, PutValue}
-use Rattle.array_acts.specs.Marked.{is_cut, is_written}
+use Rattle.object_acts.specs.Arrays.Marked.{is_cut, is_written}
 use Rattle.object_acts.specs.declared.objects.Body.{Body}
 use Rattle.object_acts.specs.declared.objects.Body.TheVariants.{Group, Dataset, Datatype}
 

@@ -10,7 +10,7 @@ use Rattle.hdf_types.specs.Printed.{type_tree}
 use Rattle.shapes.specs.declared.printing.Form.TheVariants.{Rest}
 use Rattle.shapes.specs.Printed.{shape_tree}
 use Rattle.chunk_store.specs.Grids.{Grid}
-use Rattle.array_acts.specs.Creation.{creation_tree}
+use Rattle.object_acts.specs.Arrays.Creation.{creation_tree}
 use Rattle.object_acts.specs.declared.objects.Object.{Object}
 use Rattle.object_acts.specs.declared.objects.Body.{Body}
 use Rattle.object_acts.specs.declared.objects.Body.TheVariants.{Group, Dataset, Datatype}

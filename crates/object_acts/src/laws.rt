@@ -10,7 +10,7 @@ ghost use Rattle.object_acts.specs.declared.objects.Object.{Object};
 ghost use Rattle.object_acts.specs.Objects.{unmarked};
 ghost use Rattle.object_acts.specs.Acts.{change_of, link_put, on_links};
 
-use array_acts::refusals_leave_the_array;
+use crate::arrays::refusals_leave_the_array;
 
 /// A refused change leaves the object as requests see it, and so does a refused link to an object that is to be made.
 pub fn refusals_leave_the_object()

@@ -1,9 +1,14 @@
 //! Objects, which are groups, datasets and committed datatypes with their attributes, and what each operation answers
 //! and changes of one of them (HDF REST API, "Group", "Dataset", "Datatype", "Link", "Attribute").
+//!
+//! [`arrays`] has what is read of arrays and written to them, [`depths`] and [`exact`] laws of the trees.
 #![tactic(auto)]
 
+pub mod arrays;
 mod attribute_acts;
 mod changing;
+pub mod depths;
+pub mod exact;
 mod laws;
 mod link_acts;
 mod names;

@@ -5,15 +5,15 @@ ghost use Rattle.shapes.specs.declared.printing.Form.TheVariants.{Rest};
 ghost use Rattle.groups_links.specs.Printed.{links_list};
 ghost use Rattle.object_ops.specs.Answers.{only};
 ghost use Rattle.object_ops.specs.declared.replies.Reply.TheVariants.{Done};
-ghost use Rattle.array_acts.specs.Arrays.{value_read, points_read, shape_read, type_read};
+ghost use Rattle.object_acts.specs.Arrays.Arrays.{value_read, points_read, shape_read, type_read};
 ghost use Rattle.object_acts.specs.Objects.{unmarked, IsSoundBody};
 ghost use Rattle.object_acts.specs.Acts.{of_array, of_links, link_read, reads_object, reply_of};
 
+use crate::arrays::{read_points, read_shape, read_type, read_value};
 use crate::attribute_acts::{get_attribute, list_attributes};
 use crate::link_acts::{get_link, list_links};
 use crate::objects::{Body, Object};
 use crate::trees::object_json;
-use array_acts::{read_points, read_shape, read_type, read_value};
 use json_trees::Tree;
 use object_ids::{Name, ObjectId};
 use object_ops::{Op, Refusal, Reply, SelectText};

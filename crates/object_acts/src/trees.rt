@@ -7,8 +7,8 @@ ghost use Rattle.hdf_types.specs.Views.{elem as elem_of};
 ghost use Rattle.object_acts.specs.Objects.{IsSoundBody};
 ghost use Rattle.object_acts.specs.Trees.{object_tree, group_tree, dataset_tree, datatype_tree};
 
+use crate::arrays::creation_json;
 use crate::objects::{Body, Object};
-use array_acts::creation_json;
 use chunk_store::Array;
 use hdf_types::{ElemType, type_json};
 use object_ids::{ObjectId, id_text};

@@ -1,10 +1,12 @@
 -- The order of ids is total, and only equal ids tie.
-use Rattle.std.proofs.Common.{◌≡◌, Ordering, Less, Equal, Greater, refl, rules, arith}
+use Rattle.std.proofs.Common.{◌≡◌, true, Ordering, Less, Equal, Greater, is_eq, refl, ap, rules, arith}
 use Rattle.std.specs.Cmp.{IsTotalOrder}
 use Rattle.std.specs.Cmp.Rules.{comparing}
 use Rattle.std.specs.FinMap.{IsAntisymmetric, nat_cmp-IsAntisymmetric}
-use Rattle.std.specs.Ordering.{nat_cmp, ordering_then}
+use Rattle.std.specs.Ordering.{eq_by_cmp, nat_cmp, ordering_then}
+use Rattle.std.proofs.lemmas.Cmp.{tied_itself}
 use Rattle.object_ids.specs.IdOrder.{id_order, kind_rank}
+use Rattle.object_ids.specs.IdValues.{Id}
 use Rattle.object_ids.specs.declared.ids.Kind.{Kind}
 use Rattle.object_ids.specs.declared.ids.Kind.TheVariants.{Group, Dataset, Datatype}
 
@@ -37,3 +39,7 @@ id_order_once x y e =
     let run = nat_cmp-IsAntisymmetric x.run y.run c.0 in
     let serial = nat_cmp-IsAntisymmetric x.serial y.serial c.1 in
     λ i. record { kind = kind i; domain = domain i; run = run i; serial = serial i }
+
+-- an id ties with itself
+pub itself : (id : Id) → eq_by_cmp id_order id id ≡ true
+itself id = ap is_eq (tied_itself id_order_total id)

@@ -4,10 +4,10 @@ use Rattle.std.specs.Cmp.{Equal-is}
 use Rattle.std.specs.Cmp.Lexicographic.{nat_list_cmp_total}
 use Rattle.std.specs.FinMap.{FinMap, empty, entries, entries_sorted, get, insert, remove, get-empty, get-entries, get-insert, get-remove}
 use Rattle.std.specs.Ordering.{eq_by_cmp}
-use Rattle.text_maps.specs.Keyed.{text_order, keyed, with_values}
-use Rattle.text_maps.specs.Nexts.{IsNext, IsStep, IsKeyStep}
-use Rattle.text_maps.proofs.KeyedMaps.{exact_texts}
-use Rattle.text_maps.proofs.ValueMaps.{entries-values, keys_held, map-keyed, next-values, step-values}
+use Rattle.containers.specs.TextMaps.Keyed.{text_order, keyed, with_values}
+use Rattle.containers.specs.TextMaps.Nexts.{IsNext, IsStep, IsKeyStep}
+use Rattle.containers.proofs.TextMaps.KeyedMaps.{exact_texts}
+use Rattle.containers.proofs.TextMaps.ValueMaps.{entries-values, keys_held, map-keyed, next-values, step-values}
 use Rattle.object_ids.specs.NamedEntries.{AreNamed, named_entries}
 use Rattle.object_ids.specs.declared.name_map.Named.{Named}
 

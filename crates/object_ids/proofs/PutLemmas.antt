@@ -2,7 +2,7 @@
 use Rattle.std.proofs.Common.{◌≡◌, ◌<◌, ◌≤◌, ℕ, ◌+◌, ◌-◌, List, true, false, cond, arith}
 use Rattle.std.specs.FinMap.{FinMap, insert, remove, len, contains_key, len-insert, len-remove}
 use Rattle.std.specs.Cmp.Lexicographic.{nat_list_cmp_total}
-use Rattle.text_maps.specs.Keyed.{text_order}
+use Rattle.containers.specs.TextMaps.Keyed.{text_order}
 
 module _ {X : Type 0} where
   pub insert_most : (most : ℕ) (m : FinMap text_order X) (k : List ℕ) (v : X) → len m < most → len (insert m k v) ≤ most

@@ -1,6 +1,6 @@
 -- What holds of the texts of all ids.
 use Rattle.std.specs.Prelude.{◌≡◌}
-use Rattle.text_maps.specs.Keyed.{text_order}
+use Rattle.containers.specs.TextMaps.Keyed.{text_order}
 use Rattle.object_ids.specs.IdOrder.{id_order}
 use Rattle.object_ids.specs.Ids.{InRange, text_of_id}
 use Rattle.object_ids.specs.IdValues.{Id}

@@ -2,7 +2,7 @@
 use Rattle.std.specs.Prelude.{◌≡◌, ℕ, List, map, Some}
 use Rattle.std.specs.FinMap.{FinMap, get}
 use Rattle.object_ids.specs.declared.name_map.Named.{Named}
-use Rattle.text_maps.specs.Keyed.{text_order}
+use Rattle.containers.specs.TextMaps.Keyed.{text_order}
 
 -- each name stands at its own text
 abbrev pub AreNamed : {X : Type 0} → FinMap text_order (Named X) → Type 0

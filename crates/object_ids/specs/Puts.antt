@@ -1,7 +1,7 @@
 -- When a value can be put at a name that is to be new.
 use Rattle.std.specs.Prelude.{◌≡◌, ℕ, List, Option, Some, None, Result, Ok, Err, nat_lt, if◌then◌else◌}
 use Rattle.std.specs.FinMap.{FinMap, contains_key, len}
-use Rattle.text_maps.specs.Keyed.{text_order}
+use Rattle.containers.specs.TextMaps.Keyed.{text_order}
 use Rattle.object_ids.specs.declared.puts.PutFault.{PutFault}
 use Rattle.object_ids.specs.declared.puts.PutFault.TheVariants.{Taken, Limit, NoMemory}
 

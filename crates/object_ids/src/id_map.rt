@@ -6,13 +6,13 @@ ghost use Rattle.std.specs.BTreeMap.{IsOrdered};
 ghost use Rattle.std.specs.Option.{option_copied, option_copied_mut};
 ghost use Rattle.object_ids.specs.IdOrder.{id_order};
 ghost use Rattle.object_ids.specs.contracts.id_map.IdMap.{the_row};
-ghost use Rattle.text_maps.specs.Nexts.{first, left, IsNext, IsKeyStep};
+ghost use Rattle.containers.specs.TextMaps.Nexts.{first, left, IsNext, IsKeyStep};
 
 use crate::ids::ObjectId;
+use containers::text_maps::entry_behind;
 use std::alloc::{AllocError, Global};
 use std::collections::BTreeMap;
 use std::marker::Model;
-use text_maps::entry_behind;
 
 /// A map from ids to values, in the order of the ids.
 #[derive(Drop)]

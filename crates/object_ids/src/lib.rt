@@ -22,6 +22,3 @@ pub use paths::{
 };
 pub use puts::{NoName, PutFault};
 pub use texts::{id_text, read_id};
-
-#[cfg(test)]
-mod tests;

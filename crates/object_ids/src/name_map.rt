@@ -6,14 +6,14 @@ ghost use Rattle.std.specs.Option.{option_copied, option_copied_mut};
 ghost use Rattle.object_ids.specs.NamedEntries.{named_entries};
 ghost use Rattle.object_ids.specs.Puts.{put_fault, Blames};
 ghost use Rattle.object_ids.specs.contracts.name_map.NameMap.{the_row};
-ghost use Rattle.text_maps.specs.Nexts.{IsNext, IsKeyStep};
+ghost use Rattle.containers.specs.TextMaps.Nexts.{IsNext, IsKeyStep};
 
 use crate::names::Name;
 use crate::puts::PutFault;
+use containers::text_maps::TextMap;
 use std::alloc::{AllocError, Global};
 use std::collections::BTreeMap;
 use std::marker::Model;
-use text_maps::TextMap;
 
 /// A name and the value at it.
 #[derive(Drop)]
@@ -34,7 +34,7 @@ impl<V> Model for NameMap<V> {
     ghost use Rattle.std.specs.Coded.{coded_ℕ, coded_list};
     ghost use Rattle.std.specs.FinMap as map;
     ghost use Rattle.object_ids.specs.NamedEntries.{AreNamed};
-    ghost use Rattle.text_maps.specs.Keyed.{text_order, with_values};
+    ghost use Rattle.containers.specs.TextMaps.Keyed.{text_order, with_values};
 
     ghost Value = { map.FinMap text_order V };
 

@@ -5,7 +5,7 @@ ghost use Rattle.std.specs.List.{list_all};
 ghost use Rattle.std.specs.Str.{bytes_eq};
 ghost use Rattle.object_ids.specs.Names.{is_name, is_name_byte};
 ghost use Rattle.object_ids.specs.declared.names.NameFault.TheVariants.{NoMemory};
-ghost use Rattle.text_maps.specs.Keyed.{text_order};
+ghost use Rattle.containers.specs.TextMaps.Keyed.{text_order};
 
 use std::alloc::{AllocError, Global};
 use std::cmp::Ordering;

@@ -11,3 +11,4 @@ pub use Rattle.access_lists.specs.RightWords
 pub use Rattle.hdf_types.specs.Elems
 pub use Rattle.serde_json.specs.View
 pub use Rattle.serde_json.specs.Data
+pub mod Creation

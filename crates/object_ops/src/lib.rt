@@ -1,7 +1,10 @@
 //! The words of requests and replies (HDF REST API): what can be asked of a folder, a domain or an object, what is
 //! answered, why a request is refused, and which right each request needs.
+//!
+//! [`creation`] has the chunks and the fill that a dataset is made with.
 #![tactic(auto)]
 
+pub mod creation;
 mod grants;
 mod laws;
 mod ops;
@@ -10,8 +13,6 @@ mod refusals;
 mod replies;
 mod rights;
 mod select_trees;
-#[cfg(test)]
-mod tests;
 mod value_trees;
 mod words;
 

@@ -8,7 +8,7 @@ use Rattle.object_acts.specs.Objects.{unmarked, unmarked_body}
 use Rattle.object_acts.specs.declared.objects.Object.{Object}
 use Rattle.object_acts.specs.declared.objects.Body.{Body}
 use Rattle.object_acts.specs.declared.objects.Body.TheVariants.{Group, Dataset, Datatype}
-use Rattle.exact_trees.proofs.Floats.{attributes_exact, creation_exact, links_exact, neither, shape_exact, type_exact}
+use Rattle.object_acts.proofs.OfExact.Floats.{attributes_exact, creation_exact, links_exact, neither, shape_exact, type_exact}
 use Rattle.object_records.specs.Objects.{body_tree, object_body, object_tree}
 
 -- no number of an object's tree has a fraction or an exponent

@@ -20,11 +20,11 @@ use Rattle.chunk_layout.specs.Asked.{IsAnswer, asked_of}
 use Rattle.chunk_layout.specs.declared.Layout.{Layout}
 use Rattle.chunk_layout.specs.declared.LayoutFault.{LayoutFault}
 use Rattle.chunk_layout.specs.Layouts.{Fits, IsWhole as IsWholeNumber}
-use Rattle.default_chunks.specs.Halving.{default_chunk}
-use Rattle.default_chunks.proofs.HalvingLemmas.{default_only}
+use Rattle.chunk_layout.specs.DefaultChunks.Halving.{default_chunk}
+use Rattle.chunk_layout.proofs.DefaultChunks.HalvingLemmas.{default_only}
 use Rattle.chunk_layout.proofs.LayoutLemmas.{asked_read}
 use Rattle.chunk_store.specs.Grids.{Grid, IsWhole, blank_of}
-use Rattle.array_acts.specs.Creation.{creation_tree, fill_members, layout_members, layout_tree}
+use Rattle.object_acts.specs.Arrays.Creation.{creation_tree, fill_members, layout_members, layout_tree}
 use Rattle.object_records.specs.Creations.{chunk_or, creation_in, fill_in, has_no_filter}
 use Rattle.object_records.specs.Lists.{no_fault}
 

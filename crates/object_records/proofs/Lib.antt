@@ -4,3 +4,4 @@ pub mod CreationLemmas
 pub mod ReadLemmas
 pub mod SameLemmas
 pub mod BodyLemmas
+pub mod OfKeys

@@ -1,6 +1,6 @@
 -- A list of trees that spell the entries of a map, in order, reads as the map.
 use Rattle.std.proofs.Common.{◌≡◌, ℕ, suc, ◌+◌, ◌<◌, ◌≤◌, List, [], ◌∷◌, ◌++◌, map, length, nat_lt, T, Bool, false, cond, if◌then◌else◌, Option, Some, None, option_and_then, is_some, Less, refl, sym, ap, ◌∙◌, arith, append_assoc, append-nil}
-use Rattle.std.specs.Ordering.{is_eq, eq_by_cmp, ordering_reverse}
+use Rattle.std.specs.Ordering.{is_eq, eq_by_cmp}
 use Rattle.std.specs.FinMap.{FinMap, get, insert, entries, entries_sorted, empty, from_entries, find, is_sorted, len, same_map, get-from_entries, get-entries, from_entries_push, len-empty, len-entries}
 use Rattle.std.specs.FinMap.Entries.{below_all, find-append}
 use Rattle.std.specs.List.{AllByRecursion, AllZip}
@@ -11,14 +11,11 @@ use Rattle.object_ids.specs.Puts.{put_fault}
 use Rattle.object_ids.specs.declared.puts.PutFault.{PutFault}
 use Rattle.object_ids.specs.declared.puts.PutFault.TheVariants.{Taken, Limit}
 use Rattle.object_ids.proofs.PutLemmas.{insert_most}
-use Rattle.text_maps.specs.Keyed.{text_order}
-use Rattle.text_maps.proofs.KeyedMaps.{exact_texts}
-use Rattle.text_maps.proofs.Walks.{halves, less}
+use Rattle.containers.specs.TextMaps.Keyed.{text_order}
+use Rattle.containers.proofs.TextMaps.KeyedMaps.{exact_texts}
+use Rattle.containers.proofs.TextMaps.Walks.{halves, less}
+use Rattle.containers.proofs.TextMaps.Fronts.{greater}
 use Rattle.object_records.specs.Lists.{listed, put_in}
-
--- a greater key isn't tied with a lesser one
-pub greater : (x y : List ℕ) → text_order x y ≡ Less → eq_by_cmp text_order y x ≡ false
-greater x y e = ap is_eq (nat_list_cmp_total.antisymm y x ∙ ap ordering_reverse e)
 
 module _ {X : Type 0} where
   -- no key of the second list is one of the first

@@ -9,9 +9,9 @@ use Rattle.serde_json.specs.Data.{Data}
 use Rattle.object_ids.specs.Puts.{Blames, put_fault}
 use Rattle.object_ids.specs.declared.puts.PutFault.{PutFault}
 use Rattle.object_ids.specs.declared.puts.PutFault.TheVariants.{Taken, Limit, NoMemory}
-use Rattle.text_maps.specs.Keyed.{text_order, with_values}
-use Rattle.text_maps.proofs.KeyedMaps.{exact_texts}
-use Rattle.text_maps.proofs.ValueMaps.{empty-values, get-values, insert-values, len-values}
+use Rattle.containers.specs.TextMaps.Keyed.{text_order, with_values}
+use Rattle.containers.proofs.TextMaps.KeyedMaps.{exact_texts}
+use Rattle.containers.proofs.TextMaps.ValueMaps.{empty-values, get-values, insert-values, len-values}
 use Rattle.hdf_values.specs.Attributes.{Content, attribute_of}
 use Rattle.hdf_values.specs.declared.attributes.AttributeFault.{AttributeFault}
 use Rattle.attributes.specs.AttributeMaps.{longest_name}

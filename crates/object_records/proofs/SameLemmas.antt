@@ -2,9 +2,9 @@
 use Rattle.std.proofs.Common.{◌≡◌, Option, Some, None, option_map, refl, sym, ap, ◌∙◌}
 use Rattle.std.specs.FinMap.{FinMap, get, same_map}
 use Rattle.std.proofs.lemmas.Cmp.{nat_list_cmp_total}
-use Rattle.text_maps.specs.Keyed.{text_order, with_values}
-use Rattle.text_maps.proofs.KeyedMaps.{exact_texts}
-use Rattle.text_maps.proofs.ValueMaps.{get-values}
+use Rattle.containers.specs.TextMaps.Keyed.{text_order, with_values}
+use Rattle.containers.proofs.TextMaps.KeyedMaps.{exact_texts}
+use Rattle.containers.proofs.TextMaps.ValueMaps.{get-values}
 use Rattle.hdf_types.specs.Views.{elem}
 use Rattle.hdf_values.specs.Attributes.{Content, content}
 use Rattle.hdf_values.specs.declared.attributes.Attribute.{Attribute}

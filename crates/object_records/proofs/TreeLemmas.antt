@@ -9,8 +9,8 @@ use Rattle.serde_json.specs.Find.{as_str}
 use Rattle.serde_json.specs.Find.{get as member_of}
 use Rattle.serde_json.specs.Read.{max_depth}
 use Rattle.object_ids.specs.Names.{is_name}
-use Rattle.text_maps.specs.Keyed.{text_order, with_values}
-use Rattle.text_maps.proofs.ValueMaps.{entries-values, len-values}
+use Rattle.containers.specs.TextMaps.Keyed.{text_order, with_values}
+use Rattle.containers.proofs.TextMaps.ValueMaps.{entries-values, len-values}
 use Rattle.hdf_types.specs.Elems.{Elem}
 use Rattle.hdf_types.specs.Printed.{type_tree}
 use Rattle.hdf_types.specs.Reading.{size_of, type_of}
@@ -38,12 +38,12 @@ use Rattle.groups_links.specs.Titles.{IsGoodTitle, most_of_title}
 use Rattle.groups_links.specs.declared.target.LinkTo.{LinkTo}
 use Rattle.groups_links.specs.declared.target.LinkTo.TheVariants.{Hard, Soft, External}
 use Rattle.groups_links.proofs.LinkLemmas as links
-use Rattle.tree_depths.proofs.Depths.{attributes_deep, element_deep, links_deep, numbers_deep, shape_deep, sound_shallow, type_deep}
+use Rattle.object_acts.proofs.OfDepths.Depths.{attributes_deep, element_deep, links_deep, numbers_deep, shape_deep, sound_shallow, type_deep}
 use Rattle.chunk_layout.specs.Layouts.{Fits}
 use Rattle.chunk_store.specs.Grids.{Grid, IsWhole}
-use Rattle.array_acts.specs.Creation.{creation_tree}
+use Rattle.object_acts.specs.Arrays.Creation.{creation_tree}
 use Rattle.object_records.specs.Creations.{creation_in}
-use Rattle.array_acts.specs.Creation.{fill_members, layout_members}
+use Rattle.object_acts.specs.Arrays.Creation.{fill_members, layout_members}
 use Rattle.object_acts.specs.Objects.{kind_of_body}
 use Rattle.object_acts.specs.declared.objects.Object.{Object}
 use Rattle.object_acts.specs.declared.objects.Body.{Body}

@@ -10,7 +10,7 @@ use Rattle.shapes.specs.Shapes.{dims_of}
 use Rattle.hdf_values.specs.Elements.{encoded}
 use Rattle.chunk_layout.specs.Asked.{asked_of}
 use Rattle.chunk_layout.specs.declared.LayoutFault.{LayoutFault}
-use Rattle.default_chunks.specs.Halving.{default_chunk}
+use Rattle.chunk_layout.specs.DefaultChunks.Halving.{default_chunk}
 use Rattle.object_records.specs.declared.creations.Creation.{Creation}
 use Rattle.object_records.specs.Lists.{no_fault}
 

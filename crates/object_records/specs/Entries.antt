@@ -1,7 +1,7 @@
 -- What the record of an object says of it.
 use Rattle.std.specs.Prelude.{ℕ, List, Option}
 use Rattle.std.specs.FinMap.{FinMap}
-use Rattle.text_maps.specs.Keyed.{text_order, with_values}
+use Rattle.containers.specs.TextMaps.Keyed.{text_order, with_values}
 use Rattle.hdf_types.specs.Elems.{Elem}
 use Rattle.hdf_types.specs.Views.{elem}
 use Rattle.shapes.specs.declared.Shape.{Shape}

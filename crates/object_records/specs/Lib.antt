@@ -3,5 +3,7 @@ pub mod Answers
 pub mod FaultsOf
 pub mod Lists
 pub mod Creations
+pub mod InstallFaults
 pub mod Objects
 pub mod Same
+pub mod Keys

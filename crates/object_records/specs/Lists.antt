@@ -4,7 +4,7 @@ use Rattle.std.specs.FinMap.{FinMap, empty, insert}
 use Rattle.std.specs.List.{list_all}
 use Rattle.serde_json.specs.Data.{Data}
 use Rattle.json_trees.specs.Trees.{list_in, text_at}
-use Rattle.text_maps.specs.Keyed.{text_order}
+use Rattle.containers.specs.TextMaps.Keyed.{text_order}
 use Rattle.object_ids.specs.Names.{is_name}
 use Rattle.object_ids.specs.Puts.{put_fault}
 use Rattle.hdf_values.specs.Attributes.{Content, attribute_of}

@@ -21,7 +21,7 @@ use Rattle.groups_links.specs.Printed.{links_list}
 use Rattle.chunk_layout.specs.Layouts.{Fits}
 use Rattle.chunk_store.specs.Grids.{IsWhole, all_fill}
 use Rattle.chunk_store.specs.Marks.{state}
-use Rattle.array_acts.specs.Creation.{creation_tree}
+use Rattle.object_acts.specs.Arrays.Creation.{creation_tree}
 use Rattle.object_acts.specs.declared.objects.Object.{Object}
 use Rattle.object_acts.specs.declared.objects.Body.{Body}
 use Rattle.object_acts.specs.declared.objects.Body.TheVariants.{Group, Dataset, Datatype}

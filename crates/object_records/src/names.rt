@@ -4,7 +4,7 @@ ghost use Rattle.std.specs.Prelude.{map};
 ghost use Rattle.std.specs.FinMap as finite;
 ghost use Rattle.serde_json.specs.View.{view};
 ghost use Rattle.json_trees.specs.Shown.{shown};
-ghost use Rattle.text_maps.specs.Keyed.{with_values};
+ghost use Rattle.containers.specs.TextMaps.Keyed.{with_values};
 ghost use Rattle.hdf_values.specs.Attributes.{content};
 ghost use Rattle.attributes.specs.AttributeMaps.{most_attributes};
 ghost use Rattle.object_records.specs.Answers.{Reads};

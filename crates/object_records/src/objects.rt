@@ -8,16 +8,16 @@ ghost use Rattle.hdf_types.specs.Printed.{type_tree};
 ghost use Rattle.shapes.specs.Printed.{shape_tree};
 ghost use Rattle.shapes.specs.declared.printing.Form.TheVariants.{Document};
 ghost use Rattle.groups_links.specs.Printed.{links_list};
-ghost use Rattle.array_acts.specs.Creation.{creation_tree};
+ghost use Rattle.object_acts.specs.Arrays.Creation.{creation_tree};
 ghost use Rattle.object_acts.specs.Objects.{IsSoundBody, kind_of_body};
 ghost use Rattle.object_records.specs.Entries.{entry_of};
 ghost use Rattle.object_records.specs.Objects.{body_tree, dataset_tree, datatype_tree, group_tree};
 ghost use Rattle.object_records.specs.Objects.{IsKeptBody, object_body, object_of_body, object_tree};
 
-use array_acts::creation_json;
 use chunk_store::Array;
 use groups_links::Links;
 use hdf_types::{ElemType, type_json};
+use object_acts::arrays::creation_json;
 use object_acts::{Body, Object};
 use serde_json::{Value, json};
 use shapes::{Form, shape_json};

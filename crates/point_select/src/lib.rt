@@ -6,8 +6,6 @@ use std::alloc::AllocError;
 
 mod points;
 mod reading;
-#[cfg(test)]
-mod tests;
 
 pub use points::{Points, limit_of_points};
 pub use reading::{points_or_fault, read_points};

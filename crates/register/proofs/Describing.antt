@@ -8,10 +8,10 @@ use Rattle.std.specs.FinMap.{FinMap, contains_key, entries, entries_sorted, find
 use Rattle.std.specs.FinMap.Entries.{below_all}
 use Rattle.std.specs.Ordering.{eq_by_cmp, is_lt}
 use Rattle.std.specs.Prelude.{option_and_then}
-use Rattle.lane_installs.proofs.Fronts.{itself}
-use Rattle.text_maps.specs.Keyed.{text_order}
-use Rattle.text_maps.proofs.KeyedMaps.{exact_texts}
-use Rattle.text_maps.proofs.Walks.{halves}
+use Rattle.containers.proofs.TextMaps.Fronts.{itself}
+use Rattle.containers.specs.TextMaps.Keyed.{text_order}
+use Rattle.containers.proofs.TextMaps.KeyedMaps.{exact_texts}
+use Rattle.containers.proofs.TextMaps.Walks.{halves}
 use Rattle.flush_journal.specs.Records.{Held, Record}
 use Rattle.flush_journal.proofs.PutLemmas.{tied}
 use Rattle.object_ids.specs.Paths.{parent_of, root_path}
@@ -19,16 +19,16 @@ use Rattle.domains.specs.Contents.{IsCatalogue, class_at as class_in, most_nodes
 use Rattle.domains.specs.declared.classes.Node.{Node}
 use Rattle.domains.specs.declared.classes.NodeClass.{NodeClass}
 use Rattle.domains.specs.declared.classes.NodeClass.TheVariants.{Folder, Domain}
-use Rattle.record_keys.specs.Keys.{node_key}
-use Rattle.node_records.specs.Nodes.{node_of_body}
-use Rattle.register_installs.specs.Registers.{DescribesRegister, IsNextNumber, IsNodeRecord, IsRun, KeepsNumber, class_at, count_nodes, is_node_key, node_at}
-use Rattle.register_installs.proofs.NodeWalks.{one_next}
+use Rattle.object_records.specs.Keys.Keys.{node_key}
+use Rattle.domains.specs.Records.Nodes.{node_of_body}
+use Rattle.register.specs.Installed.Registers.{DescribesRegister, IsNextNumber, IsNodeRecord, IsRun, KeepsNumber, class_at, count_nodes, is_node_key, node_at}
+use Rattle.register.proofs.OfInstalled.NodeWalks.{one_next}
 use Rattle.register.specs.Marks.{Marked, no_marks}
 use Rattle.register.specs.Decided.{Door, IsDoor}
 use Rattle.register.specs.Kept.{AreTexts, IsHeldNode, RegisterSays, is_marked, is_marked_in}
 use Rattle.register.specs.Cutting.{IsAmong}
 use Rattle.register.proofs.Installing.{one_run}
-use Rattle.object_slots.proofs.Passing.{by_bool, contrary}
+use Rattle.containers.proofs.Passing.{by_bool, contrary}
 
 -- ---- how many records of nodes stand before one
 

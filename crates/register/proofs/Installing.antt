@@ -10,13 +10,14 @@ use Rattle.domains.specs.Contents.{Contents, IsDomainAt}
 use Rattle.domains.specs.declared.classes.Node.{Node}
 use Rattle.domains.specs.declared.classes.NodeClass.{NodeClass}
 use Rattle.domains.specs.declared.classes.NodeClass.TheVariants.{Folder, Domain}
-use Rattle.record_keys.specs.Keys.{node_key}
-use Rattle.record_keys.specs.Numbers.{run_bytes}
-use Rattle.node_records.specs.Nodes.{node_of_body}
-use Rattle.lane_installs.specs.Records.{IsLeast, MatchFault as MatchRecord}
-use Rattle.lane_installs.specs.declared.faults.InstallFault.{InstallFault as RecordFault}
-use Rattle.lane_installs.specs.declared.faults.InstallFault.TheVariants as records
-use Rattle.register_installs.specs.Registers.{DescribesRegister, IsRegisterFault, IsRun, KeepsNumber, no_run, bad_node, no_root, no_next}
+use Rattle.object_records.specs.Keys.Keys.{node_key}
+use Rattle.object_records.specs.Keys.Numbers.{run_bytes}
+use Rattle.domains.specs.Records.Nodes.{node_of_body}
+use Rattle.object_records.specs.InstallFaults.{MatchFault as MatchRecord}
+use Rattle.containers.specs.TextMaps.Fronts.{IsLeast}
+use Rattle.object_records.specs.declared.install_fault.InstallFault.{InstallFault as RecordFault}
+use Rattle.object_records.specs.declared.install_fault.InstallFault.TheVariants as records
+use Rattle.register.specs.Installed.Registers.{DescribesRegister, IsRegisterFault, IsRun, KeepsNumber, no_run, bad_node, no_root, no_next}
 use Rattle.register.specs.declared.installs.InstallFault.{InstallFault}
 use Rattle.register.specs.Decided.{AreGivenOut, Door}
 use Rattle.register.specs.Kept.{IsHeldNode, IsInstalled, IsUsedUp, MatchFault, MatchUsed, RegisterSays, TellsUsed, installed, last_run, of_records}

@@ -5,21 +5,21 @@ use Rattle.std.specs.Cmp.Lexicographic.{nat_list_cmp_total}
 use Rattle.std.specs.FinMap.{contains_key, get}
 use Rattle.std.specs.List.{AllByRecursion}
 use Rattle.std.proofs.lemmas.Cmp.{tied_itself}
-use Rattle.text_maps.specs.Keyed.{text_order}
+use Rattle.containers.specs.TextMaps.Keyed.{text_order}
 use Rattle.flush_journal.specs.Records.{Held, Record, kept_body, put_all, put_record}
 use Rattle.flush_journal.proofs.PutLemmas.{put_last, put_others, tied}
-use Rattle.record_cuts.specs.Cuts.{AppendsEach, IsCut}
-use Rattle.record_cuts.proofs.CutLemmas.{all_more, appends_all}
+use Rattle.flush_journal.specs.Cuts.Cuts.{AppendsEach, IsCut}
+use Rattle.flush_journal.proofs.OfCuts.CutLemmas.{all_more, appends_all}
 use Rattle.domains.specs.Contents.{Contents}
 use Rattle.domains.specs.declared.classes.Node.{Node}
-use Rattle.record_keys.specs.Keys.{next_key, node_key, run_key}
-use Rattle.record_keys.specs.Numbers.{next_bytes, run_bytes}
-use Rattle.node_records.specs.Nodes.{node_of_body}
+use Rattle.object_records.specs.Keys.Keys.{next_key, node_key, run_key}
+use Rattle.object_records.specs.Keys.Numbers.{next_bytes, run_bytes}
+use Rattle.domains.specs.Records.Nodes.{node_of_body}
 use Rattle.register.specs.Marks.{Marked}
 use Rattle.register.specs.Decided.{Door}
 use Rattle.register.specs.Kept.{IsHeldNode, IsRegisterMarked, the_run, the_next, a_node, IsRegisterRecord, of_run, of_next, of_node, of_none, RegisterSays, all_kept, is_marked, is_marked_in}
 use Rattle.register.specs.Cutting.{AddsRegister, AreAdded, IsAmong, IsDueNode, IsDueOne, IsNodeBody, IsRightNode, IsRightOne, OfEither, is_of_all, is_of_paths}
-use Rattle.object_slots.proofs.Passing.{by_bool, contrary}
+use Rattle.containers.proofs.Passing.{by_bool, contrary}
 use Rattle.register.proofs.Parts.{AreApart}
 use Rattle.register.proofs.PathWalks.{same_path}
 

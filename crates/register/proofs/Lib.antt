@@ -13,3 +13,4 @@ pub mod Installing
 pub mod Describing
 pub mod Saying
 pub mod Texts
+pub mod OfInstalled

@@ -4,8 +4,8 @@ use Rattle.std.specs.Cmp.{Equal-is}
 use Rattle.std.specs.Cmp.Lexicographic.{nat_list_cmp_total}
 use Rattle.std.specs.FinMap.{FinMap, contains_key, empty, get, insert, remove, get-empty, get-insert, get-remove, same_map}
 use Rattle.std.specs.Ordering.{eq_by_cmp}
-use Rattle.text_maps.specs.Keyed.{text_order}
-use Rattle.text_maps.proofs.KeyedMaps.{exact_texts}
+use Rattle.containers.specs.TextMaps.Keyed.{text_order}
+use Rattle.containers.proofs.TextMaps.KeyedMaps.{exact_texts}
 use Rattle.object_ids.specs.Paths.{path_of}
 use Rattle.register.specs.Marks.{ArePaths, Marked, taken_back}
 

@@ -2,9 +2,9 @@
 use Rattle.std.proofs.Common.{◌≡◌, ◌≢◌, inl, inr, ℕ, List, [], ◌∷◌, ◌++◌, Bool, true, false, Result, Ok, Err, OnErr, refl, sym, ap, subst, ◌∙◌, append_assoc, append-nil}
 use Rattle.std.specs.List.{AllByRecursion}
 use Rattle.flush_journal.specs.Records.{Record}
-use Rattle.record_cuts.specs.Cuts.{AddsRecord, AreOnce}
-use Rattle.record_cuts.proofs.CutLemmas.{all_append, all_more}
-use Rattle.object_slots.proofs.Passing.{contrary}
+use Rattle.flush_journal.specs.Cuts.Cuts.{AddsRecord, AreOnce}
+use Rattle.flush_journal.proofs.OfCuts.CutLemmas.{all_append, all_more}
+use Rattle.containers.proofs.Passing.{contrary}
 use Rattle.register.specs.Cutting.{Adds, AddsOne, IsAmong, OfEither}
 
 among_front : (key : List ℕ) (xs ys : List Record) → IsAmong key xs → IsAmong key (xs ++ ys)

@@ -6,19 +6,19 @@ use Rattle.std.specs.List.{AllByRecursion}
 use Rattle.std.specs.Ordering.{is_lt, ordering_reverse}
 use Rattle.std.proofs.lemmas.Cmp.{tied_itself}
 use Rattle.std.proofs.lemmas.Bool.{and_from}
-use Rattle.text_maps.specs.Keyed.{text_order}
-use Rattle.text_maps.specs.Nexts.{is_behind, left, IsNext, IsStep}
-use Rattle.text_maps.proofs.KeyedMaps.{exact_texts}
+use Rattle.containers.specs.TextMaps.Keyed.{text_order}
+use Rattle.containers.specs.TextMaps.Nexts.{is_behind, left, IsNext, IsStep}
+use Rattle.containers.proofs.TextMaps.KeyedMaps.{exact_texts}
 use Rattle.flush_journal.specs.Records.{Record}
-use Rattle.record_cuts.specs.Cuts.{AreOnce}
-use Rattle.record_cuts.proofs.CutLemmas.{all_more}
+use Rattle.flush_journal.specs.Cuts.Cuts.{AreOnce}
+use Rattle.flush_journal.proofs.OfCuts.CutLemmas.{all_more}
 use Rattle.object_ids.specs.Paths.{path_of}
 use Rattle.domains.specs.Contents.{Contents, IsCatalogue}
 use Rattle.domains.specs.declared.classes.Node.{Node}
-use Rattle.record_keys.specs.Keys.{node_key}
+use Rattle.object_records.specs.Keys.Keys.{node_key}
 use Rattle.register.specs.Cutting.{AddsNodes, AddsWanted, AreAdded, IsAmong, IsDueNode, IsNodeBody, IsRightNode, is_key_wanted, is_of_all, is_of_paths, is_wanted}
 use Rattle.register.specs.Marks.{Marked}
-use Rattle.object_slots.proofs.Passing.{by_bool, contrary, lt_less}
+use Rattle.containers.proofs.Passing.{by_bool, contrary, lt_less}
 
 pub first_half : (a b : Bool) → (a && b) ≡ true → a ≡ true
 first_half true b e = refl

@@ -2,7 +2,7 @@
 use Rattle.std.proofs.Common.{◌≡◌, ◌⊎◌, inl, inr, ⊎_elim, ℕ, ◌+◌, cond, is_some, List, Option, Some, None, option_map, refl, ap, sym, subst, ◌∙◌, arith, true≢false}
 use Rattle.std.specs.Cmp.Lexicographic.{nat_list_cmp_total}
 use Rattle.std.specs.FinMap.{empty, get, insert, get-empty, get-remove}
-use Rattle.text_maps.specs.Keyed.{text_order}
+use Rattle.containers.specs.TextMaps.Keyed.{text_order}
 use Rattle.object_ids.specs.IdValues.{Id}
 use Rattle.object_ids.specs.Paths.{root_path}
 use Rattle.access_lists.specs.declared.rights.Rights.{Rights}

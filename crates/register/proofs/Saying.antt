@@ -3,7 +3,7 @@ use Rattle.std.proofs.Common.{◌≡◌, ℕ, ◌+◌, ◌&&◌, ◌||◌, nat_l
 use Rattle.std.specs.Cmp.Lexicographic.{nat_list_cmp_total}
 use Rattle.std.specs.FinMap.{contains_key, empty, get, get-empty, get-insert, get-remove, insert}
 use Rattle.std.specs.Ordering.{eq_by_cmp}
-use Rattle.text_maps.specs.Keyed.{text_order}
+use Rattle.containers.specs.TextMaps.Keyed.{text_order}
 use Rattle.flush_journal.specs.Records.{Held}
 use Rattle.object_ids.specs.IdValues.{Id}
 use Rattle.object_ids.specs.declared.limits.LimitKind.TheVariants as limit
@@ -26,15 +26,15 @@ use Rattle.object_ops.specs.declared.ops.Op.TheVariants.{GetNode, PutNode, Flush
 use Rattle.object_ops.specs.declared.ops.Request.{Request}
 use Rattle.object_ops.specs.declared.refusals.Refusal.TheVariants.{Limit, NoDomain}
 use Rattle.object_ops.specs.declared.replies.Reply.TheVariants.{Done}
-use Rattle.record_keys.specs.Keys.{next_key, node_key, run_key}
-use Rattle.record_keys.specs.Numbers.{next_bytes, run_bytes}
+use Rattle.object_records.specs.Keys.Keys.{next_key, node_key, run_key}
+use Rattle.object_records.specs.Keys.Numbers.{next_bytes, run_bytes}
 use Rattle.register.specs.Decided.{Decides, Door, at_maybe, changed_at, decided, domain_added, domain_made, entry_put, entry_read, fits, folder_made, foreign_in, forgotten, granted, in_domain, make_steps, most_of, node_made, node_removed, object_granted, one_step, owner_of, passed, refused, serial_limit}
 use Rattle.register.specs.Kept.{IsHeldNode, RegisterSays, is_marked, is_marked_in}
 use Rattle.register.specs.Laws.{DecisionsKeepWhatIsSaid}
 use Rattle.register.specs.Marks.{Marked, all_marks, with_domain, with_path}
 use Rattle.register.specs.declared.verdicts.Verdict.{Verdict}
 use Rattle.register.specs.declared.verdicts.Verdict.TheVariants.{Granted, Answered, Denied, Refused, NoMemory}
-use Rattle.object_slots.proofs.Passing.{by_bool, contrary}
+use Rattle.containers.proofs.Passing.{by_bool, contrary}
 
 abbrev pub StillSays : Door → Door → Type 0
 StillSays d new = (held : Held) → RegisterSays d held → RegisterSays new held

@@ -5,9 +5,9 @@ use Rattle.std.specs.FinMap.{FinMap, entries, find, get, get-entries}
 use Rattle.std.specs.Ordering.{eq_by_cmp}
 use Rattle.std.specs.Str.{IsUtf8}
 use Rattle.std.specs.Prelude.{String, string_bytes}
-use Rattle.text_maps.specs.Keyed.{keyed, text_order}
+use Rattle.containers.specs.TextMaps.Keyed.{keyed, text_order}
 use Rattle.flush_journal.proofs.PutLemmas.{tied}
-use Rattle.object_slots.proofs.Passing.{by_bool, contrary}
+use Rattle.containers.proofs.Passing.{by_bool, contrary}
 
 module _ {Z V : Type 0} (path : List ℕ) where
   found_text : (es : List (String Z × V)) → is_some (find text_order path (keyed string_bytes es)) ≡ true → IsUtf8 path

@@ -2,14 +2,14 @@
 use Rattle.std.specs.Prelude.{◌≡◌, ◌≢◌, ◌⊎◌, ℕ, List, [], ◌∷◌, ◌++◌, Bool, true, false, not, ◌&&◌, Option, Some, None}
 use Rattle.std.specs.FinMap.{FinMap, contains_key, get}
 use Rattle.std.specs.List.{AllByRecursion}
-use Rattle.text_maps.specs.Keyed.{text_order}
+use Rattle.containers.specs.TextMaps.Keyed.{text_order}
 use Rattle.flush_journal.specs.Records.{Record}
-use Rattle.record_cuts.specs.Cuts.{AddsRecord, AreOnce}
+use Rattle.flush_journal.specs.Cuts.Cuts.{AddsRecord, AreOnce}
 use Rattle.domains.specs.Contents.{Contents}
 use Rattle.domains.specs.declared.classes.Node.{Node}
-use Rattle.record_keys.specs.Keys.{next_key, node_key, run_key}
-use Rattle.record_keys.specs.Numbers.{next_bytes, run_bytes}
-use Rattle.node_records.specs.Nodes.{node_body, node_of_body}
+use Rattle.object_records.specs.Keys.Keys.{next_key, node_key, run_key}
+use Rattle.object_records.specs.Keys.Numbers.{next_bytes, run_bytes}
+use Rattle.domains.specs.Records.Nodes.{node_body, node_of_body}
 use Rattle.register.specs.Marks.{Marked}
 
 -- a record of the key is among these

@@ -13,12 +13,12 @@ use Rattle.std.specs.FinMap.{contains_key, get}
 use Rattle.flush_journal.specs.Records.{Held, Record}
 use Rattle.domains.specs.Contents.{Contents}
 use Rattle.domains.specs.declared.classes.Node.{Node}
-use Rattle.record_keys.specs.Keys.{next_key, node_key, run_key}
-use Rattle.record_keys.specs.Numbers.{next_bytes, run_bytes}
-use Rattle.node_records.specs.Nodes.{node_body, node_of_body}
-use Rattle.lane_installs.specs.declared.faults.InstallFault.{InstallFault as RecordFault}
-use Rattle.lane_installs.specs.declared.faults.InstallFault.TheVariants as records
-use Rattle.register_installs.specs.Registers.{DescribesRegister, IsRegisterFault, IsRun}
+use Rattle.object_records.specs.Keys.Keys.{next_key, node_key, run_key}
+use Rattle.object_records.specs.Keys.Numbers.{next_bytes, run_bytes}
+use Rattle.domains.specs.Records.Nodes.{node_body, node_of_body}
+use Rattle.object_records.specs.declared.install_fault.InstallFault.{InstallFault as RecordFault}
+use Rattle.object_records.specs.declared.install_fault.InstallFault.TheVariants as records
+use Rattle.register.specs.Installed.Registers.{DescribesRegister, IsRegisterFault, IsRun}
 use Rattle.register.specs.declared.installs.InstallFault.{InstallFault}
 use Rattle.register.specs.declared.installs.InstallFault.TheVariants.{BadRecord, RunsUsed, NoMemory}
 use Rattle.register.specs.Marks.{Marked, no_marks, run_marks}

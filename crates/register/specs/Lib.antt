@@ -6,3 +6,4 @@ pub mod Looks
 pub mod Laws
 pub mod Kept
 pub mod Cutting
+pub mod Installed

@@ -5,7 +5,7 @@
 --     ArePaths      each path that is marked is one
 use Rattle.std.specs.Prelude.{◌≡◌, ℕ, List, Bool, true, false, Some, if◌then◌else◌}
 use Rattle.std.specs.FinMap.{FinMap, empty, get, insert, remove}
-use Rattle.text_maps.specs.Keyed.{text_order}
+use Rattle.containers.specs.TextMaps.Keyed.{text_order}
 use Rattle.object_ids.specs.Paths.{path_of}
 
 -- whether the record of the run is to be written, whether that of the next domain's number is, and whether those of all nodes are; and the paths

@@ -5,9 +5,9 @@ ghost use Rattle.object_ids.specs.Ids.{lane_of};
 ghost use Rattle.register.specs.Tickets.{all_counted, counted, turn_at};
 
 use crate::tickets::Turn;
+use containers::short_lists::ShortList;
 use object_ids::{ObjectId, lane};
 use object_ops::Step;
-use short_lists::ShortList;
 
 /// The most lanes.
 pub(crate) const MAX_LANES: usize = 16;

@@ -7,18 +7,18 @@ ghost use Rattle.object_ids.specs.Paths.{path_of};
 ghost use Rattle.register.specs.Cutting.{AddsAllNodes, AddsNode, AddsNodes, AddsNumbers, AddsOne};
 ghost use Rattle.register.specs.Cutting.{AddsRegister, AddsWanted, IsNodeBody};
 ghost use Rattle.register.specs.Cutting.{is_key_wanted, is_of_all, is_of_paths, is_wanted};
-ghost use Rattle.record_keys.specs.Keys.{next_key, run_key};
-ghost use Rattle.record_keys.specs.Numbers.{next_bytes, run_bytes};
+ghost use Rattle.object_records.specs.Keys.Keys.{next_key, run_key};
+ghost use Rattle.object_records.specs.Keys.Numbers.{next_bytes, run_bytes};
 
 use crate::marks::Marks;
+use containers::text_maps::TextMap;
+use domains::records::node_text;
 use domains::{Catalogue, nodes_of_catalogues};
 use flush_journal::Batch;
-use node_records::node_text;
+use flush_journal::cuts::add_record;
 use object_ids::read_path;
-use record_cuts::add_record;
-use record_keys::{next_body, next_key, node_key, run_body, run_key};
+use object_records::keys::{next_body, next_key, node_key, run_body, run_key};
 use std::alloc::{AllocError, Global};
-use text_maps::TextMap;
 
 /// Appends the records that are marked: that of the run, that of the next domain's number, and those of nodes.
 pub(crate) fn append_records(

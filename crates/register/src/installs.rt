@@ -3,7 +3,7 @@
 ghost use Rattle.std.specs.Prelude.{◌≡◌};
 ghost use Rattle.register.specs.Kept.{of_records};
 
-use lane_installs::InstallFault as RecordFault;
+use object_records::InstallFault as RecordFault;
 
 /// Why no register is made from what a journal holds.
 #[derive(Drop)]

@@ -8,7 +8,7 @@ ghost use Rattle.register.specs.Kept.{AreTexts, RegisterSays};
 ghost use Rattle.register.specs.Laws.{DecisionsKeep, DecisionsKeepWhatIsSaid};
 ghost use Rattle.register.specs.Laws.{GrantsAreIssues, TakesPlace};
 ghost use Rattle.register.specs.Marks.{no_marks};
-ghost use Rattle.register_installs.specs.Registers.{DescribesRegister};
+ghost use Rattle.register.specs.Installed.Registers.{DescribesRegister};
 
 /// Each decision takes one place. A denied or refused request leaves all else as it was, and a granted one has the turns of
 /// its own steps. What a decision changes is marked: what is held tells all else as it did.

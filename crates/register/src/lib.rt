@@ -1,17 +1,18 @@
 //! Decides requests: each at its place, by the access list in force there, and gives out the turns of lanes that it takes.
+//!
+//! [`installed`] makes the register from the records that a journal held.
 #![tactic(auto)]
 
 mod changes;
 mod counts;
 mod cuts;
+pub mod installed;
 mod installs;
 mod laws;
 mod looking;
 mod marks;
 mod register;
 mod replies;
-#[cfg(test)]
-mod tests;
 mod tickets;
 mod verdicts;
 

@@ -4,10 +4,10 @@ ghost use Rattle.std.specs.Prelude.{◌≡◌, true, false, IfOk, OnErr};
 ghost use Rattle.register.specs.Marks.{ArePaths, all_marks, no_marks, run_marks};
 ghost use Rattle.register.specs.Marks.{taken_back, with_path};
 
+use containers::text_maps::TextMap;
 use object_ids::DomainPath;
 use std::alloc::{AllocError, Global};
 use std::marker::Model;
-use text_maps::TextMap;
 
 /// Which records of a register are to be written.
 #[derive(Drop)]
@@ -23,7 +23,7 @@ impl Model for Marks {
     ghost use Rattle.std.specs.Prelude.{ℕ, Bool, refl};
     ghost use Rattle.std.specs.FinMap as map;
     ghost use Rattle.std.specs.Coded.{code_by, coded×, coded_ℕ, coded_bool, coded_list};
-    ghost use Rattle.text_maps.specs.Keyed.{text_order};
+    ghost use Rattle.containers.specs.TextMaps.Keyed.{text_order};
     ghost use Rattle.register.specs.Marks.{ArePaths, Marked};
 
     ghost Value = { Marked };

@@ -11,10 +11,10 @@ ghost use Rattle.domains.specs.declared.classes.Node.{Node};
 ghost use Rattle.domains.specs.declared.classes.NodeClass.TheVariants.{Domain};
 ghost use Rattle.flush_journal.specs.Batches.{records};
 ghost use Rattle.flush_journal.specs.Records.{Held};
-ghost use Rattle.lane_installs.specs.Records.{IsLeast};
+ghost use Rattle.containers.specs.TextMaps.Fronts.{IsLeast};
 ghost use Rattle.object_ops.specs.Needs.{decided_at, right_for};
 ghost use Rattle.object_ops.specs.declared.replies.Reply.TheVariants.{Done};
-ghost use Rattle.record_cuts.specs.Cuts.{AppendsEach, IsCut};
+ghost use Rattle.flush_journal.specs.Cuts.Cuts.{AppendsEach, IsCut};
 ghost use Rattle.register.specs.Decided.{AreGivenOut, Decides, HasRoom, IsDoor, acls_body, children_body};
 ghost use Rattle.register.specs.Decided.{domain_added, domain_made, domain_refused, entry_put, first_serial, fits};
 ghost use Rattle.register.specs.Decided.{folder_made, foreign, fresh_given};
@@ -26,11 +26,12 @@ ghost use Rattle.register.specs.Kept.{AreTexts, IsInstalled, IsRegisterMarked, I
 ghost use Rattle.register.specs.Kept.{MatchFault, MatchUsed, RegisterSays, TellsUsed, all_kept, installed, run_kept};
 ghost use Rattle.register.specs.Looks.{Answers, Leaves, MaySettle, Reads, Settles, SettlesOp};
 ghost use Rattle.register.specs.Marks.{no_marks};
-ghost use Rattle.register_installs.specs.Registers.{DescribesRegister, IsRegisterFault};
+ghost use Rattle.register.specs.Installed.Registers.{DescribesRegister, IsRegisterFault};
 
 use crate::changes::{make_domain, make_folder, remove_node, set_entry};
 use crate::counts::{Counts, MAX_LANES, all_counted, issue};
 use crate::cuts::append_records;
+use crate::installed::install;
 use crate::installs::InstallFault;
 use crate::laws::kept_registers_are_described;
 use crate::looking::{Looked, look};
@@ -46,7 +47,6 @@ use flush_journal::{Batch, Recovered};
 use groups_links::LinkTo;
 use object_ids::{DomainPath, Kind, LimitKind, Name, ObjectId};
 use object_ops::{Grant, LinkPlace, Make, Op, Refusal, Reply, Request, Step, needs};
-use register_installs::install;
 use std::alloc::{AllocError, Global};
 use std::marker::Model;
 

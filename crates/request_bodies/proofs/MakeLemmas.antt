@@ -8,7 +8,7 @@ use Rattle.hdf_types.specs.Faults.{Fails, Fault, fault}
 use Rattle.chunk_layout.specs.Asked.{IsAnswer}
 use Rattle.chunk_layout.specs.declared.Layout.{Layout}
 use Rattle.chunk_layout.specs.declared.LayoutFault.{LayoutFault}
-use Rattle.default_chunks.proofs.HalvingLemmas.{default_only}
+use Rattle.chunk_layout.proofs.DefaultChunks.HalvingLemmas.{default_only}
 use Rattle.object_ops.specs.declared.refusals.Refusal.{Refusal}
 use Rattle.request_bodies.specs.Refusing.{Answers}
 use Rattle.request_bodies.specs.Makes.{class_given, type_or}

@@ -16,7 +16,7 @@ use Rattle.chunk_layout.specs.declared.LayoutFault.{LayoutFault}
 use Rattle.object_ops.specs.declared.refusals.Refusal.{Refusal}
 use Rattle.object_ops.specs.declared.refusals.Refusal.TheVariants.{BadField}
 use Rattle.object_ops.specs.declared.words.FieldWord.TheVariants as field
-use Rattle.default_chunks.specs.Halving.{default_chunk}
+use Rattle.chunk_layout.specs.DefaultChunks.Halving.{default_chunk}
 use Rattle.request_bodies.specs.declared.properties.Properties.{Properties}
 
 abbrev pub bad_properties : Refusal

@@ -15,8 +15,6 @@ mod laws;
 mod links;
 mod makes;
 mod properties;
-#[cfg(test)]
-mod tests;
 mod values;
 
 pub use attributes::attribute_of;

@@ -10,7 +10,7 @@ ghost use Rattle.shapes.specs.Shapes.{IsSound, dims_of};
 ghost use Rattle.chunk_layout.specs.Asked.{asked_of};
 ghost use Rattle.chunk_layout.specs.Layouts.{Fits};
 ghost use Rattle.object_ops.specs.Conditions.{IsSoundFill};
-ghost use Rattle.default_chunks.specs.Halving.{default_chunk};
+ghost use Rattle.chunk_layout.specs.DefaultChunks.Halving.{default_chunk};
 ghost use Rattle.request_bodies.specs.Properties.{bad_properties, chunk_or, fill_in, filters_in};
 ghost use Rattle.request_bodies.specs.Properties.{properties_in};
 ghost use Rattle.request_bodies.specs.Refusing.{Answers};

@@ -1,2 +1,4 @@
 mod NumberLemmas
 mod OrderLemmas
+pub mod OfQueries
+pub mod OfRoutes

@@ -5,7 +5,7 @@ use Rattle.serde_json.specs.Data.{Data, object, no_members}
 use Rattle.serde_json.specs.Find.{get}
 use Rattle.json_trees.specs.Faults.{◌>>=◌}
 use Rattle.json_trees.specs.Trees.{list_in, text_at}
-use Rattle.bearer_tokens.specs.Bearer.{TokenTable, caller_of}
+use Rattle.access_lists.specs.Tokens.Bearer.{TokenTable, caller_of}
 use Rattle.chunk_layout.specs.Asked.{asked_of}
 use Rattle.access_lists.specs.EntryTrees.{entry_in, truth_at}
 use Rattle.chunk_layout.specs.declared.LayoutFault.{LayoutFault}
@@ -34,8 +34,8 @@ use Rattle.object_ops.specs.declared.ops.Part.TheVariants as part
 use Rattle.object_ops.specs.declared.refusals.Refusal.{Refusal}
 use Rattle.object_ops.specs.declared.refusals.Refusal.TheVariants as no
 use Rattle.object_ops.specs.declared.words.FieldWord.TheVariants as field
-use Rattle.query_pairs.specs.Pairs.{Text}
-use Rattle.query_pairs.specs.Targets.{if_text, path_of, query_of}
+use Rattle.rest_requests.specs.Queries.Pairs.{Text}
+use Rattle.rest_requests.specs.Queries.Targets.{if_text, path_of, query_of}
 use Rattle.request_bodies.specs.Bodies.{body_in, dims_at, folder_in, has_no_slash, id_in, name_in, object_in, rights_in, target_in, title_in}
 use Rattle.request_bodies.specs.Makes.{class_or, group_in, shape_in, shape_or, title_text, type_in, type_or}
 use Rattle.request_bodies.specs.Order as bodies
@@ -43,8 +43,8 @@ use Rattle.request_bodies.specs.Order.{class_of, fault, first_of, if_accepted, n
 use Rattle.request_bodies.specs.Properties.{chunk_or, fill_in, fill_or, filters_in, no_filters, properties_in}
 use Rattle.request_bodies.specs.Refusing.{or_refuse}
 use Rattle.request_bodies.specs.Values.{part_at, part_by, points_in}
-use Rattle.route_table.specs.Found.{route_for}
-use Rattle.route_table.specs.declared.routes.Route.{Route}
+use Rattle.rest_requests.specs.Routes.Found.{route_for}
+use Rattle.rest_requests.specs.declared.routes.routes.Route.{Route}
 use Rattle.rest_requests.specs.Domains.{domain_by, named_domain, path_in}
 use Rattle.rest_requests.specs.Order.{AreNumbered, asked, bad_class, bad_field, bad_id, bad_name, bad_shape, collection_of, key_tests, no_method, no_object, no_route, number_of, object_of, on_body, on_object, reads_body, tests}
 use Rattle.rest_requests.specs.Parameters.{first, second, id_at, name_at, parameter_at, title_at}

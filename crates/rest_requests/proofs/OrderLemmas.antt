@@ -5,7 +5,7 @@ use Rattle.serde_json.specs.Data.{Data}
 use Rattle.serde_json.specs.Find.{get}
 use Rattle.json_trees.specs.Faults.{◌>>=◌}
 use Rattle.access_lists.specs.declared.people.Caller.{Caller}
-use Rattle.bearer_tokens.specs.Bearer.{TokenTable}
+use Rattle.access_lists.specs.Tokens.Bearer.{TokenTable}
 use Rattle.object_ids.specs.declared.ids.Kind.TheVariants.{Group, Dataset}
 use Rattle.object_ops.specs.declared.ops.Op.{Op}
 use Rattle.object_ops.specs.declared.ops.Op.TheVariants as op
@@ -13,8 +13,8 @@ use Rattle.object_ops.specs.declared.ops.Request.{Request}
 use Rattle.object_ops.specs.declared.refusals.Refusal.{Refusal}
 use Rattle.object_ops.specs.declared.refusals.Refusal.TheVariants as no
 use Rattle.object_ops.specs.declared.words.FieldWord.TheVariants as field
-use Rattle.query_pairs.specs.Pairs.{Text, pairs_of, value_of}
-use Rattle.query_pairs.specs.Targets.{path_of, query_of}
+use Rattle.rest_requests.specs.Queries.Pairs.{Text, pairs_of, value_of}
+use Rattle.rest_requests.specs.Queries.Targets.{path_of, query_of}
 use Rattle.request_bodies.specs.Bodies.{attribute_in, body_in, dims_at, folder_in, rights_in, target_in}
 use Rattle.request_bodies.specs.Makes.{make_in}
 use Rattle.request_bodies.specs.Order as bodies
@@ -22,9 +22,9 @@ use Rattle.request_bodies.specs.Order.{attribute_shape, class_of, fault, first_o
 use Rattle.request_bodies.specs.Refusing.{or_refuse}
 use Rattle.request_bodies.specs.Values.{part_at, points_in, write_in}
 use Rattle.request_bodies.proofs.OrderLemmas.{attribute_first, make_first}
-use Rattle.route_table.specs.Found.{route_for}
-use Rattle.route_table.specs.Methods.{method_named}
-use Rattle.route_table.specs.declared.routes.Route.{Route}
+use Rattle.rest_requests.specs.Routes.Found.{route_for}
+use Rattle.rest_requests.specs.Routes.Methods.{method_named}
+use Rattle.rest_requests.specs.declared.routes.routes.Route.{Route}
 use Rattle.rest_requests.specs.Domains.{domain_of}
 use Rattle.rest_requests.specs.Forms.{form_at}
 use Rattle.rest_requests.specs.Operations.{op_of}

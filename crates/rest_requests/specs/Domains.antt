@@ -5,8 +5,8 @@ use Rattle.json_trees.specs.Faults.{◌>>=◌}
 use Rattle.object_ids.specs.Paths.{path_of, root_path}
 use Rattle.object_ops.specs.declared.refusals.Refusal.{Refusal}
 use Rattle.object_ops.specs.declared.refusals.Refusal.TheVariants.{BadDomain}
-use Rattle.query_pairs.specs.Targets.{if_text}
-use Rattle.query_pairs.specs.Pairs.{Text, pairs_of, value_of}
+use Rattle.rest_requests.specs.Queries.Targets.{if_text}
+use Rattle.rest_requests.specs.Queries.Pairs.{Text, pairs_of, value_of}
 use Rattle.request_bodies.specs.Refusing.{or_refuse}
 
 -- the path that a text spells

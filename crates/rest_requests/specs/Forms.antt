@@ -1,9 +1,9 @@
 -- What each method of a route asks.
 use Rattle.std.specs.Prelude.{Option, Some, None}
-use Rattle.route_table.specs.declared.routes.Route.{Route}
-use Rattle.route_table.specs.declared.routes.Route.TheVariants as at
-use Rattle.route_table.specs.declared.routes.Method.{Method}
-use Rattle.route_table.specs.declared.routes.Method.TheVariants.{Delete, Get, Post, Put}
+use Rattle.rest_requests.specs.declared.routes.routes.Route.{Route}
+use Rattle.rest_requests.specs.declared.routes.routes.Route.TheVariants as at
+use Rattle.rest_requests.specs.declared.routes.routes.Method.{Method}
+use Rattle.rest_requests.specs.declared.routes.routes.Method.TheVariants.{Delete, Get, Post, Put}
 use Rattle.rest_requests.specs.declared.forms.Form.{Form}
 use Rattle.rest_requests.specs.declared.forms.Form.TheVariants.{GetNode, PutNode, DropNode, ListNodes, GetAcls, GetAcl, PutAcl, MakeObject, GetObject, DropObject, ListLinks, GetLink, PutLink, DropLink, ListAttributes, GetAttribute, PutAttribute, DropAttribute, GetShape, PutShape, GetElem, GetValue, PutValue, GetPoints}
 

@@ -4,3 +4,5 @@ pub mod Parameters
 pub mod Operations
 pub mod Requests
 pub mod Order
+pub mod Queries
+pub mod Routes

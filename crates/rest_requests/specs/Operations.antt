@@ -6,7 +6,7 @@ use Rattle.object_ids.specs.declared.ids.Kind.TheVariants.{Group, Dataset}
 use Rattle.object_ops.specs.declared.ops.Op.{Op}
 use Rattle.object_ops.specs.declared.ops.Op.TheVariants as op
 use Rattle.object_ops.specs.declared.refusals.Refusal.{Refusal}
-use Rattle.query_pairs.specs.Pairs.{Text, pairs_of, value_of}
+use Rattle.rest_requests.specs.Queries.Pairs.{Text, pairs_of, value_of}
 use Rattle.request_bodies.specs.Bodies.{attribute_in, body_in, dims_at, folder_in, rights_in, target_in}
 use Rattle.request_bodies.specs.Makes.{make_in}
 use Rattle.request_bodies.specs.Values.{points_in, write_in}

@@ -2,22 +2,22 @@
 use Rattle.std.specs.Prelude.{◌≡◌, ℕ, suc, List, [], ◌∷◌, Bool, true, false, Option, Some, None, IfSome, Result, Ok, Err, option_and_then, option_map, codes, if◌then◌else◌}
 use Rattle.serde_json.specs.Data.{Data, object, no_members}
 use Rattle.serde_json.specs.Find.{get}
-use Rattle.bearer_tokens.specs.Bearer.{TokenTable}
+use Rattle.access_lists.specs.Tokens.Bearer.{TokenTable}
 use Rattle.object_ids.specs.declared.ids.Kind.{Kind}
 use Rattle.object_ids.specs.declared.ids.Kind.TheVariants as kind
 use Rattle.object_ops.specs.declared.refusals.Refusal.{Refusal}
 use Rattle.object_ops.specs.declared.refusals.Refusal.TheVariants.{BadHead, HeadTooLong, BadLength, BodyTooLong, TransferCoding, NoRoute, Method, BadToken, BadDomain, BadJson, BadField, UnsupportedType, BadShape, BadName, NoDomain, Forbidden, NoObject, Gone, BadSelect, TooMany, BadValue, Taken, NotEmpty, NoName, Root, Limit, DiskFault, JournalFull}
 use Rattle.object_ops.specs.declared.words.FieldWord.TheVariants as field
-use Rattle.query_pairs.specs.Pairs.{Text}
-use Rattle.query_pairs.specs.Targets.{path_of, query_of}
+use Rattle.rest_requests.specs.Queries.Pairs.{Text}
+use Rattle.rest_requests.specs.Queries.Targets.{path_of, query_of}
 use Rattle.request_bodies.specs.Bodies.{body_in, dims_at, folder_in, rights_in, target_in}
 use Rattle.request_bodies.specs.Order as bodies
 use Rattle.request_bodies.specs.Order.{attribute_shape, class_of, fault, first_of, type_at}
 use Rattle.request_bodies.specs.Refusing.{or_refuse}
 use Rattle.request_bodies.specs.Values.{part_at, points_in}
-use Rattle.route_table.specs.Found.{route_for}
-use Rattle.route_table.specs.Methods.{method_named}
-use Rattle.route_table.specs.declared.routes.Route.{Route}
+use Rattle.rest_requests.specs.Routes.Found.{route_for}
+use Rattle.rest_requests.specs.Routes.Methods.{method_named}
+use Rattle.rest_requests.specs.declared.routes.routes.Route.{Route}
 use Rattle.rest_requests.specs.Domains.{domain_of}
 use Rattle.rest_requests.specs.Forms.{form_at}
 use Rattle.rest_requests.specs.Parameters.{first, second, id_at, name_at, title_at}

@@ -8,8 +8,8 @@ use Rattle.object_ids.specs.declared.ids.Kind.{Kind}
 use Rattle.object_ops.specs.declared.refusals.Refusal.{Refusal}
 use Rattle.object_ops.specs.declared.refusals.Refusal.TheVariants.{BadField, BadName}
 use Rattle.object_ops.specs.declared.words.FieldWord.TheVariants as field
-use Rattle.query_pairs.specs.Targets.{parameter_text}
-use Rattle.query_pairs.specs.Pairs.{Text}
+use Rattle.rest_requests.specs.Queries.Targets.{parameter_text}
+use Rattle.rest_requests.specs.Queries.Pairs.{Text}
 use Rattle.request_bodies.specs.Bodies.{id_in, name_in, title_in}
 use Rattle.request_bodies.specs.Refusing.{or_refuse}
 

@@ -4,17 +4,17 @@ use Rattle.std.specs.Option.{option_copied, option_map_or}
 use Rattle.std.specs.Str.{bytes_eq}
 use Rattle.json_trees.specs.Faults.{Gives, ◌>>=◌}
 use Rattle.access_lists.specs.declared.people.Caller.{Caller}
-use Rattle.bearer_tokens.specs.Bearer.{TokenTable, caller_of}
+use Rattle.access_lists.specs.Tokens.Bearer.{TokenTable, caller_of}
 use Rattle.object_ops.specs.declared.ops.Op.{Op}
 use Rattle.object_ops.specs.declared.ops.Request.{Request}
 use Rattle.object_ops.specs.declared.refusals.Refusal.{Refusal}
 use Rattle.object_ops.specs.declared.refusals.Refusal.TheVariants as no
-use Rattle.route_table.specs.Found.{route_for}
-use Rattle.route_table.specs.Methods.{method_named, methods_of, no_methods}
-use Rattle.route_table.specs.declared.routes.Route.{Route}
-use Rattle.route_table.specs.declared.routes.Methods.{Methods}
-use Rattle.query_pairs.specs.Targets.{path_of, query_of}
-use Rattle.query_pairs.specs.Pairs.{Text, pairs_of, value_of}
+use Rattle.rest_requests.specs.Routes.Found.{route_for}
+use Rattle.rest_requests.specs.Routes.Methods.{method_named, methods_of, no_methods}
+use Rattle.rest_requests.specs.declared.routes.routes.Route.{Route}
+use Rattle.rest_requests.specs.declared.routes.routes.Methods.{Methods}
+use Rattle.rest_requests.specs.Queries.Targets.{path_of, query_of}
+use Rattle.rest_requests.specs.Queries.Pairs.{Text, pairs_of, value_of}
 use Rattle.request_bodies.specs.Refusing.{or_refuse}
 use Rattle.rest_requests.specs.Domains.{domain_of}
 use Rattle.rest_requests.specs.Forms.{form_at}

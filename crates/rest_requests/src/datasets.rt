@@ -2,14 +2,14 @@
 
 ghost use Rattle.std.specs.Prelude.{◌≡◌, IfOk, codes};
 ghost use Rattle.object_ops.specs.Conditions.{IsSoundOp};
-ghost use Rattle.query_pairs.specs.Pairs.{pairs_of, value_of};
+ghost use Rattle.rest_requests.specs.Queries.Pairs.{pairs_of, value_of};
 ghost use Rattle.request_bodies.specs.Refusing.{Answers};
 ghost use Rattle.rest_requests.specs.Operations.{get_elem, get_points, get_shape, get_value, put_shape, put_value};
 
 use crate::parameters::id_at;
+use crate::queries::first_value;
 use object_ids::Kind;
 use object_ops::{Op, SelectText};
-use query_pairs::first_value;
 use request_bodies::{BodyFault, body_of, dims_of, points_of, write_of};
 use std::alloc::{AllocError, Global};
 

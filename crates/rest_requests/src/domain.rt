@@ -6,9 +6,9 @@ ghost use Rattle.std.specs.Option.{option_copied};
 ghost use Rattle.request_bodies.specs.Refusing.{Answers};
 ghost use Rattle.rest_requests.specs.Domains.{bytes_path, domain_of, header_path, named_domain, path_in};
 
+use crate::queries::{first_value, text_in};
 use object_ids::{DomainPath, PathFault, read_path};
 use object_ops::Refusal;
-use query_pairs::{first_value, text_in};
 use request_bodies::BodyFault;
 use std::alloc::{AllocError, Global};
 use std::borrow::CowStr;

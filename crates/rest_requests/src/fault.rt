@@ -1,7 +1,7 @@
 //! Why a message is no request.
 
+use crate::routes::Methods;
 use object_ops::Refusal;
-use route_table::Methods;
 
 /// Why a message is no request.
 #[derive(Drop)]

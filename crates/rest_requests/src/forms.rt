@@ -1,13 +1,13 @@
 //! The forms of requests: what each method of a route asks.
 
 ghost use Rattle.std.specs.Prelude.{◌≡◌, is_some};
-ghost use Rattle.route_table.specs.Methods.{has_method, methods_of};
-ghost use Rattle.route_table.specs.declared.routes.Route.{Route};
-ghost use Rattle.route_table.specs.declared.routes.Method.{Method};
+ghost use Rattle.rest_requests.specs.Routes.Methods.{has_method, methods_of};
+ghost use Rattle.rest_requests.specs.declared.routes.routes.Route.{Route};
+ghost use Rattle.rest_requests.specs.declared.routes.routes.Method.{Method};
 ghost use Rattle.rest_requests.specs.Forms.{drop_form, form_at, get_form, post_form, put_form};
 
+use crate::routes::{Method, Route};
 use object_ids::Kind;
-use route_table::{Method, Route};
 
 /// The form of a request: its operation without the parts that the path, the query and the body give.
 #[derive(Debug, Clone, Copy, PartialEq, Eq)]

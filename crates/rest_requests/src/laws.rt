@@ -1,7 +1,7 @@
 //! What holds of requests, in other words than the definitions.
 
 ghost use Rattle.std.specs.Prelude.{◌≡◌};
-ghost use Rattle.bearer_tokens.specs.Bearer.{TokenTable};
+ghost use Rattle.access_lists.specs.Tokens.Bearer.{TokenTable};
 ghost use Rattle.request_bodies.specs.Order.{fault, first_of};
 ghost use Rattle.rest_requests.specs.Order.{AreNumbered, tests};
 ghost use Rattle.rest_requests.specs.Requests.{RequestText, request_of};

@@ -2,6 +2,8 @@
 //!
 //! The route and the method decide what is asked, the Authorization header who asks, the query or a header where it is
 //! asked, and the rest of the path and the body give the parts of the operation.
+//!
+//! [`routes`] has the table of routes, [`queries`] the parts of a target.
 #![tactic(auto)]
 
 mod datasets;
@@ -14,9 +16,9 @@ mod objects;
 mod operations;
 mod parameters;
 mod parts;
+pub mod queries;
 mod reading;
-#[cfg(test)]
-mod tests;
+pub mod routes;
 mod tokens;
 
 pub use fault::RequestFault;

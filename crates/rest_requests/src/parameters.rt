@@ -10,9 +10,9 @@ ghost use Rattle.object_ops.specs.declared.refusals.Refusal.TheVariants.{BadFiel
 ghost use Rattle.object_ops.specs.declared.words.FieldWord.TheVariants.{Id};
 ghost use Rattle.rest_requests.specs.Parameters.{id_at, name_at, parameter_at, title_at};
 
+use crate::queries::{parameter, path_part};
 use object_ids::{Kind, Name, ObjectId};
 use object_ops::{FieldWord, Refusal};
-use query_pairs::{parameter, path_part};
 use request_bodies::{BodyFault, id_of_kind, name_of, title_of};
 use std::alloc::{AllocError, Global};
 use std::borrow::CowStr;

@@ -12,12 +12,12 @@ use crate::fault::RequestFault;
 use crate::forms::{Form, form_at};
 use crate::operations::op_of;
 use crate::parts::RequestParts;
+use crate::queries::{first_value, path_and_query};
+use crate::routes::{Method, Methods, Route};
 use crate::tokens::Tokens;
 use access_lists::Caller;
 use object_ops::{Refusal, Request};
-use query_pairs::{first_value, path_and_query};
 use request_bodies::BodyFault;
-use route_table::{Method, Methods, Route};
 use std::alloc::{AllocError, Global};
 
 /// The caller and the request that a message is.

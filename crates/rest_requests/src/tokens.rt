@@ -3,18 +3,18 @@
 ghost use Rattle.std.specs.Prelude.{◌≡◌, IfOk, OnOk, OnErr};
 ghost use Rattle.std.specs.FinMap as map;
 ghost use Rattle.std.specs.Option.{option_copied};
-ghost use Rattle.bearer_tokens.specs.Bearer.{caller_of};
-ghost use Rattle.route_table.specs.Found.{route_for};
+ghost use Rattle.access_lists.specs.Tokens.Bearer.{caller_of};
+ghost use Rattle.rest_requests.specs.Routes.Found.{route_for};
 
+use crate::routes::{Route, RouteTable};
 use access_lists::Caller;
-use route_table::{Route, RouteTable};
 use std::alloc::{AllocError, Global};
 use std::marker::Model;
 
 /// The tokens that are known, each with the caller who shows it, and the table of routes.
 #[derive(Drop)]
 pub struct Tokens {
-    table: bearer_tokens::Tokens,
+    table: access_lists::tokens::TokenTable,
     routes: RouteTable,
 }
 
@@ -22,7 +22,7 @@ impl Model for Tokens {
     ghost use Rattle.std.specs.Prelude.{ℕ, List};
     ghost use Rattle.std.specs.FinMap as map;
     ghost use Rattle.std.specs.Coded.{coded_list, coded_ℕ};
-    ghost use Rattle.text_maps.specs.Keyed.{text_order};
+    ghost use Rattle.containers.specs.TextMaps.Keyed.{text_order};
     ghost use Rattle.access_lists.specs.contracts.people.Caller as caller;
     ghost use Rattle.access_lists.specs.declared.people.Caller.{Caller};
 
@@ -39,13 +39,16 @@ impl Tokens {
         ensures { IfOk result (λ tokens. tokens ≡ map.empty) }
     {
         Ok(Tokens {
-            table: bearer_tokens::Tokens::new(alloc),
+            table: access_lists::tokens::TokenTable::new(alloc),
             routes: RouteTable::new(alloc)?,
         })
     }
 
     /// The tokens of a table. It makes the table of routes.
-    pub fn of_table(alloc: Global, table: bearer_tokens::Tokens) -> Result<Tokens, AllocError>
+    pub fn of_table(
+        alloc: Global,
+        table: access_lists::tokens::TokenTable,
+    ) -> Result<Tokens, AllocError>
         ensures { IfOk result (λ tokens. tokens ≡ table) }
     {
         let routes = RouteTable::new(alloc)?;

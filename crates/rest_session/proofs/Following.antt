@@ -2,10 +2,10 @@
 use Rattle.std.proofs.Common.{◌≡◌, ◌⊎◌, inl, inr, ⊎_elim, ℕ, ◌≤◌, List, [], ◌∷◌, ◌++◌, Option, refl, sym, ap, subst, ◌∙◌, append_assoc, append-nil, arith}
 use Rattle.std.specs.List.{AllByRecursion}
 use Rattle.http_wire.specs.Messages.{RequestMessage, spelling}
-use Rattle.link_service.specs.Links.{IsAnswer, IsEnd, IsFront, IsLastAnswer, IsTranscript, Replays, Step, spellings}
-use Rattle.link_service.specs.declared.end.LinkEnd.{LinkEnd}
-use Rattle.link_service.specs.declared.end.LinkEnd.TheVariants.{Closed, Cut, Ended, ReadFault, WriteFault, Budget, NoMemory}
-use Rattle.link_service.proofs.Progress.{replays_joined, spellings_more}
+use Rattle.rest_session.specs.Links.Links.{IsAnswer, IsEnd, IsFront, IsLastAnswer, IsTranscript, Replays, Step, spellings}
+use Rattle.rest_session.specs.declared.links.end.LinkEnd.{LinkEnd}
+use Rattle.rest_session.specs.declared.links.end.LinkEnd.TheVariants.{Closed, Cut, Ended, ReadFault, WriteFault, Budget, NoMemory}
+use Rattle.rest_session.proofs.OfLinks.Progress.{replays_joined, spellings_more}
 
 abbrev pub Among : {W : Type 0} → W → List W → Type 0
 Among w [] = ⊥

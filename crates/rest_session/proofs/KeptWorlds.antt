@@ -13,10 +13,10 @@ use Rattle.flush_journal.specs.declared.why.Why.{Why}
 use Rattle.flush_journal.proofs.Moments.{joined, no_call, weaker}
 use Rattle.flush_journal.proofs.Unchanged.{same_both, same_here}
 use Rattle.http_wire.specs.Messages.{RequestMessage, closes, spelling}
-use Rattle.journal_keeping.specs.Keepings.{HoldsOne, IsBacked, TellsOne, settled, owed}
-use Rattle.journal_keeping.specs.declared.keeping.Keeping.{Keeping}
-use Rattle.link_service.specs.Links.{IsAnswer, IsFront, IsTranscript, Replays, spellings}
-use Rattle.link_service.specs.declared.end.LinkEnd.{LinkEnd}
+use Rattle.flush_journal.specs.Keepings.Keepings.{HoldsOne, IsBacked, TellsOne, settled, owed}
+use Rattle.flush_journal.specs.declared.keepings.keeping.Keeping.{Keeping}
+use Rattle.rest_session.specs.Links.Links.{IsAnswer, IsFront, IsTranscript, Replays, spellings}
+use Rattle.rest_session.specs.declared.links.end.LinkEnd.{LinkEnd}
 use Rattle.object_ops.specs.Needs.{decided_at}
 use Rattle.object_ops.specs.declared.ops.Request.{Request}
 use Rattle.object_ops.specs.declared.refusals.Refusal.{Refusal}
@@ -26,8 +26,9 @@ use Rattle.service_core.specs.Records.{WorldSays, WorldStillSays, as_kept}
 use Rattle.service_core.specs.Steps.{World}
 use Rattle.service_core.specs.Worlds.{State, seen}
 use Rattle.service_core.specs.declared.answers.What.{What}
-use Rattle.rest_session.specs.Sessions.{IsAnsweredBy, IsFinished, IsServed, KeepsWorld, Served, StandsStill, TellsWorld, acknowledges, said_by}
-use Rattle.rest_session.specs.Stood.{AreKept, HoldsStood, HoldsWorld, IsBackedBy, IsStretch, StoodSince}
+use Rattle.rest_session.specs.Sessions.{IsAnsweredBy, IsFinished, IsServed, Served, StandsStill, acknowledges, said_by}
+use Rattle.service_core.specs.KeptWorlds.{KeepsWorld, TellsWorld, HoldsWorld}
+use Rattle.rest_session.specs.Stood.{AreKept, HoldsStood, IsBackedBy, IsStretch, StoodSince}
 use Rattle.rest_session.proofs.Following.{Advances, Among, Answered, Follows, all_map, all_stood, answered, follow, leaves_between, related}
 use Rattle.rest_session.proofs.Following.{StoodSince as Since}
 

@@ -1,3 +1,5 @@
 pub mod Following
 pub mod KeptWorlds
 pub mod WaitingRecords
+pub mod OfKept
+pub mod OfLinks

@@ -9,23 +9,24 @@ use Rattle.flush_journal.specs.Standing.{numbers_of, pending_of}
 use Rattle.flush_journal.specs.declared.report.Report.{Report}
 use Rattle.flush_journal.specs.declared.why.Why.{Why}
 use Rattle.http_wire.specs.Messages.{RequestMessage, closes}
-use Rattle.journal_keeping.specs.Keepings.{Builds, unsettled, uncut, waits, written}
-use Rattle.journal_keeping.specs.declared.keeping.Keeping.{Keeping}
-use Rattle.journal_keeping.proofs.Backing.{none_some}
-use Rattle.link_service.specs.Links.{IsAnswer, IsTranscript}
-use Rattle.link_service.specs.declared.end.LinkEnd.{LinkEnd}
+use Rattle.flush_journal.specs.Keepings.Keepings.{Builds, unsettled, uncut, waits, written}
+use Rattle.flush_journal.specs.declared.keepings.keeping.Keeping.{Keeping}
+use Rattle.flush_journal.proofs.OfKeepings.Backing.{none_some}
+use Rattle.rest_session.specs.Links.Links.{IsAnswer, IsTranscript}
+use Rattle.rest_session.specs.declared.links.end.LinkEnd.{LinkEnd}
 use Rattle.object_ops.specs.Needs.{decided_at}
 use Rattle.object_ops.specs.declared.ops.Request.{Request}
 use Rattle.object_ops.specs.declared.refusals.Refusal.{Refusal}
-use Rattle.record_cuts.specs.Cuts.{AppendsOnce}
-use Rattle.record_cuts.proofs.CutLemmas.{all_append, all_more}
+use Rattle.flush_journal.specs.Cuts.Cuts.{AppendsOnce}
+use Rattle.flush_journal.proofs.OfCuts.CutLemmas.{all_append, all_more}
 use Rattle.rest_requests.specs.Requests.{request_of}
 use Rattle.service_core.specs.Laws.{PlacesGoOn}
 use Rattle.service_core.specs.Records.{IsCutRecord, IsWorldRecord, as_kept}
 use Rattle.service_core.specs.Steps.{World}
 use Rattle.service_core.specs.Worlds.{State}
 use Rattle.service_core.specs.declared.answers.What.{What}
-use Rattle.rest_session.specs.Sessions.{IsAnsweredBy, IsFinished, IsServed, KeepsWorld, Served, acknowledges, said_by}
+use Rattle.rest_session.specs.Sessions.{IsAnsweredBy, IsFinished, IsServed, Served, acknowledges, said_by}
+use Rattle.service_core.specs.KeptWorlds.{KeepsWorld}
 use Rattle.rest_session.specs.Stood.{AreOfStood, IsOfStood, StoodSince}
 use Rattle.rest_session.proofs.Following.{Advances, Among, Answered, Follows, all_map, all_stood, answered, follow, of_among}
 use Rattle.rest_session.proofs.Following.{StoodSince as Since}

@@ -1,3 +1,5 @@
 pub mod Responses
 pub mod Sessions
 pub mod Stood
+pub mod Kept
+pub mod Links

@@ -13,8 +13,8 @@ use Rattle.object_ops.specs.Refusals.{status_of, refusal_tree, reason_alone}
 use Rattle.object_ops.specs.declared.refusals.Refusal.{Refusal}
 use Rattle.object_ops.specs.declared.refusals.Refusal.TheVariants.{BadToken, Forbidden, Method, BadHead, HeadTooLong, BadLength, BodyTooLong, TransferCoding}
 use Rattle.object_ops.specs.declared.replies.Reply.TheVariants as outcome
-use Rattle.route_table.specs.Methods.{no_methods}
-use Rattle.route_table.specs.declared.routes.Methods.{Methods}
+use Rattle.rest_requests.specs.Routes.Methods.{no_methods}
+use Rattle.rest_requests.specs.declared.routes.routes.Methods.{Methods}
 use Rattle.service_core.specs.declared.answers.What.{What}
 use Rattle.service_core.specs.declared.answers.What.TheVariants.{Replied, Denied, NoMemory}
 

@@ -2,21 +2,17 @@
 --     Served      the tokens, the world, and its keeping
 --     acknowledges op what      the answer says that a change of folders, domains or lists was done, or that all is kept
 --     IsServed s message bytes t      a message, its answer's bytes, and what is left
-use Rattle.std.specs.Prelude.{◌≡◌, ◌⊎◌, ℕ, List, [], map, codes, Bool, true, false, Option, Result, Ok, Err, OnErr, OnOk, IfOk}
+use Rattle.std.specs.Prelude.{◌≡◌, ◌⊎◌, ℕ, List, [], map, codes, Bool, true, false, Option, Result, Ok, Err}
 use Rattle.httparse.specs.Spans.{name_and_value}
 use Rattle.http_wire.specs.Heads.{first_value}
 use Rattle.http_wire.specs.Messages.{RequestMessage, closes}
 use Rattle.http_wire.specs.Replies.{no_memory_reply}
 use Rattle.access_lists.specs.declared.people.Caller.{Caller}
-use Rattle.bearer_tokens.specs.Bearer.{TokenTable}
+use Rattle.access_lists.specs.Tokens.Bearer.{TokenTable}
 use Rattle.edge_traits.specs.declared.disk.Disk.{Ghosts}
-use Rattle.flush_journal.specs.Batches.{records}
-use Rattle.flush_journal.specs.Records.{Held, Record}
-use Rattle.flush_journal.specs.Standing.{numbers_of, pending_of}
 use Rattle.flush_journal.specs.declared.why.Why.{Why}
 use Rattle.flush_journal.specs.declared.why.Why.TheVariants as why
-use Rattle.journal_keeping.specs.Keepings.{Builds, Keeps}
-use Rattle.journal_keeping.specs.declared.keeping.Keeping.{Keeping}
+use Rattle.flush_journal.specs.declared.keepings.keeping.Keeping.{Keeping}
 use Rattle.object_ops.specs.Needs.{decided_at}
 use Rattle.object_ops.specs.declared.ops.Op.{Op}
 use Rattle.object_ops.specs.declared.ops.Op.TheVariants.{DropNode, Flush, PutAcl, PutNode}
@@ -25,9 +21,10 @@ use Rattle.object_ops.specs.declared.refusals.Refusal.{Refusal}
 use Rattle.object_ops.specs.declared.refusals.Refusal.TheVariants.{DiskFault, JournalFull}
 use Rattle.object_ops.specs.declared.replies.Reply.TheVariants as outcome
 use Rattle.rest_requests.specs.Requests.{RequestText, allow_of, request_of}
-use Rattle.route_table.specs.Methods.{no_methods}
-use Rattle.service_core.specs.Records.{DescribesWorld, IsCutRecord, WorldSays, WorldStillSays, as_kept}
-use Rattle.service_core.specs.Steps.{Steps, World}
+use Rattle.rest_requests.specs.Routes.Methods.{no_methods}
+use Rattle.service_core.specs.Records.{WorldStillSays}
+use Rattle.service_core.specs.KeptWorlds.{KeepsWorld}
+use Rattle.service_core.specs.Steps.{Steps}
 use Rattle.service_core.specs.Worlds.{State, seen}
 use Rattle.service_core.specs.declared.answers.Answer.{Answer}
 use Rattle.service_core.specs.declared.answers.What.{What}
@@ -66,22 +63,6 @@ is_to_keep op = false
 abbrev pub acknowledges : Op → What → Bool
 acknowledges op (Replied (outcome.Done status body)) = is_to_keep op
 acknowledges op what = false
-
--- what is held describes a world in its run
-abbrev pub TellsWorld : Held → World → Type 0
-TellsWorld held w = DescribesWorld held w.door.run w
-
--- a keeping of the world: the world stays, whatever of it is to be written; after Ok it is kept with all its places, and nothing is to be
--- written. What it writes, and what it leaves to be written, is what was, and records that were to be written.
-pub record KeepsWorld {D : Type 0} {met : Ghosts D} (k : Keeping D met) (s : State) (l : Keeping D met) (t : State) (result : Result ℕ Why) : Type 0 where
-  pub keeps : Keeps TellsWorld k.journal l.journal (records k.building) (records l.building) (WorldSays s) (WorldSays t) (as_kept t) result
-  pub same : as_kept t ≡ as_kept s
-  pub number : IfOk result (λ n. n ≡ t.door.places)
-  pub kept : IfOk result (λ n. l.kept ≡ n)
-  pub refused : OnErr result (l.kept ≡ k.kept)
-  pub batch : Builds (IsCutRecord s) (numbers_of k.journal) (pending_of k.journal) (records k.building) (numbers_of l.journal) (pending_of l.journal) (records l.building)
-  pub done : OnOk result (records l.building ≡ [])
-  pub none : OnOk result ((r : Record) → IsCutRecord t r → ⊥)
 
 -- the answer where a change stands that was not kept; or that there was no memory
 abbrev pub IsUnkept : Why → Bool → List ℕ → Type 0

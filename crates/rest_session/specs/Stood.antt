@@ -14,11 +14,12 @@ use Rattle.flush_journal.specs.Files.{held}
 use Rattle.flush_journal.specs.Records.{Held, Record}
 use Rattle.flush_journal.specs.Standing.{pending_of}
 use Rattle.http_wire.specs.Messages.{RequestMessage}
-use Rattle.journal_keeping.specs.Keepings.{IsBacked}
-use Rattle.link_service.specs.Links.{IsFront, Replays, spellings}
+use Rattle.flush_journal.specs.Keepings.Keepings.{IsBacked}
+use Rattle.rest_session.specs.Links.Links.{IsFront, Replays, spellings}
 use Rattle.service_core.specs.Records.{IsWorldRecord, WorldSays, as_kept}
 use Rattle.service_core.specs.Steps.{World}
-use Rattle.rest_session.specs.Sessions.{IsServed, Served, TellsWorld}
+use Rattle.rest_session.specs.Sessions.{IsServed, Served}
+use Rattle.service_core.specs.KeptWorlds.{HoldsWorld, TellsWorld}
 
 abbrev pub IsBackedBy : {D : Type 0} {met : Ghosts D} → Served met → List World → Type 0
 IsBackedBy s worlds = IsBacked TellsWorld s.keeping.journal (records s.keeping.building) (WorldSays s.world) worlds
@@ -56,10 +57,6 @@ pub record AreOfStood {D : Type 0} {met : Ghosts D} (s t : Served met) (taken : 
   pub now : StoodSince s t taken t.keeping.kept (as_kept t.world)
 
 -- ---- what a file holds
-
--- a file holds a world
-abbrev pub HoldsWorld : World → List ℕ → Type 0
-HoldsWorld w file = (m : Held) × (held file ≡ Some m) × TellsWorld m w
 
 -- one that stood while a link was served, once at least `kept` requests were decided
 abbrev pub HoldsStood : {D : Type 0} {met : Ghosts D} → Served met → Served met → List ℕ → ℕ → List ℕ → Type 0

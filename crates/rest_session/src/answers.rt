@@ -1,28 +1,28 @@
 //! Answers to requests, as a link writes them.
 
 ghost use Rattle.std.specs.Prelude.{◌≡◌, Bool, IfOk};
-ghost use Rattle.link_service.specs.Replies.{reply_bytes};
+ghost use Rattle.rest_session.specs.Links.Replies.{reply_bytes};
 ghost use Rattle.http_wire.specs.Replies.{no_memory_reply};
-ghost use Rattle.answer_trees.specs.Exact.{IsExact};
+ghost use Rattle.service_core.specs.AnswerTrees.Exact.{IsExact};
 ghost use Rattle.rest_session.specs.Responses.{IsResponse, IsSaid, refused};
 ghost use Rattle.rest_session.specs.Responses.{extra_of, extra_said, listed, status_said};
 
+use crate::links::{Response, ResponseBody};
 use crate::texts::{answer_text, refusal_text};
 use http_wire::Extra;
-use link_service::{Reply, ReplyBody};
-use object_ops::{Refusal, Reply as Outcome};
-use route_table::Methods;
+use object_ops::{Refusal, Reply};
+use rest_requests::routes::Methods;
 use service_core::{Answer, What};
 use std::alloc::{AllocError, Global};
 
 /// The answer that says that memory is wanting. It takes none.
-pub fn no_memory() -> Reply
+pub fn no_memory() -> Response
     ensures { (close : Bool) → reply_bytes result close ≡ no_memory_reply close }
 {
-    Reply {
+    Response {
         status: 507,
         extra: Extra::None,
-        body: ReplyBody::Fixed("{\"reason\":\"no-memory\"}"),
+        body: ResponseBody::Fixed("{\"reason\":\"no-memory\"}"),
     }
 }
 
@@ -36,15 +36,15 @@ pub fn refusal_reply(
     path: &str,
     refusal: &Refusal,
     allow: Methods,
-) -> Result<Reply, AllocError>
+) -> Result<Response, AllocError>
     ensures { IfOk result (λ reply. (close : Bool)
         → reply_bytes reply close ≡ refused path.now refusal.now allow close) }
 {
     let text = refusal_text(alloc, path, refusal)?;
-    Ok(Reply {
+    Ok(Response {
         status: refusal.status(),
         extra: extra_of(refusal, allow),
-        body: ReplyBody::Text(text),
+        body: ResponseBody::Text(text),
     })
 }
 
@@ -72,7 +72,7 @@ fn listed(methods: Methods) -> http_wire::Methods
 }
 
 /// The answer to a request that was decided at `path`. Where its text finds no memory, it says that memory is wanting.
-pub fn answer_reply(alloc: Global, path: &str, answer: &Answer) -> Reply
+pub fn answer_reply(alloc: Global, path: &str, answer: &Answer) -> Response
     requires { IsExact answer.now.what }
     ensures { (close : Bool)
         → IsResponse path.now answer.now.what close (reply_bytes result close) }
@@ -84,16 +84,16 @@ pub fn answer_reply(alloc: Global, path: &str, answer: &Answer) -> Reply
 }
 
 // The answer with its text.
-fn said(alloc: Global, path: &str, answer: &Answer) -> Result<Reply, AllocError>
+fn said(alloc: Global, path: &str, answer: &Answer) -> Result<Response, AllocError>
     requires { IsExact answer.now.what }
     ensures { IfOk result (λ reply. (close : Bool)
         → IsSaid path.now answer.now.what close (reply_bytes reply close)) }
 {
     let text = answer_text(alloc, path, answer)?;
-    Ok(Reply {
+    Ok(Response {
         status: status_said(&answer.what),
         extra: extra_said(&answer.what),
-        body: ReplyBody::Text(text),
+        body: ResponseBody::Text(text),
     })
 }
 
@@ -102,8 +102,8 @@ fn status_said(what: &What) -> u16
     ensures { result ≡ status_said what.now }
 {
     match what {
-        What::Replied(Outcome::Done { status, .. }) => *status,
-        What::Replied(Outcome::Refused(refusal)) => refusal.status(),
+        What::Replied(Reply::Done { status, .. }) => *status,
+        What::Replied(Reply::Refused(refusal)) => refusal.status(),
         What::Denied { .. } => 403,
         What::NoMemory => 507,
     }
@@ -114,8 +114,8 @@ fn extra_said(what: &What) -> Extra
     ensures { result ≡ extra_said what.now }
 {
     match what {
-        What::Replied(Outcome::Refused(refusal)) => extra_of(refusal, Methods::NONE),
+        What::Replied(Reply::Refused(refusal)) => extra_of(refusal, Methods::NONE),
         What::Denied { .. } => Extra::Bearer,
-        What::Replied(Outcome::Done { .. }) | What::NoMemory => Extra::None,
+        What::Replied(Reply::Done { .. }) | What::NoMemory => Extra::None,
     }
 }

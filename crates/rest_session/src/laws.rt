@@ -5,19 +5,19 @@ ghost use Rattle.flush_journal.specs.Batches.{records};
 ghost use Rattle.flush_journal.specs.Moments.{Leaves};
 ghost use Rattle.flush_journal.specs.Standing.{disk_of, pending_of};
 ghost use Rattle.flush_journal.specs.Unchanged.{SameDisk};
-ghost use Rattle.link_service.specs.Links.{IsTranscript};
-ghost use Rattle.link_service.specs.declared.end.LinkEnd.{LinkEnd};
+ghost use Rattle.rest_session.specs.Links.Links.{IsTranscript};
+ghost use Rattle.rest_session.specs.declared.links.end.LinkEnd.{LinkEnd};
 ghost use Rattle.service_core.specs.Records.{as_kept};
 ghost use Rattle.http_wire.specs.Replies.{fault_reply, no_memory_reply};
 ghost use Rattle.http_wire.specs.declared.message_fault.MessageFault.{MessageFault};
-ghost use Rattle.route_table.specs.Methods.{no_methods};
+ghost use Rattle.rest_requests.specs.Routes.Methods.{no_methods};
 ghost use Rattle.service_core.specs.declared.answers.What.TheVariants.{NoMemory};
 ghost use Rattle.rest_session.specs.Responses.{refusal_of, refused, said};
 ghost use Rattle.rest_session.specs.Sessions.{IsServed, Served};
 ghost use Rattle.rest_session.specs.Stood.{AreKept, AreOfStood, HoldsStood, IsBackedBy, IsStretch};
 
 use edge_traits::Disk;
-use journal_keeping::images_are_kept;
+use flush_journal::keepings::images_are_kept;
 use service_core::{World, places_in_order};
 
 /// What ends a link is refused as a request is.

@@ -2,14 +2,14 @@
 
 ghost use Rattle.std.specs.Prelude.{◌≡◌, ℕ, List};
 ghost use Rattle.std.specs.Io.KnownBytes.{Consumes, Appends};
-ghost use Rattle.link_service.specs.Links.{HasCauses, IsTranscript};
-ghost use Rattle.link_service.specs.declared.end.LinkEnd.TheVariants.{NoMemory};
+ghost use Rattle.rest_session.specs.Links.Links.{HasCauses, IsTranscript};
+ghost use Rattle.rest_session.specs.declared.links.end.LinkEnd.TheVariants.{NoMemory};
 ghost use Rattle.rest_session.specs.Sessions.{IsServed};
 
+use crate::links::{LinkEnd, serve_link};
 use crate::world_session::WorldSession;
 use edge_traits::{Disk, Link};
-use journal_keeping::Keeping;
-use link_service::{LinkEnd, serve_link};
+use flush_journal::keepings::Keeping;
 use rest_requests::Tokens;
 use service_core::World;
 use std::alloc::Global;

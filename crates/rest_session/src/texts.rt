@@ -7,11 +7,11 @@ ghost use Rattle.serde_json.specs.View.{view};
 ghost use Rattle.serde_json.specs.Written.{has_float};
 ghost use Rattle.object_ops.specs.Refusals.{reason_alone, refusal_tree};
 ghost use Rattle.service_core.specs.declared.answers.What.TheVariants.{Replied};
-ghost use Rattle.answer_trees.specs.Exact.{IsExact};
+ghost use Rattle.service_core.specs.AnswerTrees.Exact.{IsExact};
 ghost use Rattle.rest_session.specs.Responses.{IsJson, body_text, body_tree};
 
 use json_trees::Tree;
-use object_ops::{Refusal, Reply as Outcome, refusal_json};
+use object_ops::{Refusal, Reply, refusal_json};
 use serde_json::{Value, json};
 use service_core::{Answer, What};
 use std::alloc::{AllocError, Global};
@@ -45,14 +45,14 @@ fn what_text(alloc: Global, path: &str, what: &What) -> Result<String, AllocErro
 }
 
 // The body where a request was done or refused.
-fn outcome_text(alloc: Global, path: &str, outcome: &Outcome) -> Result<String, AllocError>
+fn outcome_text(alloc: Global, path: &str, outcome: &Reply) -> Result<String, AllocError>
     requires { IsExact (Replied outcome.now) }
     ensures { IfOk result (λ text. IsJson (body_tree path.now (Replied outcome.now))
         (string_bytes text)) }
 {
     match outcome {
-        Outcome::Done { body, .. } => tree_text(alloc, body),
-        Outcome::Refused(refusal) => refusal_text(alloc, path, refusal),
+        Reply::Done { body, .. } => tree_text(alloc, body),
+        Reply::Refused(refusal) => refusal_text(alloc, path, refusal),
     }
 }
 

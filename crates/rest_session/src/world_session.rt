@@ -4,26 +4,26 @@ ghost use Rattle.std.specs.Prelude.{◌≡◌, ◌⊎◌, Bool, []};
 ghost use Rattle.http_wire.specs.Messages.{RequestMessage, IsSpelled};
 ghost use Rattle.http_wire.specs.Heard.{IsMessage};
 ghost use Rattle.http_wire.specs.Replies.{no_memory_reply};
-ghost use Rattle.link_service.specs.Replies.{reply_bytes};
+ghost use Rattle.rest_session.specs.Links.Replies.{reply_bytes};
 ghost use Rattle.object_ops.specs.Conditions.{IsSoundOp};
 ghost use Rattle.object_ops.specs.Needs.{decided_at};
-ghost use Rattle.bearer_tokens.specs.Bearer.{TokenTable};
+ghost use Rattle.access_lists.specs.Tokens.Bearer.{TokenTable};
 ghost use Rattle.rest_requests.specs.Requests.{said};
 ghost use Rattle.rest_session.specs.Responses.{refused};
 ghost use Rattle.rest_session.specs.Sessions.{IsStepped, IsUnkept, Served, acknowledges, is_to_keep};
 ghost use Rattle.rest_session.specs.Sessions.{said_by};
 
 use crate::answers::{answer_reply, no_memory, refusal_reply};
+use crate::links::{Response, Service};
 use access_lists::Caller;
-use answer_trees::bodies_have_no_floats;
 use edge_traits::Disk;
 use flush_journal::Why;
+use flush_journal::keepings::Keeping;
 use http_wire::Message;
-use journal_keeping::Keeping;
-use link_service::{Reply, Service};
-use object_ops::{Op, Refusal, Reply as Outcome, Request, on_text};
+use object_ops::{Op, Refusal, Reply, Request, on_text};
+use rest_requests::routes::Methods;
 use rest_requests::{RequestFault, RequestParts, Tokens, read_request};
-use route_table::Methods;
+use service_core::answer_trees::bodies_have_no_floats;
 use service_core::{What, World};
 use std::alloc::{AllocError, Global};
 
@@ -38,7 +38,7 @@ pub struct WorldSession<'a, D: Disk> {
 
 impl<'a, D: Disk> Service for WorldSession<'a, D> {
     ghost use base.Fml.{GName};
-    ghost use Rattle.bearer_tokens.specs.Bearer.{TokenTable};
+    ghost use Rattle.access_lists.specs.Tokens.Bearer.{TokenTable};
     ghost use Rattle.rest_session.specs.Sessions.{IsServed, Served};
 
     ghost World = { Served D.Disk };
@@ -51,7 +51,7 @@ impl<'a, D: Disk> Service for WorldSession<'a, D> {
 
     ghost fixed = { λ s. (s.world.ghost_name, s.keeping.ghost_name, s.tokens.now) };
 
-    fn answer(&mut self, message: &Message<'_>) -> Reply {
+    fn answer(&mut self, message: &Message<'_>) -> Response {
         match read_request(self.alloc, &parts_of(message), self.tokens) {
             Ok((caller, request)) => {
                 step(
@@ -84,7 +84,7 @@ fn parts_of<'m>(message: &Message<'m>) -> RequestParts<'m>
 }
 
 /// Answers what is no request.
-fn refuse(alloc: Global, refusal: &Refusal, allow: Methods) -> Reply
+fn refuse(alloc: Global, refusal: &Refusal, allow: Methods) -> Response
     ensures { (close : Bool) → (reply_bytes result close ≡ refused [] refusal.now allow close)
         ⊎ (reply_bytes result close ≡ no_memory_reply close) }
 {
@@ -103,7 +103,7 @@ fn step<D: Disk>(
     keeping: &mut Keeping<D>,
     caller: &Caller,
     request: &Request,
-) -> Reply
+) -> Response
     requires { IsSoundOp request.now.op }
     ensures { (close : Bool) → IsStepped
         (record { tokens = tokens.now; world = world.old; keeping = keeping.old })
@@ -131,7 +131,7 @@ fn acknowledges(op: &Op, what: &What) -> bool
     ensures { result ≡ acknowledges op.now what.now }
 {
     match what {
-        What::Replied(Outcome::Done { .. }) => is_to_keep(op),
+        What::Replied(Reply::Done { .. }) => is_to_keep(op),
         _ => false,
     }
 }
@@ -146,7 +146,7 @@ fn is_to_keep(op: &Op) -> bool
 }
 
 // Says why a change that stands was not kept.
-fn unkept_reply(alloc: Global, why: Why) -> Reply
+fn unkept_reply(alloc: Global, why: Why) -> Response
     ensures { (close : Bool) → IsUnkept why close (reply_bytes result close) }
 {
     match why {

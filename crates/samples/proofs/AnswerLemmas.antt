@@ -8,8 +8,8 @@ use Rattle.hyperslab.specs.Selected.{extents, slab_cells}
 use Rattle.object_ops.specs.Answers.{only}
 use Rattle.object_ops.specs.declared.replies.Reply.TheVariants.{Done, Refused}
 use Rattle.object_ops.specs.declared.refusals.Refusal.TheVariants.{TooMany}
-use Rattle.array_acts.specs.Arrays.{bytes_for, nested_by, part_read, part_tree, value_read}
-use Rattle.array_acts.specs.Faults.{most_bytes}
+use Rattle.object_acts.specs.Arrays.Arrays.{bytes_for, nested_by, part_read, part_tree, value_read}
+use Rattle.object_acts.specs.Arrays.Faults.{most_bytes}
 use Rattle.samples.specs.Trees.{IsSample, read_tree, slab_of, slab_text}
 use Rattle.samples.proofs.ReadLemmas.{slab_many, slab_read}
 use Rattle.samples.proofs.SelectLemmas.{slab_spelled}

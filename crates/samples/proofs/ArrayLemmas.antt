@@ -18,7 +18,7 @@ use Rattle.shapes.specs.declared.Shape.{Shape}
 use Rattle.shapes.specs.declared.Shape.TheVariants.{Simple}
 use Rattle.shapes.proofs.ShapeLemmas.{same_ok, shape_read}
 use Rattle.chunk_store.specs.Grids.{Grid, value_at}
-use Rattle.sample_values.specs.Samples.{element}
+use Rattle.samples.specs.Values.Samples.{element}
 use Rattle.samples.specs.Trees.{IsSample, i32, listed, shape_tree, value_tree, whole}
 use Rattle.samples.proofs.ReadLemmas.{i32_sound}
 use Rattle.samples.proofs.ValueLemmas.{value_at_cell, value_fits}

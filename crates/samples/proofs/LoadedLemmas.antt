@@ -4,7 +4,7 @@ use Rattle.std.specs.List.{AllZip}
 use Rattle.std.specs.FinMap.{FinMap, empty, entries, get, insert, remove}
 use Rattle.std.specs.Cmp.Lexicographic.{nat_list_cmp_total}
 use Rattle.serde_json.specs.Data.{Data, member, no_members}
-use Rattle.text_maps.specs.Keyed.{text_order}
+use Rattle.containers.specs.TextMaps.Keyed.{text_order}
 use Rattle.object_ids.specs.IdOrder.{id_order}
 use Rattle.object_ids.specs.IdValues.{Id}
 use Rattle.object_ids.specs.declared.ids.Kind.TheVariants as kind
@@ -14,20 +14,20 @@ use Rattle.hdf_values.specs.Nested.{piece_at}
 use Rattle.shapes.specs.Places.{place}
 use Rattle.shapes.specs.Shapes.{LiesIn, dims_of}
 use Rattle.chunk_store.specs.Grids.{Grid, value_at}
-use Rattle.document_parts.specs.Arrays.{blank, with_bytes}
-use Rattle.document_parts.specs.Spelled.{IsArray, put_pairs}
-use Rattle.json_import.specs.Loads.{AreMembers, IsMember, Loads, pairs_of}
-use Rattle.json_import.specs.declared.loaded.Dataset.{Dataset}
-use Rattle.json_import.specs.declared.loaded.Datatype.{Datatype}
-use Rattle.json_import.specs.declared.loaded.Group.{Group}
-use Rattle.json_import.specs.declared.loaded.Loaded.{Loaded}
+use Rattle.documents.specs.Parts.Arrays.{blank, with_bytes}
+use Rattle.documents.specs.Parts.Spelled.{IsArray, put_pairs}
+use Rattle.documents.specs.Reader.Loads.{AreMembers, IsMember, Loads, pairs_of}
+use Rattle.documents.specs.declared.reader.loaded.Dataset.{Dataset}
+use Rattle.documents.specs.declared.reader.loaded.Datatype.{Datatype}
+use Rattle.documents.specs.declared.reader.loaded.Group.{Group}
+use Rattle.documents.specs.declared.reader.loaded.Loaded.{Loaded}
 use Rattle.object_acts.specs.declared.objects.Object.{Object}
-use Rattle.fresh_objects.specs.Names.{Names, behind, names_of, others, with_each, with_root}
-use Rattle.fresh_objects.specs.Renamed.{dataset_object, datatype_object, group_object, numbered, objects_put, objects_under, other_objects, root_object}
+use Rattle.json_import.specs.Fresh.Names.{Names, behind, names_of, others, with_each, with_root}
+use Rattle.json_import.specs.Fresh.Renamed.{dataset_object, datatype_object, group_object, numbered, objects_put, objects_under, other_objects, root_object}
 use Rattle.samples.specs.Trees.{IsSample, dataset_tree, document_tree, sample_tree, value_tree}
 use Rattle.domains.specs.Changes.{new_domain}
 use Rattle.service_core.specs.Worlds.{State, seen}
-use Rattle.domain_imports.specs.Adopted.{objects_adopted, root_at}
+use Rattle.json_import.specs.Adoption.Adopted.{objects_adopted, root_at}
 use Rattle.samples.specs.Requests.{dataset_id, sample_path, sample_user}
 use Rattle.samples.specs.Worlds.{HoldsSample, IsFirst}
 use Rattle.samples.proofs.ArrayLemmas.{sample_is}

@@ -23,7 +23,7 @@ use Rattle.hyperslab.specs.declared.Slab.{Slab}
 use Rattle.hyperslab.specs.declared.TheConstants.{MAX_SELECTED}
 use Rattle.hyperslab.proofs.AxisLemmas.{extent_some}
 use Rattle.hyperslab.proofs.CellLemmas.{cells_counted, cells_listed, cells_within}
-use Rattle.sample_values.specs.Samples.{element}
+use Rattle.samples.specs.Values.Samples.{element}
 use Rattle.samples.specs.Trees.{IsSample, i32, listed, read_row, read_tree, slab_of, whole}
 use Rattle.samples.proofs.ValueLemmas.{element_small, number_fits}
 

@@ -7,7 +7,7 @@ use Rattle.serde_json.specs.Data.{Data}
 use Rattle.serde_json.specs.View.{view}
 use Rattle.serde_json.specs.declared.value.Value.{Value}
 use Rattle.hdf_values.proofs.ElementLemmas.{list_of-items_of}
-use Rattle.sample_values.specs.Samples.{element, row_sum, slab_sum}
+use Rattle.samples.specs.Values.Samples.{element, row_sum, slab_sum}
 use Rattle.samples.specs.Sums.{number_in, row_in, total_in}
 use Rattle.samples.specs.Trees.{read_row, read_tree, whole}
 

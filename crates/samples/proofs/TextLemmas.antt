@@ -4,7 +4,7 @@ use Rattle.std.specs.List.{flat_map, range_with_len, sum_by}
 use Rattle.std.proofs.lemmas.List.{append-nil}
 use Rattle.std.proofs.lemmas.List.Concat.{flat_map-append}
 use Rattle.std.proofs.lemmas.List.Sums.{sum_by_push}
-use Rattle.sample_values.specs.Samples.{sample_text, slab_line, slab_sum, total, total_line}
+use Rattle.samples.specs.Values.Samples.{sample_text, slab_line, slab_sum, total, total_line}
 use Rattle.service_core.specs.Steps.{World}
 use Rattle.samples.specs.Worlds.{HoldsSample}
 

@@ -6,7 +6,7 @@ use Rattle.std.proofs.lemmas.List.FromFn.{map-range_with_len_more}
 use Rattle.serde_json.specs.Data.{Data, depth, items_depth}
 use Rattle.serde_json.specs.View.{items_of, view}
 use Rattle.serde_json.specs.declared.value.Value.{Value}
-use Rattle.sample_values.specs.Samples.{element, state}
+use Rattle.samples.specs.Values.Samples.{element, state}
 use Rattle.samples.specs.Trees.{dataset_tree, document_tree, listed, run_tree, value_tree, whole}
 
 -- ---- so many members were made

@@ -9,7 +9,7 @@ use Rattle.serde_json.specs.View.{items_of}
 use Rattle.hdf_values.specs.Elements.{Fits}
 use Rattle.hdf_values.specs.Nested.{FitsNested, tree_at}
 use Rattle.hdf_values.proofs.ElementLemmas.{list_of-items_of}
-use Rattle.sample_values.specs.Samples.{element, next_state, state}
+use Rattle.samples.specs.Values.Samples.{element, next_state, state}
 use Rattle.samples.specs.Trees.{i32, listed, run_tree, value_tree, whole}
 
 -- ---- the elements

@@ -8,7 +8,7 @@ use Rattle.hdf_values.specs.Elements.{bytes_of}
 use Rattle.shapes.specs.declared.Shape.TheVariants.{Simple}
 use Rattle.chunk_store.specs.Grids.{Grid, value_at}
 use Rattle.hyperslab.specs.declared.Slab.{Slab}
-use Rattle.sample_values.specs.Samples.{element}
+use Rattle.samples.specs.Values.Samples.{element}
 
 abbrev pub whole : ℕ → Data
 whole k = number (unsigned k)

@@ -13,7 +13,7 @@ use Rattle.register.specs.Decided.{Door}
 use Rattle.service_core.specs.Steps.{World}
 use Rattle.service_core.specs.declared.answers.What.{What}
 use Rattle.service_core.specs.declared.answers.What.TheVariants.{Replied}
-use Rattle.sample_values.specs.Samples.{slab_sum}
+use Rattle.samples.specs.Values.Samples.{slab_sum}
 use Rattle.samples.specs.Requests.{dataset_id, sample_path, sample_user}
 use Rattle.samples.specs.Trees.{IsSample, read_tree}
 

@@ -3,11 +3,11 @@
 ghost use Rattle.std.specs.Prelude.{◌≡◌, ℕ, ◌+◌, IfOk, OnOk, Some, string_bytes};
 ghost use Rattle.serde_json.specs.Read.{read};
 ghost use Rattle.serde_json.specs.View.{view};
-ghost use Rattle.sample_values.specs.Samples.{state};
+ghost use Rattle.samples.specs.Values.Samples.{state};
 ghost use Rattle.samples.specs.Trees.{dataset_tree as tree_of_dataset, document_tree as tree_of_document};
 ghost use Rattle.samples.specs.Trees.{run_tree, sample_tree, value_tree as tree_of_value};
 
-use sample_values::Elements;
+use crate::values::Elements;
 use serde_json::{Value, json};
 use std::alloc::{AllocError, Global};
 

@@ -1,4 +1,6 @@
 //! The sample of a number, read from a world.
+//!
+//! [`values`] has the elements of a sample and its lines.
 #![tactic(auto)]
 
 mod document;
@@ -6,9 +8,8 @@ mod requests;
 mod selection;
 mod slabs;
 mod sums;
-#[cfg(test)]
-mod tests;
 mod texts;
+pub mod values;
 mod world;
 
 pub use texts::sample_text;

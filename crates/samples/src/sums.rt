@@ -3,7 +3,7 @@
 ghost use Rattle.std.specs.Prelude.{◌≡◌, ◌%◌, ◌^◌, ℕ, codes, map};
 ghost use Rattle.serde_json.specs.View.{view};
 ghost use Rattle.object_ops.specs.Answers.{only};
-ghost use Rattle.sample_values.specs.Samples.{slab_sum};
+ghost use Rattle.samples.specs.Values.Samples.{slab_sum};
 ghost use Rattle.samples.specs.Sums.{members, number_in, row_in, total_in};
 ghost use Rattle.samples.specs.Trees.{read_tree};
 

@@ -1,12 +1,12 @@
 //! The lines of a sample.
 
 ghost use Rattle.std.specs.Prelude.{◌≡◌, IfOk, string_bytes};
-ghost use Rattle.sample_values.specs.Samples.{sample_text as text_of_sample};
+ghost use Rattle.samples.specs.Values.Samples.{sample_text as text_of_sample};
 
 use crate::requests::sample_caller;
 use crate::slabs::read_slab;
+use crate::values::{slab_line, total_line};
 use crate::world::sample_world;
-use sample_values::{slab_line, total_line};
 use std::alloc::{AllocError, Global};
 
 /// The lines of the sample of a number: what its definition gives.

@@ -1,17 +1,17 @@
 //! A world that holds a sample.
 
 ghost use Rattle.std.specs.Prelude.{◌≡◌, codes, IfOk};
-ghost use Rattle.json_import.specs.Loads.{Loads};
+ghost use Rattle.documents.specs.Reader.Loads.{Loads};
 ghost use Rattle.service_core.specs.Worlds.{seen};
 ghost use Rattle.samples.specs.Trees.{sample_tree};
 ghost use Rattle.samples.specs.Worlds.{HoldsSample, IsFirst};
 
 use crate::document::document_text;
 use crate::requests::{sample_path, sample_user};
-use document_parts::cells_have_elements;
-use domain_imports::adopt;
+use documents::parts::cells_have_elements;
+use documents::reader::{Loaded, read_document};
 use domains::Catalogue;
-use json_import::{Loaded, read_document};
+use json_import::adoption::adopt;
 use register::Register;
 use service_core::World;
 use std::alloc::{AllocError, Global};

@@ -1,16 +1,16 @@
 -- Once all is kept, the next cut writes nothing.
 use Rattle.std.proofs.Common.{◌≡◌, inl, inr, ℕ, true, false, is_some, ◌||◌, ◌&&◌, List, [], ◌∷◌, sym, ap, subst, ◌∙◌, true≢false}
 use Rattle.std.specs.FinMap.{contains_key, get-empty}
-use Rattle.text_maps.specs.Keyed.{text_order}
+use Rattle.containers.specs.TextMaps.Keyed.{text_order}
 use Rattle.object_ids.specs.IdValues.{Id}
 use Rattle.flush_journal.specs.Records.{Record}
 use Rattle.object_acts.specs.declared.objects.Body.{Body}
 use Rattle.object_acts.specs.declared.objects.Body.TheVariants as body
-use Rattle.object_slots.specs.Slots.{AreStill, IsMarked, IsMarkedIn as IsMarkedAt, IsMeantIn, IsStillBody}
-use Rattle.object_slots.specs.declared.slot.Mark.{Mark}
-use Rattle.object_slots.specs.declared.slot.Mark.TheVariants.{Kept}
+use Rattle.chunk_owner.specs.Slots.Slots.{AreStill, IsMarked, IsMarkedIn as IsMarkedAt, IsMeantIn, IsStillBody}
+use Rattle.chunk_owner.specs.declared.slots.slot.Mark.{Mark}
+use Rattle.chunk_owner.specs.declared.slots.slot.Mark.TheVariants.{Kept}
 use Rattle.chunk_owner.specs.Lanes.{Lane}
-use Rattle.lane_owners.specs.Records.{AreStillIn, IsMarkedIn}
+use Rattle.chunk_owner.specs.Owners.Records.{AreStillIn, IsMarkedIn}
 use Rattle.register.specs.Decided.{Door}
 use Rattle.register.specs.Kept.{IsRegisterMarked, all_kept, is_marked_in}
 use Rattle.register.specs.Kept.IsRegisterMarked.{the_run, the_next, a_node}

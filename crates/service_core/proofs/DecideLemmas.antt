@@ -50,7 +50,7 @@ use Rattle.register.specs.declared.verdicts.Verdict.TheVariants as verdict
 use Rattle.service_core.specs.Steps.{AreGiven, IsGiven}
 use Rattle.service_core.specs.Turns.{AreReady, AreServable, IsServable}
 use Rattle.service_core.proofs.GivenLemmas.{HasGiven, MayGrant, given_same}
-use Rattle.lane_owners.proofs.WholeLemmas.{get-set_at}
+use Rattle.chunk_owner.proofs.OfOwners.WholeLemmas.{get-set_at}
 
 -- what was given stays given, of as many lanes, and one place more is
 pub record Grows (old new : Door) : Type 0 where

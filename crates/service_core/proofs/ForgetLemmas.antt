@@ -12,9 +12,9 @@ use Rattle.chunk_owner.specs.Lanes.{Forgets, IsSameLane, Lane, Objects}
 use Rattle.chunk_owner.proofs.Eaches.{same_id}
 use Rattle.register.specs.Tickets.{AreEach}
 use Rattle.register.specs.declared.tickets.Turn.{Turn}
-use Rattle.lane_owners.specs.Joined.{AreLanes, IsLane, whole}
+use Rattle.chunk_owner.specs.Owners.Joined.{AreLanes, IsLane, whole}
 use Rattle.service_core.specs.Steps.{without_domain}
-use Rattle.lane_owners.proofs.WholeLemmas.{get-whole, or_else}
+use Rattle.chunk_owner.proofs.OfOwners.WholeLemmas.{get-whole, or_else}
 
 abbrev absent : Option Object
 absent = None

@@ -4,19 +4,19 @@ use Rattle.std.specs.Result.{IsErrAnd}
 use Rattle.std.proofs.lemmas.List.{length-replicate}
 use Rattle.flush_journal.specs.Records.{Held}
 use Rattle.chunk_owner.specs.Lanes.{Lane}
-use Rattle.lane_installs.specs.Records.{IsLeast}
-use Rattle.lane_installs.specs.declared.faults.InstallFault.{InstallFault as LaneFault}
-use Rattle.lane_installs.specs.declared.faults.InstallFault.TheVariants as of_lanes
-use Rattle.lane_installs.specs.Records.{MatchFault as MatchLaneFault}
-use Rattle.lane_owners.specs.Joined.{AreLanes, whole}
-use Rattle.lane_owners.specs.Records.{AreFaultless, AreGivenUpTo, DescribesObjects, IsFirstFault}
-use Rattle.register_installs.specs.Registers.{IsNextNumber, IsRegisterFault, IsRun}
+use Rattle.containers.specs.TextMaps.Fronts.{IsLeast}
+use Rattle.object_records.specs.declared.install_fault.InstallFault.{InstallFault as LaneFault}
+use Rattle.object_records.specs.declared.install_fault.InstallFault.TheVariants as of_lanes
+use Rattle.object_records.specs.InstallFaults.{MatchFault as MatchLaneFault}
+use Rattle.chunk_owner.specs.Owners.Joined.{AreLanes, whole}
+use Rattle.chunk_owner.specs.Owners.Records.{AreFaultless, AreGivenUpTo, DescribesObjects, IsFirstFault}
+use Rattle.register.specs.Installed.Registers.{IsNextNumber, IsRegisterFault, IsRun}
 use Rattle.register.proofs.Installing.{faultless}
 use Rattle.register.specs.Decided.{Door}
 use Rattle.register.specs.Kept.{IsInstalled, MatchFault, MatchUsed, of_records}
 use Rattle.register.specs.declared.installs.InstallFault.{InstallFault}
 use Rattle.register.specs.declared.installs.InstallFault.TheVariants.{BadRecord, RunsUsed, NoMemory}
-use Rattle.stray_records.specs.Strays.{HasNoStrays, IsStray}
+use Rattle.service_core.specs.Strays.Strays.{HasNoStrays, IsStray}
 use Rattle.service_core.specs.Records.{IsWorldFault, IsWorldOf, Names, of_lane, of_none, of_register}
 use Rattle.service_core.specs.Worlds.{IsBuilt}
 

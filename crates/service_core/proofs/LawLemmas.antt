@@ -45,7 +45,7 @@ use Rattle.service_core.specs.Steps.{IsAnswered, World, by_verdict, run_on, serv
 use Rattle.service_core.proofs.ForgetLemmas.{get-without}
 use Rattle.service_core.proofs.TurnLemmas.{run_by_steps, run_steps}
 use Rattle.service_core.proofs.DecideLemmas.{no_id}
-use Rattle.lane_owners.proofs.WholeLemmas.{get-set_at}
+use Rattle.chunk_owner.proofs.OfOwners.WholeLemmas.{get-set_at}
 
 -- ---- places
 

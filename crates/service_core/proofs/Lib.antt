@@ -12,3 +12,7 @@ pub mod RecordLemmas
 pub mod InstallLemmas
 pub mod LaterLemmas
 pub mod CutRecords
+pub mod AnswerTrees
+pub mod OfDescribed
+pub mod OfJournals
+pub mod OfStrays

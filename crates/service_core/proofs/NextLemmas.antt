@@ -2,15 +2,15 @@
 use Rattle.std.proofs.Common.{◌≡◌, Bool, true, false, cond, List, [], ◌∷◌, ◌++◌, IsSome, is_some, Option, Some, None, Ordering, Less, Equal, Greater, refl, ap, ◌∙◌}
 use Rattle.std.specs.Ordering.{is_lt, ordering_reverse}
 use Rattle.std.specs.FinMap.{get, get-empty}
-use Rattle.text_maps.specs.Nexts.{IsNext}
+use Rattle.containers.specs.TextMaps.Nexts.{IsNext}
 use Rattle.object_ids.specs.IdValues.{Id}
 use Rattle.object_ids.specs.IdOrder.{id_order}
 use Rattle.object_ids.proofs.IdOrders.{id_order_once, id_order_total}
 use Rattle.object_acts.specs.declared.objects.Object.{Object}
 use Rattle.chunk_owner.specs.Lanes.{Lane, Objects}
-use Rattle.lane_owners.specs.Joined.{whole}
+use Rattle.chunk_owner.specs.Owners.Joined.{whole}
 use Rattle.service_core.specs.Worlds.{lesser}
-use Rattle.lane_owners.proofs.WholeLemmas.{get-push, or_else}
+use Rattle.chunk_owner.proofs.OfOwners.WholeLemmas.{get-push, or_else}
 
 module _ (m one other : Objects) (is : (q : Id) → get m q ≡ or_else (get one q) (get other q)) (after : Option Id) where
   none_in : (q : Id) → get one q ≡ None → get other q ≡ None → get m q ≡ None

@@ -4,29 +4,29 @@ use Rattle.std.specs.FinMap.{empty, get, get-empty}
 use Rattle.std.specs.List.{AllByRecursion}
 use Rattle.std.proofs.lemmas.List.{append_cancel_left}
 use Rattle.flush_journal.specs.Records.{Held, Record, put_all}
-use Rattle.text_maps.specs.Keyed.{text_order}
+use Rattle.containers.specs.TextMaps.Keyed.{text_order}
 use Rattle.flush_journal.specs.Records.{kept_body}
 use Rattle.flush_journal.proofs.PutLemmas.{put_last, put_others}
 use Rattle.object_ids.specs.IdValues.{Id}
 use Rattle.object_ids.specs.Ids.{InRange}
-use Rattle.record_cuts.specs.Cuts.{AppendsEach, AppendsOnce, AreApart, IsCut}
-use Rattle.record_cuts.proofs.CutLemmas.{all_more, appends_as, appends_more, appends_once, in_turn}
-use Rattle.record_keys.specs.Keys.{IsChunk, chunk_key, next_key, node_key, object_key, run_key}
-use Rattle.record_keys.specs.Keys.{the_run, chunk, object, next_number}
-use Rattle.record_keys.specs.Numbers.{run_bytes}
-use Rattle.object_slots.specs.Bodies.{IsObjectRecord}
-use Rattle.object_slots.specs.Slots.{IsMarked, Slots}
-use Rattle.object_slots.proofs.KeyFacts.{index_numbers}
-use Rattle.object_slots.proofs.LaneCuts.{IsKeyApart, said_apart}
+use Rattle.flush_journal.specs.Cuts.Cuts.{AppendsEach, AppendsOnce, AreApart, IsCut}
+use Rattle.flush_journal.proofs.OfCuts.CutLemmas.{all_more, appends_as, appends_more, appends_once, in_turn}
+use Rattle.object_records.specs.Keys.Keys.{IsChunk, chunk_key, next_key, node_key, object_key, run_key}
+use Rattle.object_records.specs.Keys.Keys.{the_run, chunk, object, next_number}
+use Rattle.object_records.specs.Keys.Numbers.{run_bytes}
+use Rattle.chunk_owner.specs.Slots.Bodies.{IsObjectRecord}
+use Rattle.chunk_owner.specs.Slots.Slots.{IsMarked, Slots}
+use Rattle.chunk_owner.proofs.OfSlots.KeyFacts.{index_numbers}
+use Rattle.chunk_owner.proofs.OfSlots.LaneCuts.{IsKeyApart, said_apart}
 use Rattle.chunk_owner.specs.Lanes.{IsWhole, Lane}
-use Rattle.lane_owners.specs.Joined.{whole}
-use Rattle.lane_owners.specs.Records.{AreStillIn, AreUndropped, DescribesObjects, IsMarkedIn, IsStandingIn, IsStandingRecord, LaneSays, LanesSay, LanesStillSay}
-use Rattle.register_installs.specs.Registers.{DescribesRegister, is_node_key}
+use Rattle.chunk_owner.specs.Owners.Joined.{whole}
+use Rattle.chunk_owner.specs.Owners.Records.{AreStillIn, AreUndropped, DescribesObjects, IsMarkedIn, IsStandingIn, IsStandingRecord, LaneSays, LanesSay, LanesStillSay}
+use Rattle.register.specs.Installed.Registers.{DescribesRegister, is_node_key}
 use Rattle.register.specs.Decided.{Door}
 use Rattle.register.specs.Kept.{IsHeldNode, IsRegisterMarked, IsRegisterRecord, RegisterSays, a_node, all_kept, of_next, of_node, of_none, of_run, run_kept, the_next}
 use Rattle.register.specs.Kept.{the_run as marks_run}
 use Rattle.register.specs.Marks.{no_marks}
-use Rattle.stray_records.specs.Strays.{HasNoStrays, IsStrayKey}
+use Rattle.service_core.specs.Strays.Strays.{HasNoStrays, IsStrayKey}
 use Rattle.service_core.specs.Records.{DescribesWorld, as_kept, IsCutRecord, IsKept, IsWorldMarked, IsWorldRecord, of_object, of_register, WorldSays, WorldStillSays, run_record}
 use Rattle.service_core.specs.Worlds.{IsBuilt, IsNew, State, seen}
 

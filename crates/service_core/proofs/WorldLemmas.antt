@@ -15,12 +15,12 @@ use Rattle.register.specs.declared.verdicts.Verdict.TheVariants as verdict
 use Rattle.service_core.specs.declared.answers.Answer.{Answer}
 use Rattle.service_core.specs.declared.answers.What.{What}
 use Rattle.service_core.specs.declared.answers.What.TheVariants.{Replied, Denied, NoMemory}
-use Rattle.lane_owners.specs.Joined.{AreLanes, whole}
+use Rattle.chunk_owner.specs.Owners.Joined.{AreLanes, whole}
 use Rattle.service_core.specs.Steps.{AreGiven, IsAnswered, IsGiven, Obeys, Steps, StopsAt, World, by_verdict, step}
 use Rattle.service_core.specs.Turns.{IsServable}
 use Rattle.service_core.specs.Worlds.{IsBuilt, IsNew}
 use Rattle.service_core.proofs.GivenLemmas.{obeys_given}
-use Rattle.lane_owners.proofs.WholeLemmas.{at_home}
+use Rattle.chunk_owner.proofs.OfOwners.WholeLemmas.{at_home}
 use Rattle.service_core.proofs.DecideLemmas.{decides_is, given_later}
 
 module _ (d new : Door) (m left : Objects) (caller : Caller) (request : Request) where

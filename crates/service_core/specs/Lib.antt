@@ -4,4 +4,9 @@ pub mod Worlds
 pub mod Records
 pub mod Replays
 pub mod Keeps
+pub mod KeptWorlds
 pub mod Laws
+pub mod AnswerTrees
+pub mod Described
+pub mod Journals
+pub mod Strays

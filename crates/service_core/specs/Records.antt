@@ -13,17 +13,17 @@ use Rattle.std.specs.Prelude.{◌≡◌, ℕ, ◌⊎◌, List, Result, Err}
 use Rattle.flush_journal.specs.Records.{Held, Record}
 use Rattle.flush_journal.specs.declared.why.Why.{Why}
 use Rattle.flush_journal.specs.declared.why.Why.TheVariants as why
-use Rattle.record_keys.specs.Keys.{run_key}
-use Rattle.record_keys.specs.Numbers.{run_bytes}
-use Rattle.lane_installs.specs.Records.{IsLeast}
-use Rattle.object_slots.specs.Bodies.{IsObjectRecord}
-use Rattle.lane_owners.specs.Records.{AreFaultless, AreGivenUpTo, AreStillIn, AreUndropped, DescribesObjects, IsFirstFault, IsMarkedIn, IsStandingRecord, LanesSay}
-use Rattle.register_installs.specs.Registers.{DescribesRegister, IsNextNumber, IsRegisterFault, IsRun}
+use Rattle.object_records.specs.Keys.Keys.{run_key}
+use Rattle.object_records.specs.Keys.Numbers.{run_bytes}
+use Rattle.containers.specs.TextMaps.Fronts.{IsLeast}
+use Rattle.chunk_owner.specs.Slots.Bodies.{IsObjectRecord}
+use Rattle.chunk_owner.specs.Owners.Records.{AreFaultless, AreGivenUpTo, AreStillIn, AreUndropped, DescribesObjects, IsFirstFault, IsMarkedIn, IsStandingRecord, LanesSay}
+use Rattle.register.specs.Installed.Registers.{DescribesRegister, IsNextNumber, IsRegisterFault, IsRun}
 use Rattle.register.specs.Decided.{Door}
 use Rattle.register.specs.declared.installs.InstallFault.{InstallFault}
 use Rattle.register.specs.declared.installs.InstallFault.TheVariants.{BadRecord, RunsUsed, NoMemory}
 use Rattle.register.specs.Kept.{IsInstalled, IsRegisterMarked, IsRegisterRecord, RegisterSays, all_kept}
-use Rattle.stray_records.specs.Strays.{HasNoStrays, IsStray}
+use Rattle.service_core.specs.Strays.Strays.{HasNoStrays, IsStray}
 use Rattle.service_core.specs.Steps.{World}
 use Rattle.service_core.specs.Worlds.{State, seen}
 

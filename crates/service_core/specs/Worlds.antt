@@ -8,8 +8,8 @@ use Rattle.object_ids.specs.declared.ids.Kind.{Kind}
 use Rattle.object_acts.specs.declared.objects.Object.{Object}
 use Rattle.chunk_owner.specs.Lanes.{Lane}
 use Rattle.register.specs.Decided.{Door}
-use Rattle.lane_owners.specs.Joined.{AreLanes, whole}
-use Rattle.lane_owners.specs.Records.{AreUndropped, LanesSay}
+use Rattle.chunk_owner.specs.Owners.Joined.{AreLanes, whole}
+use Rattle.chunk_owner.specs.Owners.Records.{AreUndropped, LanesSay}
 use Rattle.service_core.specs.Steps.{AreGiven, IsGiven, World}
 
 -- the register, and the owners of all lanes with what the next cut writes of their objects

@@ -2,7 +2,7 @@
 
 use crate::world::World;
 use flush_journal::Batch;
-use journal_keeping::Kept;
+use flush_journal::keepings::Kept;
 use std::alloc::AllocError;
 
 impl Kept for World {

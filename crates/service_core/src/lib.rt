@@ -1,16 +1,17 @@
 //! The world: its catalogue and its objects, what each request answers and changes of it, and what a journal keeps of it.
+//!
+//! [`journals`] opens and makes journals, [`described`] and [`answer_trees`] are laws, [`strays`] finds records of
+//! no world.
 #![tactic(auto)]
 
+pub mod answer_trees;
 mod answers;
+pub mod described;
 mod faults;
+pub mod journals;
 mod kept;
-#[cfg(test)]
-mod kept_world_tests;
 mod laws;
-#[cfg(test)]
-mod record_tests;
-#[cfg(test)]
-mod tests;
+pub mod strays;
 mod turns;
 mod world;
 

@@ -6,8 +6,8 @@ ghost use Rattle.object_ops.specs.Answers.{Follows};
 ghost use Rattle.object_ops.specs.Conditions.{IsSoundOp};
 ghost use Rattle.chunk_owner.specs.Acts.{acted, is_done};
 ghost use Rattle.register.specs.Tickets.{AreEach};
-ghost use Rattle.lane_owners.specs.Joined.{AreLanes, whole};
-ghost use Rattle.lane_owners.specs.Records.{LanesStillSay};
+ghost use Rattle.chunk_owner.specs.Owners.Joined.{AreLanes, whole};
+ghost use Rattle.chunk_owner.specs.Owners.Records.{LanesStillSay};
 ghost use Rattle.service_core.specs.Steps.{Runs, Serves, Takes, without_domain};
 ghost use Rattle.service_core.specs.Turns.{AreReady, AreServable, IsReadyAt};
 

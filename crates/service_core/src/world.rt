@@ -13,14 +13,14 @@ ghost use Rattle.flush_journal.specs.Records.{Held, put_record};
 ghost use Rattle.flush_journal.specs.Standing.{IsSettled, disk_of, pending_of};
 ghost use Rattle.flush_journal.specs.Tries.{Tries, Writes};
 ghost use Rattle.flush_journal.specs.Unchanged.{SameDisk};
-ghost use Rattle.record_cuts.specs.Cuts.{AppendsOnce, IsCut};
-ghost use Rattle.text_maps.specs.Nexts.{IsKeyStep, IsNext};
+ghost use Rattle.flush_journal.specs.Cuts.Cuts.{AppendsOnce, IsCut};
+ghost use Rattle.containers.specs.TextMaps.Nexts.{IsKeyStep, IsNext};
 ghost use Rattle.domains.specs.Contents.{IsCatalogue};
 ghost use Rattle.object_ops.specs.Conditions.{IsSoundOp};
 ghost use Rattle.register.specs.Kept.{IsUsedUp, MatchFault, MatchUsed, RegisterSays, TellsUsed, run_kept};
 ghost use Rattle.register.specs.Decided.{HasRoom, IsDoor, domain_added, domain_refused, fresh_given, serial_limit};
-ghost use Rattle.lane_owners.specs.Joined.{AreLanes, whole};
-ghost use Rattle.lane_owners.specs.Records.{AreStillIn, AreUndropped, LanesStillSay};
+ghost use Rattle.chunk_owner.specs.Owners.Joined.{AreLanes, whole};
+ghost use Rattle.chunk_owner.specs.Owners.Records.{AreStillIn, AreUndropped, LanesStillSay};
 ghost use Rattle.service_core.specs.Records.{DescribesWorld, IsCutRecord, IsKept, IsSameWorld};
 ghost use Rattle.service_core.specs.Records.{IsWorldFault, IsWorldMarked};
 ghost use Rattle.service_core.specs.Records.{IsWorldOf, OrNoMemory, WorldSays, WorldStillSays, run_record};
@@ -30,22 +30,22 @@ ghost use Rattle.service_core.specs.Worlds.{IsFreshId, IsNew, lesser, seen, with
 
 use crate::answers::{Answer, What};
 use crate::faults::bad_record;
+use crate::strays::first_stray;
 use crate::turns::serve;
 use access_lists::Caller;
 use chunk_owner::Owner;
+use chunk_owner::owners::{are_described, are_whole as lanes_are_whole, cut_lanes, install_lanes};
 use domains::{CatFault, Catalogue, Node};
 use edge_traits::Disk;
 use flush_journal::{Batch, Journal, Recovered, Why};
-use lane_owners::{are_described, are_whole as lanes_are_whole, cut_lanes, install_lanes};
 use object_acts::Object;
 use object_ids::{DomainPath, Kind, Name, ObjectId, lane};
 use object_ops::{Op, Reply, Request};
-use record_keys::{run_body, run_key};
+use object_records::keys::{run_body, run_key};
 use register::{InstallFault, Register, Verdict};
 use std::alloc::{AllocError, Global};
 use std::cmp::Ordering;
 use std::marker::Model;
-use stray_records::first_stray;
 
 /// The catalogue with what was given out, and the objects of all lanes.
 #[derive(Drop)]

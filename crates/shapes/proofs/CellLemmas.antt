@@ -8,7 +8,7 @@ use Rattle.std.specs.Cmp.Lexicographic.{slice_cmp}
 use Rattle.std.proofs.lemmas.List.{get_or_default}
 use Rattle.std.proofs.lemmas.Nat.{mul-le, div-add-mod', div_below, mod_below}
 use Rattle.json_trees.proofs.TreeLemmas.{length-AllZip}
-use Rattle.short_lists.specs.Order.{list_order}
+use Rattle.containers.specs.ShortLists.Order.{list_order}
 use Rattle.shapes.specs.declared.Shape.{Shape}
 use Rattle.shapes.specs.declared.Shape.TheVariants.{Null, Scalar, Simple}
 use Rattle.shapes.specs.Places.{cell_count, IsInside, place, coords_of, digits_by}

@@ -6,3 +6,4 @@ pub mod ShapeLemmas
 pub mod InsideLemmas
 pub mod CellLemmas
 pub mod CapLemmas
+pub mod ChunkDimLemmas

@@ -2,17 +2,19 @@
 
 ghost use Rattle.std.specs.Prelude.{◌≡◌, ◌≤◌, ◌<◌, ◌-◌, ◌^◌, ◌↔◌, ℕ, List, All, length, true};
 ghost use Rattle.std.specs.Ordering.{nat_cmp};
-ghost use Rattle.short_lists.specs.Order.{list_order};
+ghost use Rattle.containers.specs.ShortLists.Order.{list_order};
 ghost use Rattle.shapes.specs.Places.{IsInside, is_inside, cell_count, coords_of, digits_by, place};
 ghost use Rattle.shapes.specs.Shapes.{IsSound, LiesIn, lies_in, cells_of, cell_of, count_of, dims_of};
 ghost use Rattle.shapes.specs.declared.Shape.{Shape};
 ghost use Rattle.shapes.specs.declared.TheConstants.{MAX_RANK, MAX_EXTENT, MAX_CELLS};
+ghost use Rattle.shapes.specs.declared.TheConstants.{MAX_CHUNK_BYTES};
 
-/// The limits of shapes: 32 axes, extents below 2^31, and 2^48 cells.
+/// The limits of shapes: 32 axes, extents below 2^31, and 2^48 cells; and the bytes of a chunk.
 pub fn limits_of_shapes()
     ensures rank { MAX_RANK ≡ 32 }
     ensures extent { MAX_EXTENT ≡ 2 ^ 31 - 1 }
     ensures cells { MAX_CELLS ≡ 2 ^ 48 }
+    ensures chunk { MAX_CHUNK_BYTES ≡ 2 ^ 20 }
 {}
 
 /// The cells of a shape are the coordinates inside it, each listed once, and as many as the shape

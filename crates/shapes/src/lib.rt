@@ -4,15 +4,13 @@
 //! The forms are those of the HDF5/JSON specification and the HDF REST API, "Shape".
 #![tactic(auto)]
 
-use short_lists::ShortList;
+use containers::short_lists::ShortList;
 
 mod cells;
 mod laws;
 mod places;
 mod printing;
 mod reading;
-#[cfg(test)]
-mod tests;
 
 pub use laws::{cells_are_inside, limits_of_shapes, places_number_the_cells};
 pub use places::{coords_at, count, place_of};
@@ -27,6 +25,9 @@ pub const MAX_EXTENT: u64 = 2_147_483_647;
 
 /// The most cells of a shape, with a dim of 0 counted as 1: 2^48.
 pub const MAX_CELLS: u64 = 281_474_976_710_656;
+
+/// The most bytes of a chunk that a caller asks for, where it has more than one element: 2^20.
+pub const MAX_CHUNK_BYTES: u64 = 1_048_576;
 
 /// A number for each axis: dims, limits or coordinates, the slowest axis first.
 pub type Dims = ShortList<MAX_RANK>;

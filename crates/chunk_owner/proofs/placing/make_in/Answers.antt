@@ -2,13 +2,13 @@ use Rattle.std.proofs.Common.{◌≡◌, true, sym, ap, subst, ◌∙◌}
 use Rattle.std.specs.FinMap.{insert}
 use Rattle.object_ids.specs.declared.ids.Kind.{Kind}
 use Rattle.object_ops.specs.declared.replies.Reply.TheVariants.{Done}
-use Rattle.array_acts.specs.Marked.{was_done}
+use Rattle.object_acts.specs.Arrays.Marked.{was_done}
 use Rattle.object_acts.specs.Objects.{made, unmarked, IsOfKind}
-use Rattle.record_keys.specs.Keys.{object_key}
-use Rattle.object_slots.specs.declared.slot.Mark.TheVariants.{Changed}
-use Rattle.object_slots.specs.Slots.{IsMarkedIn, objects_of}
-use Rattle.object_slots.proofs.Marks.{adds_more}
-use Rattle.object_slots.proofs.Standing.{get-objects_of, objects-insert}
+use Rattle.object_records.specs.Keys.Keys.{object_key}
+use Rattle.chunk_owner.specs.declared.slots.slot.Mark.TheVariants.{Changed}
+use Rattle.chunk_owner.specs.Slots.Slots.{IsMarkedIn, objects_of}
+use Rattle.chunk_owner.proofs.OfSlots.Marks.{adds_more}
+use Rattle.chunk_owner.proofs.OfSlots.Standing.{get-objects_of, objects-insert}
 use Rattle.chunk_owner.proofs.AtIds.{object_tree-unmarked}
 use Rattle.chunk_owner.proofs.LaneLemmas.{home_others}
 use Rattle.chunk_owner.proofs.MarkLemmas.{new_mark}

@@ -1,7 +1,7 @@
 use Rattle.std.proofs.Common.{refl, sym, ◌∙◌}
 use Rattle.object_acts.specs.Objects.{unmarked}
-use Rattle.object_slots.specs.Slots.{objects_of}
-use Rattle.object_slots.proofs.Standing.{get-objects_of, objects-insert}
+use Rattle.chunk_owner.specs.Slots.Slots.{objects_of}
+use Rattle.chunk_owner.proofs.OfSlots.Standing.{get-objects_of, objects-insert}
 use Rattle.chunk_owner.proofs.AtIds.{puts_done, puts_refused}
 use Rattle.chunk_owner.proofs.LaneLemmas.{home_others}
 use Rattle.chunk_owner.proofs.placing.put_done.Goals as goal

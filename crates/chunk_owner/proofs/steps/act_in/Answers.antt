@@ -1,7 +1,7 @@
 use Rattle.std.proofs.Common.{⊎_elim, ap}
 use Rattle.object_acts.specs.Acts.{changes_object, reads_object}
 use Rattle.object_ops.specs.Parts.{id_of}
-use Rattle.object_slots.specs.Slots.{objects_of}
+use Rattle.chunk_owner.specs.Slots.Slots.{objects_of}
 use Rattle.chunk_owner.specs.Acts.{touched}
 use Rattle.chunk_owner.proofs.KeptLemmas.{acted_reading, touched_named}
 use Rattle.chunk_owner.proofs.LaneLemmas.{home_at}

@@ -1,7 +1,7 @@
 use Rattle.std.proofs.Common.{[], sym, ap, subst, ◌∙◌}
 use Rattle.object_acts.specs.Acts.{change_of}
 use Rattle.object_acts.specs.Objects.{unmarked, IsOfKind, IsTrackedBody}
-use Rattle.object_slots.specs.Slots.{objects_of}
+use Rattle.chunk_owner.specs.Slots.Slots.{objects_of}
 use Rattle.chunk_owner.proofs.AtIds.{changes_absent, changes_root, root_kind}
 use Rattle.chunk_owner.proofs.touching.change_absent.Goals as goal
 

@@ -1,7 +1,7 @@
 use Rattle.std.proofs.Common.{is_some, sym, ap, ◌∙◌}
 use Rattle.object_acts.specs.Acts.{change_of}
-use Rattle.object_slots.specs.Slots.{objects_of}
-use Rattle.object_slots.proofs.Standing.{get-objects_of}
+use Rattle.chunk_owner.specs.Slots.Slots.{objects_of}
+use Rattle.chunk_owner.proofs.OfSlots.Standing.{get-objects_of}
 use Rattle.chunk_owner.proofs.AtIds.{changes_held, changes_foreign}
 use Rattle.chunk_owner.proofs.LaneLemmas.{home_same_ids, not_held}
 use Rattle.chunk_owner.proofs.touching.change_in.Goals as goal

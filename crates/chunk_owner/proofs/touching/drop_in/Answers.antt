@@ -1,6 +1,6 @@
 use Rattle.std.proofs.Common.{is_some, sym, ap, ◌∙◌}
-use Rattle.object_slots.specs.Slots.{objects_of}
-use Rattle.object_slots.proofs.Standing.{get-objects_of, objects-remove}
+use Rattle.chunk_owner.specs.Slots.Slots.{objects_of}
+use Rattle.chunk_owner.proofs.OfSlots.Standing.{get-objects_of, objects-remove}
 use Rattle.chunk_owner.proofs.AtIds.{drops_absent, drops_foreign, drops_held, drops_root}
 use Rattle.chunk_owner.proofs.LaneLemmas.{home_same_ids, not_held}
 use Rattle.chunk_owner.proofs.touching.drop_in.Goals as goal

@@ -1,6 +1,6 @@
 use Rattle.std.proofs.Common.{[], sym, ap, subst, ◌∙◌}
 use Rattle.object_acts.specs.Objects.{unmarked, IsTrackedBody}
-use Rattle.object_slots.specs.Slots.{objects_of}
+use Rattle.chunk_owner.specs.Slots.Slots.{objects_of}
 use Rattle.chunk_owner.specs.Acts.{link_to}
 use Rattle.chunk_owner.proofs.AtIds.{changes_absent, changes_root}
 use Rattle.chunk_owner.proofs.touching.link_absent.Goals as goal

@@ -1,7 +1,7 @@
 use Rattle.std.proofs.Common.{sym, ◌∙◌}
 use Rattle.object_acts.specs.Acts.{reply_of}
-use Rattle.object_slots.specs.Slots.{objects_of}
-use Rattle.object_slots.proofs.Standing.{get-objects_of}
+use Rattle.chunk_owner.specs.Slots.Slots.{objects_of}
+use Rattle.chunk_owner.proofs.OfSlots.Standing.{get-objects_of}
 use Rattle.chunk_owner.proofs.AtIds.{reads_own, reads_foreign}
 use Rattle.chunk_owner.proofs.touching.read_in.Goals as goal
 

@@ -1,6 +1,6 @@
 use Rattle.std.proofs.Common.{ap, sym, ◌∙◌, arith, ◌-◌, get_or, []}
 use Rattle.chunk_layout.specs.Chunks.{chunk_cells}
-use Rattle.chunk_layout.proofs.CellLemmas.{one_cell}
+use Rattle.shapes.proofs.ChunkDimLemmas.{one_cell}
 use Rattle.chunk_store.proofs.ChunkLemmas.{last_lies}
 use Rattle.chunk_store.proofs.chunks.is_within.Goals as goal
 

@@ -28,4 +28,4 @@ returns c =
     let n = c.get_mut.follows.lender new in
     chunk_written _ _ _ _ (box (goal.at.returns c).After-first_cell-origin) m n c.in-Some.held.now new (found_in m i (Some c.in-Some.held.now) c.in-Some.ensures.value)
     (find-updated m n i (Some new) ((c.get_mut.follows.holds new).3 (ap is_some (find-get m i) ∙ c.requires.there)))
-    c.args.bytes.now c.requires.full c.write_held.ensures.len c.write_held.ensures.changed c.write_held.ensures.written
+    c.args.bytes.now c.requires.full c.write_held.ensures.len c.write_held.ensures.dirty c.write_held.ensures.written

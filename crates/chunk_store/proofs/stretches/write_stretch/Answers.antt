@@ -18,4 +18,4 @@ returns c = λ ats on.
     let w = c.overwrite.new.held in
     let n = c.get_mut.follows.lender w in
     let is = find-updated m n index (Some w) ((c.get_mut.follows.holds w).3 (ap is_some (find-get m index) ∙ c.requires.there)) in
-    stretch_written m n c.args.frame.now c.args.stretch.now ats c.args.bytes.now c.in-Some.held.now w c.requires.frame on (found_in m index _ c.in-Some.ensures.value) is c.overwrite.ensures.put c.overwrite.ensures.kept c.requires.full c.overwrite.ensures.full c.overwrite.ensures.changed
+    stretch_written m n c.args.frame.now c.args.stretch.now ats c.args.bytes.now c.in-Some.held.now w c.requires.frame on (found_in m index _ c.in-Some.ensures.value) is c.overwrite.ensures.put c.overwrite.ensures.kept c.requires.full c.overwrite.ensures.full c.overwrite.ensures.dirty

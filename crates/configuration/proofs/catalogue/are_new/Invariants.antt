@@ -1,7 +1,7 @@
 use Rattle.std.proofs.Common.{◌≡◌, not, string_bytes}
 use Rattle.std.specs.List.{list_all}
 use Rattle.std.specs.FinMap.{contains_key}
-use Rattle.text_maps.specs.Keyed.{keyed}
+use Rattle.containers.specs.TextMaps.Keyed.{keyed}
 use Rattle.configuration.proofs.catalogue.are_new.Given as goal
 
 abbrev pub invariant-paths : goal.invariant-paths

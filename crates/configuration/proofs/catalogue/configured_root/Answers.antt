@@ -3,7 +3,7 @@ use Rattle.std.specs.FinMap.{FinMap, empty, len}
 use Rattle.object_ids.specs.Paths.{root_path}
 use Rattle.domains.specs.Contents.{Contents, with_node}
 use Rattle.domains.specs.declared.classes.Node.{Node}
-use Rattle.text_maps.specs.Keyed.{text_order}
+use Rattle.containers.specs.TextMaps.Keyed.{text_order}
 use Rattle.configuration.specs.Catalogues.{folder_node}
 use Rattle.configuration.proofs.SettingLemmas.{insert-insert, one_node}
 use Rattle.configuration.proofs.catalogue.configured_root.Goals as goal

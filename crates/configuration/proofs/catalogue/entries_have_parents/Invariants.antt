@@ -1,6 +1,6 @@
 use Rattle.std.proofs.Common.{◌≡◌, string_bytes}
 use Rattle.std.specs.List.{list_all}
-use Rattle.text_maps.specs.Keyed.{keyed}
+use Rattle.containers.specs.TextMaps.Keyed.{keyed}
 use Rattle.configuration.specs.Catalogues.{has_parent}
 use Rattle.configuration.proofs.catalogue.entries_have_parents.Given as goal
 

@@ -2,7 +2,7 @@ use Rattle.std.proofs.Common.{◌∙◌, ap, sym, string_bytes}
 use Rattle.std.specs.List.{list_all}
 use Rattle.std.specs.FinMap.{entries}
 use Rattle.configuration.specs.Catalogues.{has_parent}
-use Rattle.text_maps.proofs.KeyedMaps.{entries-keyed}
+use Rattle.containers.proofs.TextMaps.KeyedMaps.{entries-keyed}
 use Rattle.configuration.proofs.catalogue.have_parents.Goals as goal
 
 pub returns : goal.returns

@@ -4,7 +4,7 @@ use Rattle.std.specs.FinMap.{FinMap, entries, get, remove}
 use Rattle.std.proofs.lemmas.Bool.{cond-true}
 use Rattle.object_ids.specs.Paths.{root_path}
 use Rattle.domains.specs.Contents.{Contents, only_root}
-use Rattle.text_maps.specs.Keyed.{keyed, text_order}
+use Rattle.containers.specs.TextMaps.Keyed.{keyed, text_order}
 use Rattle.configuration.specs.Catalogues.{ArePaths, CanBePut, default_setting, domain_nodes, folder_node, folder_nodes, catalogue_from, is_tree, with_nodes}
 use Rattle.configuration.specs.declared.setting.Setting.{Setting}
 use Rattle.configuration.proofs.SettingLemmas.{next-folders}

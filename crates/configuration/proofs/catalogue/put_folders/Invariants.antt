@@ -1,5 +1,5 @@
 use Rattle.std.proofs.Common.{◌≡◌, string_bytes}
-use Rattle.text_maps.specs.Keyed.{keyed}
+use Rattle.containers.specs.TextMaps.Keyed.{keyed}
 use Rattle.configuration.specs.Catalogues.{ArePaths, CanBePut, folder_nodes, with_nodes}
 use Rattle.configuration.proofs.catalogue.put_folders.Given as goal
 

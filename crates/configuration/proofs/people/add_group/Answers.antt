@@ -3,7 +3,7 @@ use Rattle.std.specs.FinMap.{FinMap, contains_key, get-empty}
 use Rattle.std.specs.List.{list_any}
 use Rattle.std.proofs.lemmas.List.{append-nil}
 use Rattle.std.proofs.lemmas.List.Folds.{list_any_more}
-use Rattle.text_maps.specs.Keyed.{text_order}
+use Rattle.containers.specs.TextMaps.Keyed.{text_order}
 use Rattle.configuration.specs.People.{names_at}
 use Rattle.configuration.proofs.PeopleLemmas.{added_more}
 use Rattle.configuration.proofs.people.add_group.Goals as goal

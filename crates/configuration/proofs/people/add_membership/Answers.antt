@@ -1,7 +1,7 @@
 use Rattle.std.proofs.Common.{◌≡◌, ◌∙◌, ◌∷◌, [], ◌++◌, ap, List, ℕ}
 use Rattle.std.specs.FinMap.{FinMap, insert, remove}
 use Rattle.std.proofs.lemmas.Result.{on_ok_weaker}
-use Rattle.text_maps.specs.Keyed.{text_order}
+use Rattle.containers.specs.TextMaps.Keyed.{text_order}
 use Rattle.configuration.specs.People.{names_at}
 use Rattle.configuration.proofs.PeopleLemmas.{names_at-added}
 use Rattle.configuration.proofs.people.add_membership.Goals as goal

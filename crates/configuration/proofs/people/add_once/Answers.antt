@@ -1,7 +1,7 @@
 use Rattle.std.proofs.Common.{◌≡◌, ◌∙◌, ap, true, Bool}
 use Rattle.std.specs.FinMap.{FinMap, contains_key, insert}
 use Rattle.std.proofs.lemmas.Result.{on_ok_weaker}
-use Rattle.text_maps.specs.Keyed.{text_order}
+use Rattle.containers.specs.TextMaps.Keyed.{text_order}
 use Rattle.configuration.proofs.PeopleLemmas.{seen_more}
 use Rattle.configuration.proofs.people.add_once.Goals as goal
 

@@ -1,6 +1,6 @@
 use Rattle.std.proofs.Common.{◌≡◌, ◌∙◌, ap, option_map, List, rules}
 use Rattle.std.specs.FinMap.{FinMap}
-use Rattle.text_maps.specs.Keyed.{text_order}
+use Rattle.containers.specs.TextMaps.Keyed.{text_order}
 use Rattle.access_lists.specs.declared.people.Caller.{Caller}
 use Rattle.configuration.specs.People.{names_at, token_of}
 use Rattle.configuration.specs.Tables.{all_of, with_entries}

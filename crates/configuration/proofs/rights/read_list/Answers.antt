@@ -3,7 +3,7 @@ use Rattle.std.specs.FinMap.{FinMap, len, len-empty}
 use Rattle.std.specs.Map.Iter.{deref_pair}
 use Rattle.std.proofs.lemmas.Bool.{cond-true, cond-false, le-leb, lt-leb}
 use Rattle.std.proofs.lemmas.Map.Iter.{rest_more, rest_all}
-use Rattle.text_maps.specs.Keyed.{text_order}
+use Rattle.containers.specs.TextMaps.Keyed.{text_order}
 use Rattle.access_lists.specs.declared.rights.Rights.{Rights}
 use Rattle.toml.specs.View.{view}
 use Rattle.configuration.specs.Settings.{entry_of}

@@ -2,8 +2,8 @@ use Rattle.std.proofs.Common.{◌≡◌, ◌++◌, Some, map, length}
 use Rattle.std.specs.FinMap.{entries}
 use Rattle.serde_json.specs.View.{view}
 use Rattle.std.specs.Str.{IsUtf8}
-use Rattle.text_maps.specs.Keyed.{text_order}
-use Rattle.text_maps.specs.Nexts.{left}
+use Rattle.containers.specs.TextMaps.Keyed.{text_order}
+use Rattle.containers.specs.TextMaps.Nexts.{left}
 use Rattle.domains.specs.Children.{children_in}
 use Rattle.domains.specs.ChildSteps.{IsFrom}
 use Rattle.domains.specs.NodeTrees.{child_tree}

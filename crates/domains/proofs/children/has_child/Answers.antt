@@ -1,5 +1,5 @@
 use Rattle.std.proofs.Common.{◌∙◌}
-use Rattle.text_maps.proofs.Walks.{text_entry}
+use Rattle.containers.proofs.TextMaps.Walks.{text_entry}
 use Rattle.domains.proofs.ChildWalks.{any_child}
 use Rattle.domains.proofs.children.has_child.Goals as goal
 

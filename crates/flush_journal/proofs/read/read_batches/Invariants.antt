@@ -4,13 +4,13 @@ use Rattle.flush_journal.specs.Readers.{file_of, end_of_file, GoesOn}
 use Rattle.flush_journal.specs.Reading.{read_from}
 use Rattle.flush_journal.proofs.read.read_batches.Given as goal
 
-abbrev pub invariant-gates : goal.invariant-gates
-invariant-gates g l = record {
+abbrev pub invariant-markers : goal.invariant-markers
+invariant-markers g l = record {
   so_far : g.D.Disk.honest → content (file_of l.fn.reader) ≡ read_from (record { version = 1; lanes = l.lanes; batches = l.batches; end = l.at; held = l.recovered }) (drop l.at (file_of l.fn.reader));
   on : GoesOn l.fn.reader l.reader;
   inside : l.at ≤ end_of_file l.reader;
   counted : l.batches ≤ l.at;
 }
 
-abbrev pub decreases-gates : goal.decreases-gates
-decreases-gates g l = end_of_file l.reader - l.at
+abbrev pub decreases-markers : goal.decreases-markers
+decreases-markers g l = end_of_file l.reader - l.at

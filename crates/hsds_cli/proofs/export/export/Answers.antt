@@ -1,5 +1,5 @@
 use Rattle.std.proofs.Common.{◌≡◌, refl, sym, subst}
-use Rattle.kept_sessions.proofs.Beginning.{recovered}
+use Rattle.service_core.proofs.OfJournals.Beginning.{recovered}
 use Rattle.service_core.specs.Worlds.{seen}
 use Rattle.hsds_cli.specs.Exports.{IsExported}
 use Rattle.hsds_cli.specs.Sides.{Sides}

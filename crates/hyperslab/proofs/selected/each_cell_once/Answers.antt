@@ -1,5 +1,5 @@
 -- Cells by number.
-use Rattle.hyperslab.proofs.AdvanceLemmas.{first_cell}
+use Rattle.hyperslab.proofs.StartLemmas.{first_cell}
 use Rattle.hyperslab.proofs.CellLemmas.{cells_counted, cells_listed, cells_inside, cell_selected, cell_each, cell_placed, cell_once, cells_apart, cells_within}
 use Rattle.hyperslab.proofs.selected.each_cell_once.Goals as goal
 

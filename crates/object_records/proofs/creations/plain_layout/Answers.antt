@@ -3,8 +3,8 @@ use Rattle.hdf_types.specs.Reading.{size_of}
 use Rattle.hdf_types.specs.Views.{elem}
 use Rattle.shapes.specs.Shapes.{dims_of}
 use Rattle.chunk_layout.specs.Defaults.{IsDefault}
-use Rattle.default_chunks.specs.Halving.{default_chunk}
-use Rattle.default_chunks.proofs.HalvingLemmas.{default_is}
+use Rattle.chunk_layout.specs.DefaultChunks.Halving.{default_chunk}
+use Rattle.chunk_layout.proofs.DefaultChunks.HalvingLemmas.{default_is}
 use Rattle.object_records.proofs.creations.plain_layout.Goals as goal
 
 pub returns-clause-chunk : goal.returns-clause-chunk

@@ -1,6 +1,6 @@
 use Rattle.std.proofs.Common.{◌∙◌, Some, sym, ap}
 use Rattle.json_trees.specs.Shown.{shown}
-use Rattle.text_maps.specs.Keyed.{with_values}
+use Rattle.containers.specs.TextMaps.Keyed.{with_values}
 use Rattle.hdf_values.specs.Attributes.{content}
 use Rattle.object_records.specs.Lists.{attributes_in}
 use Rattle.object_records.proofs.ReadLemmas.{none_seen}

@@ -1,7 +1,7 @@
 use Rattle.std.proofs.Common.{◌∙◌, map, ap}
 use Rattle.std.specs.FinMap.{FinMap}
 use Rattle.serde_json.specs.View.{view}
-use Rattle.text_maps.specs.Keyed.{text_order, with_values}
+use Rattle.containers.specs.TextMaps.Keyed.{text_order, with_values}
 use Rattle.hdf_values.specs.Attributes.{Content, content}
 use Rattle.attributes.specs.AttributeMaps.{most_attributes}
 use Rattle.object_records.specs.Lists.{attribute_in, listed}

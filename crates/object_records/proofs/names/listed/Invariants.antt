@@ -1,7 +1,7 @@
 use Rattle.std.proofs.Common.{◌≡◌, map, drop}
 use Rattle.std.specs.FinMap as finite
 use Rattle.serde_json.specs.View.{view}
-use Rattle.text_maps.specs.Keyed.{with_values}
+use Rattle.containers.specs.TextMaps.Keyed.{with_values}
 use Rattle.hdf_values.specs.Attributes.{content}
 use Rattle.attributes.specs.AttributeMaps.{most_attributes}
 use Rattle.object_records.specs.Lists.{attribute_in, listed}

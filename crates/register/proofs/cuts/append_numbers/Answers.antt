@@ -1,6 +1,6 @@
 use Rattle.std.proofs.Common.{true, false, ap, ◌∙◌}
-use Rattle.record_keys.specs.Keys.{next_key, run_key}
-use Rattle.record_keys.specs.Numbers.{next_bytes, run_bytes}
+use Rattle.object_records.specs.Keys.Keys.{next_key, run_key}
+use Rattle.object_records.specs.Keys.Numbers.{next_bytes, run_bytes}
 use Rattle.register.specs.Cutting.{IsDueOne, IsRightOne}
 use Rattle.register.proofs.Keeping.{numbers_apart}
 use Rattle.object_ids.proofs.NamedMaps.{on_ok}

@@ -1,8 +1,8 @@
 use Rattle.std.proofs.Common.{length}
 use Rattle.std.specs.FinMap.{entries}
 use Rattle.std.specs.Option.{option_copied}
-use Rattle.text_maps.specs.Keyed.{text_order}
-use Rattle.text_maps.specs.Nexts.{left}
+use Rattle.containers.specs.TextMaps.Keyed.{text_order}
+use Rattle.containers.specs.TextMaps.Nexts.{left}
 use Rattle.flush_journal.specs.Batches.{records}
 use Rattle.register.proofs.PathWalks.{IsPathWalk}
 use Rattle.register.proofs.cuts.append_paths.Given as goal

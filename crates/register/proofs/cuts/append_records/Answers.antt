@@ -1,7 +1,7 @@
 use Rattle.std.proofs.Common.{true, false}
 use Rattle.flush_journal.specs.Batches.{records}
-use Rattle.record_keys.specs.Keys.{next_key, run_key}
-use Rattle.record_keys.specs.Numbers.{next_bytes, run_bytes}
+use Rattle.object_records.specs.Keys.Keys.{next_key, run_key}
+use Rattle.object_records.specs.Keys.Numbers.{next_bytes, run_bytes}
 use Rattle.register.specs.Cutting.{IsDueNode, IsDueOne, IsRightNode, IsRightOne, OfEither, is_of_all, is_of_paths}
 use Rattle.register.proofs.Keeping.{parts_apart}
 use Rattle.object_ids.proofs.NamedMaps.{on_ok}

@@ -1,6 +1,6 @@
 use Rattle.shapes.specs.Shapes.{dims_of}
-use Rattle.default_chunks.specs.Halving.{default_chunk}
-use Rattle.default_chunks.proofs.HalvingLemmas.{default_is}
+use Rattle.chunk_layout.specs.DefaultChunks.Halving.{default_chunk}
+use Rattle.chunk_layout.proofs.DefaultChunks.HalvingLemmas.{default_is}
 use Rattle.request_bodies.proofs.properties.open_layout.Goals as goal
 
 pub returns-clause-chunk : goal.returns-clause-chunk

@@ -3,7 +3,7 @@ use Rattle.serde_json.proofs.OnLiterals.{serde_json_on_literals}
 use Rattle.http_wire.specs.Replies.{fault_reply}
 use Rattle.http_wire.specs.declared.message_fault.MessageFault.{MessageFault}
 use Rattle.http_wire.specs.declared.message_fault.MessageFault.TheVariants.{BadHead, HeadTooLong, BadLength, BodyTooLong, TransferCoding}
-use Rattle.route_table.specs.Methods.{no_methods}
+use Rattle.rest_requests.specs.Routes.Methods.{no_methods}
 use Rattle.rest_session.specs.Responses.{refusal_of, refused}
 use Rattle.rest_session.proofs.laws.faults_are_refused.Goals as goal
 

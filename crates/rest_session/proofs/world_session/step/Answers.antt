@@ -1,5 +1,5 @@
 use Rattle.std.proofs.Common.{inl, ℕ, List, Bool, Ok, Err, refl, sym, subst, ◌∙◌}
-use Rattle.link_service.specs.Replies.{reply_bytes}
+use Rattle.rest_session.specs.Links.Replies.{reply_bytes}
 use Rattle.object_ops.specs.Needs.{decided_at}
 use Rattle.rest_session.specs.Responses.{IsResponse}
 use Rattle.rest_session.specs.Sessions.{IsFinished}

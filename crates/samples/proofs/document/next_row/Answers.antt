@@ -1,6 +1,6 @@
 use Rattle.std.proofs.Common.{◌≡◌, ◌+◌, ◌∙◌, ℕ, ap, arith}
 use Rattle.serde_json.proofs.Views.{view-Array}
-use Rattle.sample_values.specs.Samples.{element, state}
+use Rattle.samples.specs.Values.Samples.{element, state}
 use Rattle.samples.specs.Trees.{run_tree, whole}
 use Rattle.samples.proofs.TreeLemmas.{made_more, made_none, run_made}
 use Rattle.samples.proofs.document.next_row.Goals as goal

@@ -1,5 +1,5 @@
 use Rattle.std.proofs.Common.{◌≡◌, ℕ}
-use Rattle.sample_values.specs.Samples.{state}
+use Rattle.samples.specs.Values.Samples.{state}
 use Rattle.samples.proofs.TreeLemmas.{AreNext}
 use Rattle.samples.proofs.document.next_row.Given as goal
 

@@ -1,6 +1,6 @@
 use Rattle.std.proofs.Common.{◌≡◌, ◌+◌, ◌*◌, ◌∙◌, ℕ, ap, arith}
 use Rattle.serde_json.proofs.Views.{view-Array}
-use Rattle.sample_values.specs.Samples.{state}
+use Rattle.samples.specs.Values.Samples.{state}
 use Rattle.samples.specs.Trees.{run_tree, value_tree}
 use Rattle.samples.proofs.TreeLemmas.{made_more, rows_made}
 use Rattle.samples.proofs.document.value_tree.Goals as goal

@@ -1,7 +1,7 @@
 use Rattle.std.proofs.Common.{get_or, sym, ap}
 use Rattle.chunk_owner.specs.Acts.{act, touched}
-use Rattle.lane_owners.proofs.WholeLemmas.{follows_whole, fresh_here, lane_after, touched_own}
-use Rattle.lane_owners.proofs.SaidLemmas.{said_set}
+use Rattle.chunk_owner.proofs.OfOwners.WholeLemmas.{follows_whole, fresh_here, lane_after, touched_own}
+use Rattle.chunk_owner.proofs.OfOwners.SaidLemmas.{said_set}
 use Rattle.service_core.proofs.turns.act_in.Goals as goal
 
 pub act-requires-clause-touched : goal.act-requires-clause-touched

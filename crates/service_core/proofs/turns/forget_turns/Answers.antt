@@ -1,7 +1,7 @@
 use Rattle.std.proofs.Common.{◌<◌, get_or, refl, sym, ap, subst, ◌∙◌, ℕ}
 use Rattle.std.proofs.Math.ListN.{length-set}
 use Rattle.service_core.proofs.ForgetLemmas.{forgot, lanes_left, started, turn_below, went}
-use Rattle.lane_owners.proofs.SaidLemmas.{said_on, said_set}
+use Rattle.chunk_owner.proofs.OfOwners.SaidLemmas.{said_on, said_set}
 use Rattle.service_core.proofs.turns.forget_turns.Goals as goal
 
 pub lanes-init : goal.lanes-init

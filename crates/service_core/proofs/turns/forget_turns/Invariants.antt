@@ -1,5 +1,5 @@
 use Rattle.std.proofs.Common.{◌≡◌, length}
-use Rattle.lane_owners.specs.Records.{LanesStillSay}
+use Rattle.chunk_owner.specs.Owners.Records.{LanesStillSay}
 use Rattle.service_core.proofs.ForgetLemmas.{SoFar}
 use Rattle.service_core.proofs.turns.forget_turns.Given as goal
 

@@ -1,10 +1,10 @@
 use Rattle.std.proofs.Common.{ℕ, Ok, sym, subst, ◌∙◌}
 use Rattle.std.specs.declared.alloc.AllocError.{AllocError}
 use Rattle.object_ops.specs.declared.grants.Grant.{Grant}
-use Rattle.lane_owners.specs.Joined.{AreLanes, whole}
+use Rattle.chunk_owner.specs.Owners.Joined.{AreLanes, whole}
 use Rattle.service_core.specs.Steps.{Takes}
 use Rattle.service_core.proofs.TurnLemmas.{ended, more, ready_next, stopped}
-use Rattle.lane_owners.proofs.SaidLemmas.{said_on}
+use Rattle.chunk_owner.proofs.OfOwners.SaidLemmas.{said_on}
 use Rattle.service_core.proofs.turns.run_turns.Goals as goal
 
 pub turns-preserved : goal.turns-preserved

@@ -1,6 +1,6 @@
 use Rattle.std.proofs.Common.{◌≡◌, true, length}
-use Rattle.lane_owners.specs.Joined.{AreLanes, whole}
-use Rattle.lane_owners.specs.Records.{LanesStillSay}
+use Rattle.chunk_owner.specs.Owners.Joined.{AreLanes, whole}
+use Rattle.chunk_owner.specs.Owners.Records.{LanesStillSay}
 use Rattle.chunk_owner.specs.Acts.{is_done}
 use Rattle.service_core.specs.Turns.{AreReady}
 use Rattle.service_core.proofs.TurnLemmas.{SoFar}

@@ -3,8 +3,8 @@ use Rattle.std.proofs.lemmas.List.{take_all, take_more}
 use Rattle.chunk_owner.specs.Lanes.{AreOfKind, AreShown, Lane}
 use Rattle.chunk_owner.proofs.Eaches.{KindAt, each_empty}
 use Rattle.chunk_owner.proofs.LaneLemmas.{kinds_of}
-use Rattle.lane_owners.specs.Joined.{whole}
-use Rattle.lane_owners.proofs.WholeLemmas.{each_push, shown_none, shown_push}
+use Rattle.chunk_owner.specs.Owners.Joined.{whole}
+use Rattle.chunk_owner.proofs.OfOwners.WholeLemmas.{each_push, shown_none, shown_push}
 use Rattle.service_core.proofs.world.are_whole.Goals as goal
 
 pub loop-owner-init : goal.loop-owner-init

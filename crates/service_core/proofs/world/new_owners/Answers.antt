@@ -1,11 +1,11 @@
 use Rattle.std.proofs.Common.{◌≡◌, ◌∷◌, ◌+◌, [], ℕ, List, length, length-append, arith, sym, subst, ap, ◌∙◌}
 use Rattle.chunk_owner.specs.Lanes.{Lane}
-use Rattle.lane_owners.specs.Joined.{AreLanes, IsLane, whole}
+use Rattle.chunk_owner.specs.Owners.Joined.{AreLanes, IsLane, whole}
 use Rattle.std.specs.FinMap.{empty}
-use Rattle.lane_owners.specs.Records.{AreUndropped, LanesSay}
-use Rattle.lane_owners.proofs.SaidLemmas.{nothing_said_more}
-use Rattle.lane_owners.proofs.UndroppedLemmas.{undropped_push}
-use Rattle.lane_owners.proofs.WholeLemmas.{lanes_push, new_lane, whole_push}
+use Rattle.chunk_owner.specs.Owners.Records.{AreUndropped, LanesSay}
+use Rattle.chunk_owner.proofs.OfOwners.SaidLemmas.{nothing_said_more}
+use Rattle.chunk_owner.proofs.OfOwners.UndroppedLemmas.{undropped_push}
+use Rattle.chunk_owner.proofs.OfOwners.WholeLemmas.{lanes_push, new_lane, whole_push}
 use Rattle.service_core.proofs.world.new_owners.Goals as goal
 
 pub loop-lane-preserved : goal.loop-lane-preserved

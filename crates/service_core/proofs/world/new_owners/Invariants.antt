@@ -1,7 +1,7 @@
 use Rattle.std.proofs.Common.{◌≡◌, length}
 use Rattle.std.specs.FinMap.{empty}
-use Rattle.lane_owners.specs.Joined.{AreLanes, whole}
-use Rattle.lane_owners.specs.Records.{AreUndropped, LanesSay}
+use Rattle.chunk_owner.specs.Owners.Joined.{AreLanes, whole}
+use Rattle.chunk_owner.specs.Owners.Records.{AreUndropped, LanesSay}
 use Rattle.service_core.proofs.world.new_owners.Given as goal
 
 abbrev pub invariant-loop-lane : goal.invariant-loop-lane

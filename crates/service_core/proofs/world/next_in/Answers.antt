@@ -1,10 +1,10 @@
 use Rattle.std.proofs.Common.{◌≡◌, ◌∷◌, ◌++◌, ◌+◌, [], List, Option, take, sym, subst, ap, ◌∙◌}
 use Rattle.std.proofs.lemmas.List.{take_all, take_more}
 use Rattle.std.specs.Option.{option_copied}
-use Rattle.text_maps.specs.Nexts.{IsNext}
+use Rattle.containers.specs.TextMaps.Nexts.{IsNext}
 use Rattle.object_ids.specs.IdValues.{Id}
 use Rattle.chunk_owner.specs.Lanes.{Lane}
-use Rattle.lane_owners.specs.Joined.{whole}
+use Rattle.chunk_owner.specs.Owners.Joined.{whole}
 use Rattle.service_core.specs.Worlds.{lesser}
 use Rattle.chunk_owner.proofs.NextLemmas.{next_step}
 use Rattle.service_core.proofs.NextLemmas.{next_none, next_push}

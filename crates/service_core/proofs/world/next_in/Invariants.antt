@@ -1,7 +1,7 @@
 use Rattle.std.proofs.Common.{take}
 use Rattle.std.specs.Option.{option_copied}
-use Rattle.text_maps.specs.Nexts.{IsNext}
-use Rattle.lane_owners.specs.Joined.{whole}
+use Rattle.containers.specs.TextMaps.Nexts.{IsNext}
+use Rattle.chunk_owner.specs.Owners.Joined.{whole}
 use Rattle.service_core.proofs.world.next_in.Given as goal
 
 abbrev pub invariant-loop-owner : goal.invariant-loop-owner

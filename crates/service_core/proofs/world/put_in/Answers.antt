@@ -1,8 +1,8 @@
 use Rattle.std.proofs.Common.{get_or, sym, ap}
 use Rattle.object_acts.specs.Objects.{unmarked}
-use Rattle.lane_owners.proofs.WholeLemmas.{home_by_lane, kept_whole, lane_put, none_here, put_whole}
-use Rattle.lane_owners.proofs.SaidLemmas.{said_set}
-use Rattle.lane_owners.proofs.UndroppedLemmas.{undropped_set}
+use Rattle.chunk_owner.proofs.OfOwners.WholeLemmas.{home_by_lane, kept_whole, lane_put, none_here, put_whole}
+use Rattle.chunk_owner.proofs.OfOwners.SaidLemmas.{said_set}
+use Rattle.chunk_owner.proofs.OfOwners.UndroppedLemmas.{undropped_set}
 use Rattle.service_core.proofs.world.put_in.Goals as goal
 
 pub put_object-requires-clause-lane : goal.put_object-requires-clause-lane

@@ -1,6 +1,6 @@
 use Rattle.std.proofs.Common.{sym, subst}
 use Rattle.object_ops.specs.Answers.{Follows}
-use Rattle.object_slots.specs.Slots.{StillSays, objects_of}
+use Rattle.chunk_owner.specs.Slots.Slots.{StillSays, objects_of}
 use Rattle.chunk_owner.specs.Lanes.{Lane}
 use Rattle.chunk_owner.specs.Acts.{acted, touched, IsTouchedIn}
 use Rattle.chunk_owner.proofs.LaneLemmas.{slots_after}

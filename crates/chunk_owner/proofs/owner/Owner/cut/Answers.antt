@@ -4,11 +4,11 @@ use Rattle.object_ids.specs.IdValues.{Id}
 use Rattle.object_ids.specs.Ids.{InRange}
 use Rattle.flush_journal.specs.Batches.{records}
 use Rattle.flush_journal.specs.Records.{Held}
-use Rattle.record_cuts.specs.Cuts.{AppendsEach, IsCut}
-use Rattle.object_slots.specs.Bodies.{IsSlotRecord}
-use Rattle.object_slots.specs.Slots.{IsMarked, Says, objects_of}
+use Rattle.flush_journal.specs.Cuts.Cuts.{AppendsEach, IsCut}
+use Rattle.chunk_owner.specs.Slots.Bodies.{IsSlotRecord}
+use Rattle.chunk_owner.specs.Slots.Slots.{IsMarked, Says, objects_of}
 use Rattle.chunk_owner.specs.Lanes.{Lane}
-use Rattle.object_slots.proofs.Standing.{objects-same}
+use Rattle.chunk_owner.proofs.OfSlots.Standing.{objects-same}
 use Rattle.chunk_owner.proofs.LaneLemmas.{cut_ids, slots_still}
 use Rattle.chunk_owner.proofs.owner.Owner.cut.Goals as goal
 

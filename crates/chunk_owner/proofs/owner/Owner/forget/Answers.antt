@@ -1,5 +1,5 @@
 use Rattle.std.proofs.Common.{subst}
-use Rattle.object_slots.specs.Slots.{StillSays, objects_of}
+use Rattle.chunk_owner.specs.Slots.Slots.{StillSays, objects_of}
 use Rattle.chunk_owner.specs.Lanes.{Forgets, Lane}
 use Rattle.chunk_owner.proofs.LaneLemmas.{forgets_objects, slots_still}
 use Rattle.chunk_owner.proofs.owner.Owner.forget.Goals as goal

@@ -3,8 +3,8 @@ use Rattle.std.specs.FinMap.{get}
 use Rattle.flush_journal.specs.Records.{Held}
 use Rattle.object_acts.specs.declared.objects.Object.{Object}
 use Rattle.object_ids.specs.IdValues.{Id}
-use Rattle.object_slots.specs.Slots.{AreStill, Describes, Says}
-use Rattle.object_slots.proofs.Standing.{get-objects_of}
+use Rattle.chunk_owner.specs.Slots.Slots.{AreStill, Describes, Says}
+use Rattle.chunk_owner.proofs.OfSlots.Standing.{get-objects_of}
 use Rattle.chunk_owner.specs.Lanes.{Lane}
 use Rattle.chunk_owner.proofs.owner.Owner.is_described.Goals as goal
 

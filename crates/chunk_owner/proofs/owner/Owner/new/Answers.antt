@@ -1,7 +1,7 @@
 use Rattle.std.proofs.Common.{◌≡◌, ap, ◌∙◌}
 use Rattle.std.specs.FinMap.{empty}
-use Rattle.object_slots.specs.Slots.{objects_of}
-use Rattle.object_slots.proofs.Standing.{objects-empty}
+use Rattle.chunk_owner.specs.Slots.Slots.{objects_of}
+use Rattle.chunk_owner.proofs.OfSlots.Standing.{objects-empty}
 use Rattle.chunk_owner.proofs.LaneLemmas.{slots_empty}
 use Rattle.chunk_owner.proofs.owner.Owner.new.Goals as goal
 

@@ -1,7 +1,7 @@
 use Rattle.std.proofs.Common.{subst}
 use Rattle.std.specs.Option.{option_copied}
-use Rattle.text_maps.specs.Nexts.{IsKeyStep, IsNext}
-use Rattle.object_slots.specs.Slots.{objects_of}
+use Rattle.containers.specs.TextMaps.Nexts.{IsKeyStep, IsNext}
+use Rattle.chunk_owner.specs.Slots.Slots.{objects_of}
 use Rattle.chunk_owner.specs.Lanes.{Lane}
 use Rattle.chunk_owner.proofs.NextLemmas.{next_step}
 use Rattle.chunk_owner.proofs.owner.Owner.next_id.Goals as goal

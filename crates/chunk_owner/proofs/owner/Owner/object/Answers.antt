@@ -1,6 +1,6 @@
 use Rattle.std.proofs.Common.{sym, ap, ◌∙◌}
 use Rattle.std.specs.FinMap.{get}
-use Rattle.object_slots.proofs.Standing.{get-objects_of}
+use Rattle.chunk_owner.proofs.OfSlots.Standing.{get-objects_of}
 use Rattle.chunk_owner.specs.Lanes.{Lane}
 use Rattle.chunk_owner.proofs.owner.Owner.object.Goals as goal
 

@@ -2,10 +2,10 @@ use Rattle.std.proofs.Common.{◌≡◌, None, OnErr, OnOk, sym, subst, ◌∙�
 use Rattle.std.specs.FinMap.{get, insert}
 use Rattle.object_ids.specs.Ids.{lane_of}
 use Rattle.object_acts.specs.Objects.{unmarked}
-use Rattle.object_slots.specs.Bodies.{IsUndropped}
-use Rattle.object_slots.specs.Slots.{StillSays, objects_of}
-use Rattle.object_slots.proofs.Placed.{undropped_put}
-use Rattle.object_slots.proofs.Standing.{get-objects_of}
+use Rattle.chunk_owner.specs.Slots.Bodies.{IsUndropped}
+use Rattle.chunk_owner.specs.Slots.Slots.{StillSays, objects_of}
+use Rattle.chunk_owner.proofs.OfSlots.Placed.{undropped_put}
+use Rattle.chunk_owner.proofs.OfSlots.Standing.{get-objects_of}
 use Rattle.chunk_owner.specs.Lanes.{Lane}
 use Rattle.chunk_owner.proofs.LaneLemmas.{objects_put, objects_stay, slots_put}
 use Rattle.chunk_owner.proofs.owner.Owner.put_object.Goals as goal

@@ -1,6 +1,6 @@
 use Rattle.std.proofs.Common.{List, ℕ, Option, option_map, IfSome, IsSome, is_some, refl, sym, subst}
 use Rattle.std.specs.List.Sorted.{IsStrictlySortedBy}
-use Rattle.short_lists.specs.Order.{list_order}
+use Rattle.containers.specs.ShortLists.Order.{list_order}
 use Rattle.hdf_types.specs.Views.{elem as kind_of}
 use Rattle.chunk_store.specs.Parts.{stored_in}
 use Rattle.chunk_store.specs.Indexes.{IsIndex}

@@ -1,6 +1,6 @@
 use Rattle.std.proofs.Common.{List, ℕ, Option, option_map, IfSome, IsSome, refl, sym, subst}
 use Rattle.std.specs.List.Sorted.{IsStrictlySortedBy}
-use Rattle.short_lists.specs.Order.{list_order}
+use Rattle.containers.specs.ShortLists.Order.{list_order}
 use Rattle.hdf_types.specs.Views.{elem as kind_of}
 use Rattle.chunk_store.specs.Parts.{stored_in}
 use Rattle.chunk_store.specs.Indexes.{IsIndex}
@@ -15,11 +15,11 @@ returns c =
     let old = stored_in (kind_of a.elem) a.shape a.given a.frame a.chunks in
     let after = option_map (λ d. d.now) c.args.after in
     let indexes = known_indexes (kind_of a.elem) a.shape a.given a.frame a.chunks c.self.invariant in
-    let next : IsNextDirty old after c.first_changed.result =
-    subst (λ (r : Option (List ℕ)). IsNextDirty (stored_in (kind_of a.elem) a.shape a.given a.frame a.chunks) (option_map (λ d. d.now) c.args.after) r) (sym c.first_changed.ensures.first)
-    (next_from flagged refl old after indexes (subst (IsStrictlySortedBy list_order) (sym (keys_same a.chunks.entries)) c.first_changed.ensures.ordered)) in
+    let next : IsNextDirty old after c.first_dirty.result =
+    subst (λ (r : Option (List ℕ)). IsNextDirty (stored_in (kind_of a.elem) a.shape a.given a.frame a.chunks) (option_map (λ d. d.now) c.args.after) r) (sym c.first_dirty.ensures.first)
+    (next_from flagged refl old after indexes (subst (IsStrictlySortedBy list_order) (sym (keys_same a.chunks.entries)) c.first_dirty.ensures.ordered)) in
     record {
-      next = subst (λ (s : Stored). IsNextDirty s (option_map (λ d. d.now) c.args.after) c.first_changed.result) c.self.view_is next;
-      known = subst (λ (s : Stored). IfSome c.first_changed.result (λ i. IsSome (state s i))) c.self.view_is (next_known flagged refl old after c.first_changed.result next);
-      index = subst (λ (s : Stored). IfSome c.first_changed.result (λ i. IsIndex s.grid.chunk i)) c.self.view_is (next_index flagged refl old after c.first_changed.result indexes next);
+      next = subst (λ (s : Stored). IsNextDirty s (option_map (λ d. d.now) c.args.after) c.first_dirty.result) c.self.view_is next;
+      known = subst (λ (s : Stored). IfSome c.first_dirty.result (λ i. IsSome (state s i))) c.self.view_is (next_known flagged refl old after c.first_dirty.result next);
+      index = subst (λ (s : Stored). IfSome c.first_dirty.result (λ i. IsIndex s.grid.chunk i)) c.self.view_is (next_index flagged refl old after c.first_dirty.result indexes next);
     }

@@ -1,7 +1,7 @@
 use Rattle.std.proofs.Common.{◌∙◌, ap, sym, is_some, string_bytes}
 use Rattle.std.specs.FinMap.{FinMap, contains_key}
-use Rattle.text_maps.proofs.KeyedMaps.{get-keyed}
-use Rattle.text_maps.specs.Keyed.{text_order}
+use Rattle.containers.proofs.TextMaps.KeyedMaps.{get-keyed}
+use Rattle.containers.specs.TextMaps.Keyed.{text_order}
 use Rattle.configuration.specs.declared.setting.Setting.{Setting}
 use Rattle.configuration.proofs.settings.Settings.contains.Goals as goal
 

@@ -1,6 +1,6 @@
 use Rattle.std.proofs.Common.{◌∙◌, ap, sym, string_bytes}
 use Rattle.std.specs.FinMap.{entries}
-use Rattle.text_maps.proofs.KeyedMaps.{entries-keyed}
+use Rattle.containers.proofs.TextMaps.KeyedMaps.{entries-keyed}
 use Rattle.configuration.proofs.settings.Settings.into_entries.Goals as goal
 
 pub returns-clause-entries : goal.returns-clause-entries

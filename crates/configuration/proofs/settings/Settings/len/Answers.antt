@@ -1,6 +1,6 @@
 use Rattle.std.proofs.Common.{◌∙◌, sym, ap, string_bytes}
 use Rattle.std.specs.FinMap.{len}
-use Rattle.text_maps.proofs.KeyedMaps.{len-keyed}
+use Rattle.containers.proofs.TextMaps.KeyedMaps.{len-keyed}
 use Rattle.configuration.proofs.settings.Settings.len.Goals as goal
 
 pub returns-clause-value : goal.returns-clause-value

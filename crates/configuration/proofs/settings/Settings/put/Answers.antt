@@ -1,7 +1,7 @@
 use Rattle.std.proofs.Common.{◌≡◌, ◌∙◌, ap, sym, subst, String, Global, Some, string_bytes, List, ℕ}
 use Rattle.std.specs.FinMap.{FinMap, insert}
-use Rattle.text_maps.proofs.KeyedMaps.{insert-keyed}
-use Rattle.text_maps.specs.Keyed.{text_order, keyed}
+use Rattle.containers.proofs.TextMaps.KeyedMaps.{insert-keyed}
+use Rattle.containers.specs.TextMaps.Keyed.{text_order, keyed}
 use Rattle.object_ids.specs.Paths.{path_of}
 use Rattle.configuration.specs.Catalogues.{ArePaths}
 use Rattle.configuration.proofs.SettingLemmas.{ArePaths-insert}

@@ -1,7 +1,7 @@
 use Rattle.std.proofs.Common.{◌∙◌, ap, sym, subst, String, Global, List, string_bytes}
 use Rattle.std.specs.FinMap.{FinMap, get, remove}
-use Rattle.text_maps.proofs.KeyedMaps.{get-keyed, remove-keyed}
-use Rattle.text_maps.specs.Keyed.{text_order, keyed}
+use Rattle.containers.proofs.TextMaps.KeyedMaps.{get-keyed, remove-keyed}
+use Rattle.containers.specs.TextMaps.Keyed.{text_order, keyed}
 use Rattle.object_ids.specs.Paths.{root_path}
 use Rattle.configuration.specs.Catalogues.{ArePaths}
 use Rattle.configuration.specs.declared.setting.Setting.{Setting}

@@ -1,6 +1,6 @@
 use Rattle.std.proofs.Common.{ℕ, ap, ap₂, sym, subst, ◌∙◌}
 use Rattle.std.specs.FinMap.{FinMap, insert}
-use Rattle.text_maps.specs.Keyed.{text_order}
+use Rattle.containers.specs.TextMaps.Keyed.{text_order}
 use Rattle.domains.specs.declared.classes.Node.{Node}
 use Rattle.domains.specs.Contents.{Contents, IsCatalogue, raised}
 use Rattle.domains.proofs.Puts.{with_node-valid}

@@ -1,6 +1,6 @@
 use Rattle.std.proofs.Common.{ap, ◌∙◌}
 use Rattle.std.specs.FinMap.{FinMap}
-use Rattle.text_maps.specs.Keyed.{text_order}
+use Rattle.containers.specs.TextMaps.Keyed.{text_order}
 use Rattle.object_ids.proofs.NamedMaps.{on_ok}
 use Rattle.domains.specs.declared.classes.Node.{Node}
 use Rattle.domains.specs.Contents.{Contents}

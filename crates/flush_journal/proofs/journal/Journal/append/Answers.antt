@@ -2,10 +2,10 @@ use Rattle.std.proofs.Common.{◌≡◌, ℕ, ◌+◌, List, length, Err, inl, r
 use Rattle.flush_journal.specs.declared.why.Why.TheVariants.{JournalFull}
 use Rattle.flush_journal.specs.Batches.{records}
 use Rattle.flush_journal.specs.Frames.{frame_of, need_of}
-use Rattle.flush_journal.specs.Gates.{Shut, Opened, Either, AllHave, OnlyHas, EndsShut, GateStands}
+use Rattle.flush_journal.specs.Markers.{Shut, Opened, Either, AllHave, OnlyHas, EndsShut, MarkerStands}
 use Rattle.flush_journal.specs.Moments.{Leaves}
 use Rattle.flush_journal.specs.Refusals.{MayRefuse}
-use Rattle.flush_journal.proofs.GateLemmas.{all_have}
+use Rattle.flush_journal.proofs.MarkerLemmas.{all_have}
 use Rattle.flush_journal.proofs.JournalLemmas.{start_of, frame_ends, need_of-size}
 use Rattle.flush_journal.proofs.JournalStates.{is_false, are_batch, none_owed, some_batch, owed_by, settled_by, leaves_either}
 use Rattle.flush_journal.proofs.Moments.{no_call}
@@ -49,7 +49,7 @@ invariant_of-self-in-Err-write_frame g c =
     let some = is_false _ c.is_empty.ensures c.if-is_empty.false in
     record {
       version1 = c.args.self.now.version1;
-      gate = λ h. subst (λ (l : List ℕ). GateStands c.args.self.now.numbers.end (length l) (g.D.Disk.reads c.write_frame.new.disk)) c.frame-2.ensures.bytes
+      marker = λ h. subst (λ (l : List ℕ). MarkerStands c.args.self.now.numbers.end (length l) (g.D.Disk.reads c.write_frame.new.disk)) c.frame-2.ensures.bytes
           (c.write_frame.ensures.stands h (subst EndsShut (sym c.frame-2.ensures.bytes) (frame_ends (records c.args.batch) some)));
       some = some_batch (records c.args.batch) some;
     }
@@ -101,8 +101,8 @@ invariant_of-self-2 g c =
         few_lanes = old.version1.few_lanes;
         counted = omega (arith, old.version1.counted, need_of-size rs c.frame.result.now some c.frame.ensures.bytes);
       };
-      gate = λ h. subst (λ (n : ℕ). GateStands (old.numbers.end + length c.frame.result.now) n reads) (sym (none_owed old.pending c.requires.idle))
-          (subst (λ (n : ℕ). GateStands (old.numbers.end + n) 0 reads) size
+      marker = λ h. subst (λ (n : ℕ). MarkerStands (old.numbers.end + length c.frame.result.now) n reads) (sym (none_owed old.pending c.requires.idle))
+          (subst (λ (n : ℕ). MarkerStands (old.numbers.end + n) 0 reads) size
           (c.in_default-write_frame.ensures.moved h (subst EndsShut (sym c.frame-2.ensures.bytes) (frame_ends rs some))));
       some = old.some;
     }

@@ -5,7 +5,7 @@ use Rattle.std.proofs.Math.Nat.{ℕ_set}
 use Rattle.flush_journal.specs.declared.why.Why.TheVariants.{JournalFull}
 use Rattle.flush_journal.specs.Batches.{records, owed_size}
 use Rattle.flush_journal.specs.Frames.{frame_of, need_of}
-use Rattle.flush_journal.specs.Gates.{Opened, Either, AllHave, OnlyHas, EndsShut, GateStands}
+use Rattle.flush_journal.specs.Markers.{Opened, Either, AllHave, OnlyHas, EndsShut, MarkerStands}
 use Rattle.flush_journal.specs.Moments.{Leaves}
 use Rattle.flush_journal.specs.Reports.{IsVersion1}
 use Rattle.flush_journal.specs.Refusals.{MayRefuse}
@@ -17,14 +17,14 @@ use Rattle.flush_journal.proofs.journal.Journal.settle.Goals as goal
 pub returns-in_default-clause-untouched : goal.returns-in_default-clause-untouched
 returns-in_default-clause-untouched g c = λ none i.
     let version1_prop : IsProp (IsVersion1 c.args.self.now.numbers) = hlevel (le_prop, ℕ_set) in
-    let gate_prop : IsProp (g.D.Disk.honest → GateStands c.args.self.now.numbers.end (owed_size c.args.self.now.pending) (g.D.Disk.reads c.args.self.now.disk)) = hlevel (le_prop) in
+    let marker_prop : IsProp (g.D.Disk.honest → MarkerStands c.args.self.now.numbers.end (owed_size c.args.self.now.pending) (g.D.Disk.reads c.args.self.now.disk)) = hlevel (le_prop) in
     let some_prop : IsProp (option_map records c.args.self.now.pending ≢ Some []) = hlevel (le_prop) in
     record {
       disk = c.args.self.now.disk;
       numbers = c.args.self.now.numbers;
       pending = c.args.self.now.pending;
       version1 = version1_prop c.self-in_default-1.given.0 c.args.self.now.version1 i;
-      gate = gate_prop c.self-in_default-1.given.1.0 c.args.self.now.gate i;
+      marker = marker_prop c.self-in_default-1.given.1.0 c.args.self.now.marker i;
       some = some_prop c.self-in_default-1.given.1.1.0 c.args.self.now.some i;
     }
 
@@ -50,7 +50,7 @@ invariant_of-self-in-Err-write_again g c =
     let some : records c.in-Some.batch ≢ [] = some_pending old.pending c.in-Some.batch old.some c.in-Some.is in
     record {
       version1 = old.version1;
-      gate = λ h. subst (λ (n : ℕ). GateStands old.numbers.end n (g.D.Disk.reads c.write_again.new.disk)) (ap length c.frame-2.ensures.bytes ∙ ap owed_size (sym c.in-Some.is))
+      marker = λ h. subst (λ (n : ℕ). MarkerStands old.numbers.end n (g.D.Disk.reads c.write_again.new.disk)) (ap length c.frame-2.ensures.bytes ∙ ap owed_size (sym c.in-Some.is))
           (c.write_again.ensures.stands h (subst EndsShut (sym c.frame-2.ensures.bytes) (frame_ends (records c.in-Some.batch) some)));
       some = old.some;
     }
@@ -105,7 +105,7 @@ invariant_of-self-2 g c =
         few_lanes = old.version1.few_lanes;
         counted = omega (arith, old.version1.counted, need_of-size (records c.in-Some.batch) c.frame.result.now some c.frame.ensures.bytes);
       };
-      gate = λ h. subst (λ (n : ℕ). GateStands (old.numbers.end + n) 0 (g.D.Disk.reads c.write_again.new.disk)) size
+      marker = λ h. subst (λ (n : ℕ). MarkerStands (old.numbers.end + n) 0 (g.D.Disk.reads c.write_again.new.disk)) size
           (c.in_default-write_again.ensures.moved h (subst EndsShut (sym c.frame-2.ensures.bytes) (frame_ends (records c.in-Some.batch) some)));
       some = λ is. absurd (cc);
     }

@@ -1,6 +1,6 @@
 use Rattle.std.proofs.Common.{ap, sym, ◌∙◌}
 use Rattle.std.specs.FinMap as map
-use Rattle.text_maps.proofs.TreeMaps.{entries-tree}
+use Rattle.containers.proofs.TextMaps.TreeMaps.{entries-tree}
 use Rattle.object_ids.proofs.IdOrders.{id_order_total}
 use Rattle.object_ids.proofs.id_map.IdMap.as_tree.Goals as goal
 

@@ -1,4 +1,4 @@
-use Rattle.text_maps.proofs.TreeMaps.{lent-tree}
+use Rattle.containers.proofs.TextMaps.TreeMaps.{lent-tree}
 use Rattle.object_ids.proofs.IdOrders.{id_order_once, id_order_total}
 use Rattle.object_ids.proofs.id_map.IdMap.get_mut.Goals as goal
 

@@ -1,6 +1,6 @@
 use Rattle.std.proofs.Common.{ap, sym, ◌∙◌}
 use Rattle.std.specs.FinMap as map
-use Rattle.text_maps.proofs.TreeMaps.{len-tree}
+use Rattle.containers.proofs.TextMaps.TreeMaps.{len-tree}
 use Rattle.object_ids.proofs.IdOrders.{id_order_total}
 use Rattle.object_ids.proofs.id_map.IdMap.len.Goals as goal
 

@@ -3,9 +3,9 @@ use Rattle.std.specs.FinMap as map
 use Rattle.std.specs.Option.{option_copied}
 use Rattle.object_ids.specs.IdOrder.{id_order}
 use Rattle.object_ids.specs.IdValues.{Id}
-use Rattle.text_maps.specs.Nexts.{first, left}
-use Rattle.text_maps.proofs.TreeMaps.{entries-tree}
-use Rattle.text_maps.proofs.Walks.{found_key}
+use Rattle.containers.specs.TextMaps.Nexts.{first, left}
+use Rattle.containers.proofs.TextMaps.TreeMaps.{entries-tree}
+use Rattle.containers.proofs.TextMaps.Walks.{found_key}
 use Rattle.object_ids.proofs.IdOrders.{id_order_total}
 use Rattle.object_ids.proofs.id_map.IdMap.next_id.Goals as goal
 

@@ -1,7 +1,7 @@
 use Rattle.std.proofs.Common.{ap, sym, ◌∙◌}
 use Rattle.std.specs.FinMap as map
-use Rattle.text_maps.proofs.KeyedMaps.{on_err}
-use Rattle.text_maps.proofs.TreeMaps.{get-tree, insert-tree}
+use Rattle.containers.proofs.TextMaps.KeyedMaps.{on_err}
+use Rattle.containers.proofs.TextMaps.TreeMaps.{get-tree, insert-tree}
 use Rattle.object_ids.proofs.IdOrders.{id_order_once, id_order_total}
 use Rattle.object_ids.proofs.id_map.IdMap.put.Goals as goal
 

@@ -1,7 +1,7 @@
 use Rattle.std.proofs.Common.{option_map, ap, sym, ◌∙◌}
 use Rattle.std.specs.Cmp.Lexicographic.{nat_list_cmp_total}
 use Rattle.std.specs.FinMap as map
-use Rattle.text_maps.proofs.ValueMaps.{get-values}
+use Rattle.containers.proofs.TextMaps.ValueMaps.{get-values}
 use Rattle.object_ids.proofs.NamedMaps.{value_of}
 use Rattle.object_ids.proofs.name_map.NameMap.get.Goals as goal
 

@@ -1,8 +1,8 @@
 use Rattle.std.proofs.Common.{option_map, inr, ap, sym, ◌∙◌}
 use Rattle.std.specs.Cmp.Lexicographic.{nat_list_cmp_total}
 use Rattle.std.specs.FinMap as map
-use Rattle.text_maps.proofs.KeyedMaps.{exact_texts}
-use Rattle.text_maps.proofs.ValueMaps.{get-values, insert-values}
+use Rattle.containers.proofs.TextMaps.KeyedMaps.{exact_texts}
+use Rattle.containers.proofs.TextMaps.ValueMaps.{get-values, insert-values}
 use Rattle.object_ids.proofs.NamedMaps.{insert_named, same_lent, value_of}
 use Rattle.object_ids.proofs.name_map.NameMap.get_mut.Goals as goal
 

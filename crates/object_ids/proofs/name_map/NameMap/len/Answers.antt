@@ -1,7 +1,7 @@
 use Rattle.std.proofs.Common.{ap, sym, ◌∙◌}
 use Rattle.std.specs.Cmp.Lexicographic.{nat_list_cmp_total}
 use Rattle.std.specs.FinMap as map
-use Rattle.text_maps.proofs.ValueMaps.{len-values}
+use Rattle.containers.proofs.TextMaps.ValueMaps.{len-values}
 use Rattle.object_ids.proofs.NamedMaps.{value_of}
 use Rattle.object_ids.proofs.name_map.NameMap.len.Goals as goal
 

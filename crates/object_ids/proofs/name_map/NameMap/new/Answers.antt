@@ -1,8 +1,8 @@
 use Rattle.std.proofs.Common.{ap, ◌∙◌}
 use Rattle.std.specs.Cmp.Lexicographic.{nat_list_cmp_total}
-use Rattle.text_maps.specs.Keyed.{with_values}
-use Rattle.text_maps.proofs.KeyedMaps.{exact_texts}
-use Rattle.text_maps.proofs.ValueMaps.{empty-values}
+use Rattle.containers.specs.TextMaps.Keyed.{with_values}
+use Rattle.containers.proofs.TextMaps.KeyedMaps.{exact_texts}
+use Rattle.containers.proofs.TextMaps.ValueMaps.{empty-values}
 use Rattle.object_ids.proofs.NamedMaps.{empty_named, value_of}
 use Rattle.object_ids.proofs.name_map.NameMap.new.Goals as goal
 

@@ -1,6 +1,6 @@
 use Rattle.std.proofs.Common.{Bor, Option, subst, sym}
 use Rattle.std.specs.Option.{option_copied}
-use Rattle.text_maps.specs.Nexts.{IsNext, IsKeyStep}
+use Rattle.containers.specs.TextMaps.Nexts.{IsNext, IsKeyStep}
 use Rattle.object_ids.specs.declared.names.Name.{Name}
 use Rattle.object_ids.proofs.NamedMaps.{next_named, none_next}
 use Rattle.object_ids.proofs.name_map.NameMap.next_name.Goals as goal

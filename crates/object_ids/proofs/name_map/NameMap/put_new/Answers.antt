@@ -1,9 +1,9 @@
 use Rattle.std.proofs.Common.{ap, sym, ◌∙◌, string_bytes}
 use Rattle.std.specs.Cmp.Lexicographic.{nat_list_cmp_total}
 use Rattle.std.specs.FinMap as map
-use Rattle.text_maps.specs.Keyed.{with_values}
-use Rattle.text_maps.proofs.KeyedMaps.{exact_texts}
-use Rattle.text_maps.proofs.ValueMaps.{insert-values}
+use Rattle.containers.specs.TextMaps.Keyed.{with_values}
+use Rattle.containers.proofs.TextMaps.KeyedMaps.{exact_texts}
+use Rattle.containers.proofs.TextMaps.ValueMaps.{insert-values}
 use Rattle.object_ids.proofs.NamedMaps.{on_ok, put_named, value_of}
 use Rattle.object_ids.proofs.name_map.NameMap.put_new.Goals as goal
 

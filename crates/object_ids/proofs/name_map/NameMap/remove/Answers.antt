@@ -1,9 +1,9 @@
 use Rattle.std.proofs.Common.{option_map, ap, subst, sym, ◌∙◌}
 use Rattle.std.specs.Cmp.Lexicographic.{nat_list_cmp_total}
 use Rattle.std.specs.FinMap as map
-use Rattle.text_maps.specs.Keyed.{with_values}
-use Rattle.text_maps.proofs.KeyedMaps.{exact_texts}
-use Rattle.text_maps.proofs.ValueMaps.{get-values, remove-values}
+use Rattle.containers.specs.TextMaps.Keyed.{with_values}
+use Rattle.containers.proofs.TextMaps.KeyedMaps.{exact_texts}
+use Rattle.containers.proofs.TextMaps.ValueMaps.{get-values, remove-values}
 use Rattle.object_ids.specs.NamedEntries.{AreNamed}
 use Rattle.object_ids.proofs.NamedMaps.{remove_named, value_of}
 use Rattle.object_ids.proofs.name_map.NameMap.remove.Goals as goal

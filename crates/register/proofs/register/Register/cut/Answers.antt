@@ -1,7 +1,7 @@
 use Rattle.std.proofs.Common.{true, false, sym, subst}
 use Rattle.flush_journal.specs.Batches.{records}
 use Rattle.flush_journal.specs.Records.{Held}
-use Rattle.record_cuts.specs.Cuts.{AppendsEach, IsCut}
+use Rattle.flush_journal.specs.Cuts.Cuts.{AppendsEach, IsCut}
 use Rattle.register.specs.Decided.{Door}
 use Rattle.register.specs.Kept.{IsRegisterMarked, IsRegisterRecord, RegisterSays}
 use Rattle.register.specs.Marks.{Marked}

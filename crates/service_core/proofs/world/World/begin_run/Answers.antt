@@ -4,7 +4,7 @@ use Rattle.chunk_owner.specs.Lanes.{IsWhole, Lane}
 use Rattle.flush_journal.specs.Batches.{records}
 use Rattle.flush_journal.specs.Records.{Held, Record, put_all, put_record}
 use Rattle.flush_journal.specs.Tries.{Writes}
-use Rattle.record_keys.specs.Numbers.{run_bytes}
+use Rattle.object_records.specs.Keys.Numbers.{run_bytes}
 use Rattle.register.specs.Decided.{Door}
 use Rattle.service_core.specs.Records.{WorldSays, run_record}
 use Rattle.service_core.specs.Worlds.{State}

@@ -3,11 +3,11 @@ use Rattle.std.specs.FinMap.{empty}
 use Rattle.std.specs.List.{AllByRecursion}
 use Rattle.flush_journal.specs.Batches.{records}
 use Rattle.flush_journal.specs.Records.{Held}
-use Rattle.record_cuts.specs.Cuts.{AppendsEach, AppendsOnce, IsCut}
-use Rattle.object_slots.specs.Bodies.{IsObjectRecord}
+use Rattle.flush_journal.specs.Cuts.Cuts.{AppendsEach, AppendsOnce, IsCut}
+use Rattle.chunk_owner.specs.Slots.Bodies.{IsObjectRecord}
 use Rattle.chunk_owner.specs.Lanes.{IsWhole, Lane}
-use Rattle.lane_owners.specs.Joined.{whole}
-use Rattle.lane_owners.specs.Records.{IsMarkedIn, IsStandingIn, LanesSay}
+use Rattle.chunk_owner.specs.Owners.Joined.{whole}
+use Rattle.chunk_owner.specs.Owners.Records.{IsMarkedIn, IsStandingIn, LanesSay}
 use Rattle.service_core.specs.Records.{IsCutRecord, IsWorldMarked, WorldSays}
 use Rattle.service_core.specs.Worlds.{State}
 use Rattle.service_core.proofs.RecordLemmas.{both_cut, both_records, register_alone, register_records}

@@ -1,5 +1,5 @@
 use Rattle.std.proofs.Common.{◌<◌, sym, subst}
-use Rattle.lane_owners.specs.Joined.{whole}
+use Rattle.chunk_owner.specs.Owners.Joined.{whole}
 use Rattle.service_core.specs.Worlds.{State}
 use Rattle.service_core.proofs.GivenLemmas.{fresh_is}
 use Rattle.service_core.specs.Records.{WorldStillSays}

@@ -1,8 +1,8 @@
 use Rattle.std.proofs.Common.{◌<◌, List, length, sym, subst}
 use Rattle.flush_journal.specs.Records.{Held}
 use Rattle.chunk_owner.specs.Lanes.{Lane}
-use Rattle.lane_owners.specs.Joined.{AreLanes, whole}
-use Rattle.lane_owners.specs.Records.{AreStillIn, DescribesObjects, LanesSay}
+use Rattle.chunk_owner.specs.Owners.Joined.{AreLanes, whole}
+use Rattle.chunk_owner.specs.Owners.Records.{AreStillIn, DescribesObjects, LanesSay}
 use Rattle.service_core.specs.Records.{DescribesWorld, IsKept, WorldSays}
 use Rattle.service_core.specs.Worlds.{State, seen}
 use Rattle.service_core.proofs.RecordLemmas.{all_told}

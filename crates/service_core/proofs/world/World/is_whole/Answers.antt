@@ -1,6 +1,6 @@
 use Rattle.std.proofs.Common.{List, subst}
 use Rattle.chunk_owner.specs.Lanes.{AreOfKind, AreShown, Lane}
-use Rattle.lane_owners.specs.Joined.{whole}
+use Rattle.chunk_owner.specs.Owners.Joined.{whole}
 use Rattle.service_core.specs.Steps.{IsWorld}
 use Rattle.service_core.specs.Worlds.{State, seen}
 use Rattle.service_core.proofs.world.World.is_whole.Goals as goal

@@ -2,8 +2,8 @@ use Rattle.std.proofs.Common.{List, length, sym, subst, ap, ◌∙◌, OnOk, OnE
 use Rattle.std.specs.FinMap.{insert}
 use Rattle.object_acts.specs.Objects.{unmarked}
 use Rattle.chunk_owner.specs.Lanes.{Lane}
-use Rattle.lane_owners.specs.Joined.{AreLanes, whole}
-use Rattle.lane_owners.specs.Records.{AreUndropped, LanesStillSay}
+use Rattle.chunk_owner.specs.Owners.Joined.{AreLanes, whole}
+use Rattle.chunk_owner.specs.Owners.Records.{AreUndropped, LanesStillSay}
 use Rattle.service_core.specs.Records.{WorldStillSays}
 use Rattle.service_core.specs.Steps.{IsGiven}
 use Rattle.service_core.specs.Worlds.{IsBuilt, State}

@@ -1,0 +1,3 @@
+pub mod Bearer
+pub use Rattle.containers.specs.TextMaps.Keyed
+pub use Rattle.access_lists.specs.InForce

@@ -1,3 +1,0 @@
-mod LawLemmas
-mod SlabLemmas
-mod WriteLemmas

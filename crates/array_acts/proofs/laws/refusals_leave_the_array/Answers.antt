@@ -1,5 +1,0 @@
-use Rattle.array_acts.proofs.LawLemmas.{value_kept, shape_kept}
-use Rattle.array_acts.proofs.laws.refusals_leave_the_array.Goals as goal
-
-pub returns : goal.returns
-returns c = record { value = value_kept; dims = shape_kept }

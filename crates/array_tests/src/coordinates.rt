@@ -1,0 +1,68 @@
+//! Lists of coordinates.
+
+ghost use Rattle.std.specs.Prelude.{◌≤◌, ◌+◌};
+ghost use Rattle.shapes.specs.Shapes.{IsSound, count_of};
+ghost use Rattle.hyperslab.specs.Selected.{IsSlab};
+
+use hyperslab::Slab;
+use shapes::{Dims, Shape, coords_at};
+use std::alloc::{AllocError, Global};
+
+/// The coordinates inside dims, in row-major order.
+pub fn coords_in(alloc: Global, dims: &[u64]) -> Result<Vec<Dims>, AllocError> {
+    let mut lists = vec![in alloc; Dims::new()]?;
+    for n in dims {
+        lists = longer(alloc, lists.as_slice(), *n)?;
+    }
+    Ok(lists)
+}
+
+fn longer(alloc: Global, lists: &[Dims], n: u64) -> Result<Vec<Dims>, AllocError> {
+    let mut out = Vec::new(alloc);
+    for list in lists {
+        for x in 0..n {
+            let mut more = *list;
+            more.keep(x);
+            out.push(more)?;
+        }
+    }
+    Ok(out)
+}
+
+/// The cell at these coordinates of a chunk.
+pub fn cell_of_chunk(inner: &Dims, index: &Dims, chunk: &Dims) -> Dims {
+    let mut at = Dims::new();
+    let axes = index.as_slice().iter().zip(chunk.as_slice().iter());
+    for (x, (i, n)) in inner.as_slice().iter().zip(axes) {
+        at.keep(x.saturating_add(i.saturating_mul(*n)));
+    }
+    at
+}
+
+/// The cells of a selection.
+pub fn slab_coords(alloc: Global, slab: &Slab) -> Result<Vec<Dims>, AllocError>
+    requires { IsSlab slab.now }
+{
+    let mut cells = Vec::new(alloc);
+    for k in 0..slab.count() {
+        cells.push(slab.coords(k))?;
+    }
+    Ok(cells)
+}
+
+/// The cells of a shape, so many of them from a place on.
+pub fn place_coords(
+    alloc: Global,
+    shape: &Shape,
+    from: u64,
+    many: u64,
+) -> Result<Vec<Dims>, AllocError>
+    requires sound { IsSound shape.now }
+    requires inside { from + many ≤ count_of shape.now }
+{
+    let mut cells = Vec::new(alloc);
+    for k in 0..many {
+        cells.push(coords_at(shape, from + k))?;
+    }
+    Ok(cells)
+}

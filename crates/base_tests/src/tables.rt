@@ -1,0 +1,36 @@
+//! Rows of tables: columns parted by strokes.
+
+use serde_json::Value;
+use std::process::Abort;
+
+/// A row's column, from 0; empty where the row has fewer.
+pub fn column(row: &str, place: u8) -> &str {
+    let mut columns = row.split('|');
+    for _ in 0..place {
+        let _before = columns.next();
+    }
+    columns.next().unwrap_or("")
+}
+
+/// The number that a text is.
+pub fn number(rt: &(impl Abort + AllocGlobal), text: &str) -> u64 {
+    let tree = Value::from_str(rt.alloc(), text).expect(rt, "JSON");
+    tree.as_u64().expect(rt, "a number")
+}
+
+/// The bytes that hexadecimal digits spell.
+pub fn unhex(rt: &(impl Abort + AllocGlobal), digits: &str) -> Vec<u8> {
+    let mut bytes = Vec::new(rt.alloc());
+    let mut front = None;
+    for digit in digits.chars() {
+        let half = digit.to_digit(16).expect(rt, "a digit") as u8 % 16;
+        match front {
+            None => front = Some(half),
+            Some(high) => {
+                bytes.push(high << 4 | half).expect(rt, "memory");
+                front = None;
+            }
+        }
+    }
+    bytes
+}

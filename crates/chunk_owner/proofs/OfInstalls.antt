@@ -1,0 +1,5 @@
+pub mod LaneKeys
+pub mod Taking
+pub mod Walking
+pub mod Telling
+pub mod Standing

@@ -1,0 +1,14 @@
+pub mod KeyFacts
+pub mod ChunkWalks
+pub mod ChunkRecords
+pub mod SlotCuts
+pub mod SlotBodies
+pub mod LaneCuts
+pub mod Describing
+pub mod KeptSlots
+pub mod Placed
+pub mod StillTold
+pub mod Standing
+pub mod ChangedSlots
+pub mod Marks
+pub mod Spelled

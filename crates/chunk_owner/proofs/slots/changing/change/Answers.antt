@@ -1,0 +1,12 @@
+use Rattle.std.proofs.Common.{cond, ap, ◌∙◌}
+use Rattle.chunk_owner.specs.declared.slots.slot.Mark.TheVariants.{Changed}
+use Rattle.chunk_owner.proofs.OfSlots.StillTold.{change_said, unchanged_said}
+use Rattle.chunk_owner.proofs.slots.changing.change.Goals as goal
+
+pub returns-in_err-reply-clause-says : goal.returns-in_err-reply-clause-says
+returns-in_err-reply-clause-says c = λ id held. unchanged_said c.args.slot.now c.change.new.object id held c.requires.live c.change.ensures.tracked c.in_err-reply.ensures.acts
+
+pub returns-clause-says : goal.returns-clause-says
+returns-clause-says c = λ id held.
+    change_said c.args.op.now c.args.slot.now c.change.new.object c.in_ok-reply.reply c.mark_after-slot.result id held c.refusals_leave_the_object.ensures.change c.in_ok-reply.ensures.acts.0 c.in_ok-reply.ensures.acts.1
+    (c.mark_after-slot.ensures ∙ ap (λ b. cond b Changed c.args.slot.now.mark) c.is_outdated.ensures) c.requires.live c.change.ensures.tracked

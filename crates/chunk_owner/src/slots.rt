@@ -1,0 +1,23 @@
+//! The objects of a lane, and what the next cut writes of each: records of those that were made, changed or removed
+//! since the last cut, and of the chunks that changed.
+
+mod changing;
+mod chunks;
+mod cuts;
+mod forgetting;
+mod holding;
+mod laws;
+mod objects;
+mod placing;
+mod seen;
+mod settling;
+mod slot;
+
+pub use changing::{change, change_at, link_at, link_made};
+pub use cuts::cut;
+pub use forgetting::forget;
+pub use holding::are_described;
+pub use laws::records_describe;
+pub use placing::{put, remove};
+pub use seen::{is_held, next_id, object};
+pub use slot::{Mark, Slot};

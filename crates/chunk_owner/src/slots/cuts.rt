@@ -1,0 +1,136 @@
+//! Cuts of all objects of a lane.
+
+ghost use Rattle.std.specs.Prelude.{◌≡◌, ◌≢◌, ◌⊎◌, ℕ, List, true, false, OnOk, OnErr};
+ghost use Rattle.std.specs.FinMap.{get};
+ghost use Rattle.flush_journal.specs.Batches.{records};
+ghost use Rattle.flush_journal.specs.Records.{Held};
+ghost use Rattle.object_acts.specs.Objects.{IsOfKind, kind_of_body};
+ghost use Rattle.object_ids.specs.IdValues.{Id};
+ghost use Rattle.object_ids.specs.Ids.{InRange};
+ghost use Rattle.flush_journal.specs.Cuts.Cuts.{AppendsEach, IsCut};
+ghost use Rattle.object_records.specs.Keys.Keys.{object_key};
+ghost use Rattle.chunk_owner.specs.Slots.Slots.{AreOfKind, AreStill, IsMarked, Says, object_of};
+ghost use Rattle.chunk_owner.specs.Slots.Bodies.{IsSlotRecord};
+ghost use Rattle.chunk_owner.specs.Slots.Cutting.{AddsAt, AddsChunksIn, AddsFront, AddsFrontAt, AddsSlot};
+ghost use Rattle.chunk_owner.specs.Slots.Settled.{Settles};
+
+use crate::slots::chunks::cut_chunks;
+use crate::slots::objects::cut_object;
+use crate::slots::settling::settle_at;
+use crate::slots::slot::{Mark, Slot};
+use flush_journal::Batch;
+use object_acts::Body;
+use object_ids::{IdMap, ObjectId};
+use object_records::keys::object_key;
+use std::alloc::{AllocError, Global};
+
+/// Appends the records of what changed since the last cut, and takes it as kept: what is held then says of each id what
+/// stands there.
+///
+/// # Errors
+///
+/// Only where memory runs out. Then the objects of some first ids are cut, and the records of the next one perhaps in
+/// part; what was appended stays in the batch, and the marks of what is not cut stay.
+pub fn cut(alloc: Global, slots: &mut IdMap<Slot>, into: &mut Batch) -> Result<(), AllocError>
+    requires { AreOfKind slots.old }
+    ensures cut { (base : Held) → IsCut (IsMarked slots.old) base
+        (records into.old) (records into.new)
+        (λ held. (id : Id) → InRange id → Says (get slots.old id) id base
+        → Says (get slots.new id) id held) }
+    ensures bodies { AppendsEach (IsSlotRecord slots.old) (records into.old) (records into.new) }
+    ensures still { OnOk result (AreStill slots.new) }
+    ensures each { (id : Id) → (get slots.new id ≡ get slots.old id)
+        ⊎ Settles (get slots.old id) (get slots.new id) }
+    ensures marks { (key : List ℕ) → IsMarked slots.new key → IsMarked slots.old key }
+    ensures same { (id : Id) → object_of (get slots.new id) ≡ object_of (get slots.old id) }
+    ensures kinds { AreOfKind slots.new }
+{
+    let mut last = None;
+    while let Some(id) = slots.next_id(last.as_ref()) {
+        cut_at(alloc, slots, &id, into)?;
+        last = Some(id);
+    }
+    Ok(())
+}
+
+// Cuts the object of an id.
+fn cut_at(
+    alloc: Global,
+    slots: &mut IdMap<Slot>,
+    id: &ObjectId,
+    into: &mut Batch,
+) -> Result<(), AllocError>
+    requires { AreOfKind slots.old }
+    ensures range { InRange id.now }
+    ensures added { OnOk result (AddsAt id.now (get slots.old id.now)
+        (records into.old) (records into.new)) }
+    ensures settled { OnOk result (Settles (get slots.old id.now) (get slots.new id.now)) }
+    ensures others { OnOk result ((other : Id) → other ≢ id.now
+        → get slots.new other ≡ get slots.old other) }
+    ensures front { OnErr result (AddsFrontAt id.now (get slots.old id.now)
+        (records into.old) (records into.new)) }
+    ensures same { OnErr result (slots.new ≡ slots.old) }
+{
+    let key = object_key(id);
+    append_at(alloc, slots, id, key.as_slice(), into)?;
+    settle_at(slots, id);
+    Ok(())
+}
+
+// Appends the records of the object of an id, whose key this is.
+fn append_at(
+    alloc: Global,
+    slots: &IdMap<Slot>,
+    id: &ObjectId,
+    key: &[u8],
+    into: &mut Batch,
+) -> Result<(), AllocError>
+    requires kinds { AreOfKind slots.now }
+    requires key { key.now ≡ object_key id.now }
+    ensures added { OnOk result (AddsAt id.now (get slots.now id.now)
+        (records into.old) (records into.new)) }
+    ensures front { OnErr result (AddsFrontAt id.now (get slots.now id.now)
+        (records into.old) (records into.new)) }
+{
+    match slots.get(id) {
+        Some(slot) => append_slot(alloc, id, key, slot, into),
+        None => Ok(()),
+    }
+}
+
+// Appends the records of an object.
+fn append_slot(
+    alloc: Global,
+    id: &ObjectId,
+    key: &[u8],
+    slot: &Slot,
+    into: &mut Batch,
+) -> Result<(), AllocError>
+    requires kind { IsOfKind id.now.kind slot.now.object }
+    requires key { key.now ≡ object_key id.now }
+    ensures added { OnOk result (AddsSlot id.now slot.now (records into.old) (records into.new)) }
+    ensures front { OnErr result (AddsFront id.now slot.now (records into.old) (records into.new)) }
+{
+    cut_object(alloc, key, slot, into)?;
+    append_chunks(alloc, id, slot.mark, &slot.object.body, into)
+}
+
+// Appends the records of a body's chunks, where it has any.
+fn append_chunks(
+    alloc: Global,
+    id: &ObjectId,
+    mark: Mark,
+    body: &Body,
+    into: &mut Batch,
+) -> Result<(), AllocError>
+    requires { kind_of_body body.now ≡ id.now.kind }
+    ensures added { OnOk result (AddsChunksIn id.now mark body.now true
+        (records into.old) (records into.new)) }
+    ensures front { OnErr result (AddsChunksIn id.now mark body.now false
+        (records into.old) (records into.new)) }
+{
+    match body {
+        Body::Dataset(array) => cut_chunks(alloc, id, mark, array, into),
+        Body::Group(_) | Body::Datatype(_) => Ok(()),
+    }
+}

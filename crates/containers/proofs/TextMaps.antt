@@ -1,0 +1,6 @@
+pub mod KeyedMaps
+pub mod TreeMaps
+pub mod ValueMaps
+pub mod Walks
+pub mod Fronts
+pub mod Lending

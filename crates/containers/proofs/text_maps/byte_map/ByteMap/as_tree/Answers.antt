@@ -1,0 +1,7 @@
+use Rattle.std.proofs.Common.{ap, sym, ◌∙◌, vec_items}
+use Rattle.std.specs.FinMap as map
+use Rattle.containers.proofs.TextMaps.KeyedMaps.{entries-keyed}
+use Rattle.containers.proofs.text_maps.byte_map.ByteMap.as_tree.Goals as goal
+
+pub returns : goal.returns
+returns g c = ap map.entries (sym c.self.view_is) ∙ entries-keyed vec_items c.self.inside.entries.entries c.len-count.ensures.ordered

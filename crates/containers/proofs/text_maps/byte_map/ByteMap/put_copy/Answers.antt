@@ -1,0 +1,16 @@
+use Rattle.std.proofs.Common.{ap, sym, ◌∙◌, vec_items}
+use Rattle.std.specs.FinMap as map
+use Rattle.containers.proofs.TextMaps.KeyedMaps.{get-keyed, insert-keyed, on_err}
+use Rattle.containers.proofs.text_maps.byte_map.ByteMap.put_copy.Goals as goal
+
+pub returns-in_err-copy-in-Some-clause-absent : goal.returns-in_err-copy-in-Some-clause-absent
+returns-in_err-copy-in-Some-clause-absent g c =
+    on_err c.from_residual.result
+    (ap (λ m. map.get m c.args.key.now) (sym c.self.view_is)
+    ∙ get-keyed vec_items c.self.inside.entries.entries c.args.key.now
+    ∙ c.in-Some.ensures.absent)
+
+pub returns-in-None-clause-ok : goal.returns-in-None-clause-ok
+returns-in-None-clause-ok g c =
+    insert-keyed vec_items c.self.inside.entries c.replace.new.entries c.args.key.now c.args.value c.in-None.ensures.there
+    ∙ ap (λ m. map.insert m c.args.key.now c.args.value) c.self.view_is

@@ -1,0 +1,6 @@
+use Rattle.std.proofs.Common.{string_bytes}
+use Rattle.containers.proofs.TextMaps.Lending.{lent-keyed}
+use Rattle.containers.proofs.text_maps.text_map.TextMap.get_mut.Goals as goal
+
+pub returns : goal.returns
+returns g c = lent-keyed string_bytes c.self.inside.entries c.args.self.now c.self.view_is c.args.key.now c.get_mut.result c.get_mut.follows.lender c.get_mut.follows.lender-at-none c.get_mut.ensures.value c.get_mut.follows.holds c.get_mut.follows.holds-at-none

@@ -1,2 +1,0 @@
-mod CreationLemmas
-mod SpelledLemmas

@@ -1,5 +1,0 @@
-use Rattle.described_worlds.proofs.RegisterLemmas.{registers_are_one, registers_stand}
-use Rattle.described_worlds.proofs.laws.described_registers_stand.Goals as goal
-
-pub returns : goal.returns
-returns c = record { faultless = registers_stand; one = registers_are_one }

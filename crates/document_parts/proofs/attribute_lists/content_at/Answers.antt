@@ -1,5 +1,0 @@
-use Rattle.document_parts.proofs.ToldLemmas.{attribute_told}
-use Rattle.document_parts.proofs.attribute_lists.content_at.Goals as goal
-
-pub returns-in-Err-clause-exact : goal.returns-in-Err-clause-exact
-returns-in-Err-clause-exact c = attribute_told _ c.in-Err.fault _ c.told.result c.in-Err.ensures.first c.told.ensures

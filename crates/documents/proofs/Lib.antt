@@ -1,0 +1,3 @@
+pub mod OfDomains
+pub mod OfParts
+pub mod OfReader

@@ -1,0 +1,7 @@
+pub mod TargetLemmas
+pub mod ToldLemmas
+pub mod TitleLemmas
+pub mod ArrayLemmas
+pub mod PlaceLemmas
+pub mod ListedLemmas
+pub mod SpelledLemmas

@@ -1,0 +1,4 @@
+pub mod CollectionLemmas
+pub mod ParseLemmas
+pub mod ObjectLemmas
+pub mod DocumentLemmas

@@ -1,0 +1,13 @@
+use Rattle.serde_json.specs.View.{view}
+use Rattle.documents.specs.Reader.Documents.{tree_doc}
+use Rattle.documents.specs.Reader.Loads.{Loads}
+use Rattle.documents.proofs.OfReader.DocumentLemmas.{gives_loads, gives_only, tree_complete, tree_sound}
+use Rattle.documents.proofs.reader.reading.read_tree.Goals as goal
+
+pub returns-clause-loads : goal.returns-clause-loads
+returns-clause-loads c =
+    let tree = view c.args.tree.now in
+    gives_loads c.read_parts.result (tree_doc tree) (Loads tree) (tree_sound tree) c.read_parts.ensures
+
+pub returns-clause-only : goal.returns-clause-only
+returns-clause-only c = λ l h. gives_only c.read_parts.result (tree_doc (view c.args.tree.now)) l c.read_parts.ensures (tree_complete (view c.args.tree.now) l h)

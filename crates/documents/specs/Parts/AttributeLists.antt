@@ -1,0 +1,71 @@
+-- The attributes of an object of a document: the first fault in the stated order.
+use Rattle.std.specs.Prelude.{◌≡◌, ℕ, List, Option, Result, Ok, Err, codes, decimal}
+use Rattle.std.specs.FinMap.{empty, insert}
+use Rattle.serde_json.specs.Data.{Data, Members}
+use Rattle.json_trees.specs.Faults.{◌>>=◌}
+use Rattle.json_trees.specs.Trees.{text_at}
+use Rattle.hdf_types.specs.declared.types.ElemType.{ElemType}
+use Rattle.hdf_types.specs.declared.types.ElemType.TheVariants.{Int, Text, Compound}
+use Rattle.hdf_types.specs.Elems.{Elem}
+use Rattle.hdf_types.specs.Elems as elems
+use Rattle.hdf_values.specs.Attributes.{Content, attribute_of}
+use Rattle.hdf_values.specs.declared.attributes.Attribute.{Attribute}
+use Rattle.hdf_values.specs.declared.attributes.AttributeFault.{AttributeFault}
+use Rattle.hdf_values.specs.declared.attributes.AttributeFault.TheVariants as attributes
+use Rattle.attributes.specs.AttributeMaps.{AttributeMap, most_attributes}
+use Rattle.documents.specs.Parts.Faults.{Fault, Tells, fault}
+use Rattle.documents.specs.Parts.Items.{listed_at, members_at}
+use Rattle.documents.specs.Parts.Names.{new_name}
+use Rattle.documents.specs.Parts.Paths.{under}
+use Rattle.documents.specs.declared.parts.faults.DocCause.TheVariants.{BadType, BadShape, BadValue, Limit}
+use Rattle.documents.specs.declared.parts.faults.DocFault.{DocFault}
+use Rattle.documents.specs.declared.parts.faults.DocFault.TheVariants.{NoMemory}
+
+-- a type as plain data, as what holds it
+abbrev pub held : Elem → ElemType
+held (elems.int t) = Int t
+held (elems.text t) = Text t
+held (elems.compound fs) = Compound fs
+
+abbrev pub attribute : Content → Attribute
+attribute c = record { elem = held c.kind; shape = c.shape; bytes = c.bytes }
+
+-- the fault of an attribute stands at the key that is missing or wrong; a value with too many bytes passes a limit
+abbrev pub attribute_fault : List ℕ → AttributeFault → Fault
+attribute_fault path attributes.NoMemory = fault path BadValue
+attribute_fault path (attributes.BadType f) = fault (under path (codes "type")) BadType
+attribute_fault path (attributes.BadShape f) = fault (under path (codes "shape")) BadShape
+attribute_fault path attributes.TooLarge = fault (under path (codes "value")) Limit
+attribute_fault path (attributes.BadValue f) = fault (under path (codes "value")) BadValue
+
+-- what is told of the fault of a call
+abbrev pub IsToldOf : List ℕ → AttributeFault → DocFault → Type 0
+IsToldOf path attributes.NoMemory e = e ≡ NoMemory
+IsToldOf path (attributes.BadType f) e = Tells e (attribute_fault path (attributes.BadType f))
+IsToldOf path (attributes.BadShape f) e = Tells e (attribute_fault path (attributes.BadShape f))
+IsToldOf path attributes.TooLarge e = Tells e (attribute_fault path attributes.TooLarge)
+IsToldOf path (attributes.BadValue f) e = Tells e (attribute_fault path (attributes.BadValue f))
+
+abbrev pub attribute_or : List ℕ → Result Content AttributeFault → Result Attribute Fault
+attribute_or path (Ok c) = Ok (attribute c)
+attribute_or path (Err f) = Err (attribute_fault path f)
+
+-- its type, its shape, its size and its value
+abbrev pub content_at : List ℕ → Data → Result Attribute Fault
+content_at path d = attribute_or path (attribute_of d)
+
+-- one attribute more
+unfoldable pub attribute_at : List ℕ → AttributeMap → Data → Result AttributeMap Fault
+attribute_at path m d =
+    members_at path d >>= λ (ms : Members).
+    new_name (under path (codes "name")) m (text_at (codes "name") d) >>= λ (name : List ℕ).
+    content_at path d >>= λ (a : Attribute).
+    Ok (insert m name a)
+
+-- the same at an index of a list
+abbrev pub attribute_step : List ℕ → ℕ → AttributeMap → Data → Result AttributeMap Fault
+attribute_step path i m d = attribute_at (under path (decimal i)) m d
+
+-- the attributes of a list at a path; an absent one has none
+unfoldable pub attributes_at : List ℕ → Option Data → Result AttributeMap Fault
+attributes_at path o = listed_at most_attributes path (attribute_step path) empty o

@@ -1,0 +1,5 @@
+pub mod Objects
+pub mod Collections
+pub mod Texts
+pub mod Documents
+pub mod Loads

@@ -1,0 +1,16 @@
+//! The document of a domain: all its objects as one JSON tree, and as text (HDF5/JSON specification).
+
+mod collections;
+mod entries;
+mod home;
+mod laws;
+mod links;
+mod printed;
+mod store;
+
+pub use collections::domain_json;
+pub use entries::entry_json;
+pub use home::Home;
+pub use laws::{collections_by_ids, documents_have_no_floats};
+pub use printed::{MAX_TEXT, PrintFault, Printed, print_domain};
+pub use store::ObjectStore;

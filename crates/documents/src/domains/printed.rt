@@ -1,0 +1,70 @@
+//! A document with its text.
+
+ghost use Rattle.std.specs.Prelude.{◌≡◌, ◌<◌, ◌≤◌, ◌^◌, Err, IfOk, length};
+ghost use Rattle.serde_json.specs.Written.{compact_text};
+ghost use Rattle.documents.specs.Domains.Documents.{document_tree};
+ghost use Rattle.documents.specs.Domains.Printed.{IsPrinted};
+
+use crate::domains::collections::domain_json;
+use crate::domains::home::Home;
+use crate::domains::laws::documents_have_no_floats;
+use crate::domains::store::ObjectStore;
+use serde_json::Value;
+use std::alloc::{AllocError, Global};
+
+/// The most bytes of a document's text: 2^27.
+pub const MAX_TEXT: usize = 134_217_728;
+
+/// A document, and its compact text.
+#[derive(Drop)]
+pub struct Printed {
+    /// The document.
+    pub tree: Value,
+    /// Its compact text.
+    pub text: String,
+}
+
+/// Why a document is not printed.
+#[derive(Clone, Copy, Debug, PartialEq, Eq)]
+pub enum PrintFault {
+    /// Its compact text has more than [`MAX_TEXT`] bytes.
+    TooLarge,
+    /// There was no memory.
+    NoMemory,
+}
+
+impl From<AllocError> for PrintFault {
+    ghost use Rattle.documents.specs.declared.domains.printed.PrintFault.TheVariants.{NoMemory};
+
+    ghost from_gives = { λ _ e. e ≡ NoMemory };
+
+    fn from(_error: AllocError) -> PrintFault {
+        PrintFault::NoMemory
+    }
+}
+
+/// The document of a domain with its text, where that isn't too long.
+///
+/// # Errors
+///
+/// [`PrintFault::TooLarge`] exactly where the text has more than [`MAX_TEXT`] bytes, or [`PrintFault::NoMemory`] where memory
+/// runs out.
+pub fn print_domain<S: ObjectStore>(
+    alloc: Global,
+    store: &S,
+    home: &Home,
+) -> Result<Printed, PrintFault>
+    ensures printed { IfOk result (IsPrinted (document_tree (S.objects store.now) home.now)) }
+    ensures short { IfOk result
+        (λ _. length (compact_text (document_tree (S.objects store.now) home.now)) ≤ 2 ^ 27) }
+    ensures large { result ≡ Err PrintFault.TooLarge
+        → 2 ^ 27 < length (compact_text (document_tree (S.objects store.now) home.now)) }
+{
+    documents_have_no_floats();
+    let tree = domain_json(alloc, store, home)?;
+    let text = tree.to_string(alloc)?;
+    if text.len() > MAX_TEXT {
+        return Err(PrintFault::TooLarge);
+    }
+    Ok(Printed { tree, text })
+}

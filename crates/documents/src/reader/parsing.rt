@@ -1,0 +1,41 @@
+//! The tree of a document's text.
+
+ghost use Rattle.std.specs.Prelude.{◌≡◌};
+ghost use Rattle.serde_json.specs.View.{view};
+ghost use Rattle.documents.specs.Parts.Faults.{Reads};
+ghost use Rattle.documents.specs.Reader.Texts.{IsJsonFault, json_at, text_tree};
+
+use crate::parts::{DocCause, DocFault, refused};
+use crate::reader::MAX_DOCUMENT;
+use serde_json::{Error, Value};
+use std::alloc::Global;
+
+// The tree of a text that is short enough.
+pub(crate) fn parse(alloc: Global, text: &[u8]) -> Result<Value, DocFault>
+    ensures { Reads view result (text_tree text.now) }
+{
+    if text.len() <= MAX_DOCUMENT {
+        json(alloc, text)
+    } else {
+        Err(refused(alloc, "", DocCause::TooLong))
+    }
+}
+
+fn json(alloc: Global, text: &[u8]) -> Result<Value, DocFault>
+    ensures { Reads view result (json_at text.now) }
+{
+    match Value::from_slice(alloc, text) {
+        Ok(tree) => Ok(tree),
+        Err(error) => Err(json_fault(alloc, error)),
+    }
+}
+
+fn json_fault(alloc: Global, error: Error) -> DocFault
+    ensures { IsJsonFault error result }
+{
+    if error.is_memory() {
+        DocFault::NoMemory
+    } else {
+        refused(alloc, "", DocCause::BadJson)
+    }
+}

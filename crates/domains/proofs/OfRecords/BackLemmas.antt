@@ -1,0 +1,141 @@
+-- The members that an access list is printed as read as the list.
+use Rattle.std.proofs.Common.{◌≡◌, ℕ, suc, ◌≤◌, List, [], ◌∷◌, ◌++◌, length, T, Bool, true, false, cond, ◌&&◌, nat_le, Option, Some, None, option_map, option_and_then, Ordering, Less, is_eq, is_lt, refl, sym, ap, subst, arith, append_assoc, append-nil, ◌∙◌}
+use Rattle.std.specs.Cmp.{Equal-is}
+use Rattle.std.specs.Ordering.{eq_by_cmp, ordering_reverse}
+use Rattle.std.specs.FinMap.{entries, entries_sorted, find, from_entries, from_entries_push, from_sorted, entries-from_sorted, get-entries, get-from_entries, get-from_sorted, is_sorted, len-entries, same_map}
+use Rattle.std.specs.FinMap.Entries.{below_all, find-append}
+use Rattle.std.specs.List.{AllByRecursion}
+use Rattle.std.proofs.lemmas.Bool.{le-leb}
+use Rattle.std.proofs.lemmas.Cmp.{nat_list_cmp_total, tied_itself}
+use Rattle.serde_json.specs.Data.{depth, members_depth}
+use Rattle.json_trees.specs.Trees.{all_in}
+use Rattle.containers.specs.TextMaps.Keyed.{text_order}
+use Rattle.containers.proofs.TextMaps.KeyedMaps.{exact_texts}
+use Rattle.containers.proofs.TextMaps.Walks.{found_above, halves, less}
+use Rattle.object_ids.specs.Names.{is_name}
+use Rattle.access_lists.specs.EntryTrees.{entry_members, entry_tree, list_tree}
+use Rattle.access_lists.specs.InForce.{Entries}
+use Rattle.access_lists.specs.Lists.{IsList}
+use Rattle.access_lists.specs.declared.rights.Rights.{Rights}
+use Rattle.domains.proofs.OfRecords.TidyLemmas.{Above, IsRising}
+use Rattle.domains.specs.Records.Lists.{entry_in, entry_of, list_in, map_of, only_if, pairs_of, with_entries}
+
+abbrev pub Row : Type 0
+Row = List ℕ × Rights
+
+unlike : (x y : List ℕ) → text_order x y ≡ Less → eq_by_cmp text_order y x ≡ false
+unlike x y e = ap is_eq (nat_list_cmp_total.antisymm y x ∙ ap ordering_reverse e)
+
+-- ---- entries put in their order make the map
+
+-- no name of the second rows is one of the first
+Apart : List Row → List Row → Type 0
+Apart done [] = Unit {0}
+Apart done (e ∷ es) = (find text_order e.0 done ≡ None) × Apart done es
+
+apart_empty : (es : List Row) → Apart [] es
+unfolding Apart
+apart_empty [] = tt
+apart_empty (e ∷ es) = (refl, apart_empty es)
+
+apart_push : (done : List Row) (e : Row) (es : List Row) → find text_order e.0 done ≡ None → T (below_all text_order e.0 es) → Apart done es → Apart (done ++ e ∷ []) es
+unfolding Apart
+apart_push done e [] none low apart = tt
+apart_push done e (f ∷ fs) none low apart =
+    let more : find text_order f.0 (done ++ e ∷ []) ≡ cond (eq_by_cmp text_order f.0 e.0) (Some e.1) (find text_order f.0 done) = find-append text_order nat_list_cmp_total done e.0 e.1 f.0 none in (
+      more ∙ ap (λ b. cond b (Some e.1) (find text_order f.0 done)) (unlike e.0 f.0 (less _ (halves _ _ low).0)) ∙ apart.0,
+      apart_push done e fs none (halves _ _ low).1 apart.1,
+    )
+
+put_on : (done es : List Row) → T (is_sorted text_order es) → Apart done es → with_entries (from_entries done) es ≡ from_entries (done ++ es)
+unfolding Apart
+put_on done [] rising apart = ap (λ rows. from_entries {R = text_order} rows) (sym (append-nil done))
+put_on done (e ∷ es) rising apart =
+    ap (λ (m : Entries). with_entries m es) (sym (from_entries_push nat_list_cmp_total exact_texts done e.0 e.1 apart.0))
+    ∙ put_on (done ++ e ∷ []) es (halves _ _ rising).1 (apart_push done e es apart.0 (halves _ _ rising).0 apart.1)
+    ∙ ap (λ rows. from_entries {R = text_order} rows) (append_assoc done (e ∷ []) es)
+
+map_back : (m : Entries) → map_of (entries m) ≡ m
+map_back m =
+    put_on [] (entries m) (entries_sorted m) (apart_empty (entries m))
+    ∙ same_map nat_list_cmp_total exact_texts _ _ (λ q. get-from_entries nat_list_cmp_total (entries m) q ∙ sym (get-entries m q))
+
+-- ---- each member is an entry
+
+abbrev pub AreNamed : List Row → Type 0
+AreNamed es = AllByRecursion (λ e. is_name (length e.0) e.0 ≡ true) es
+
+each_found : (es : List Row) → T (is_sorted text_order es) → ((k : List ℕ) (v : Rights) → find text_order k es ≡ Some v → is_name (length k) k ≡ true) → AreNamed es
+each_found [] rising held = tt
+each_found (e ∷ es) rising held = (
+  held e.0 e.1 (ap (λ r. cond (is_eq r) (Some e.1) (find text_order e.0 es)) (tied_itself nat_list_cmp_total e.0)),
+  each_found es (halves _ _ rising).1 (λ k v f. held k v (ap (λ b. cond b (Some e.1) (find text_order k es)) (unlike e.0 k (found_above nat_list_cmp_total e.0 k es v (halves _ _ rising).0 f)) ∙ f)),
+)
+
+row_back : (e : Row) → is_name (length e.0) e.0 ≡ true → entry_of (e.0, entry_tree e.1) ≡ Some e
+row_back e named = ap (λ (b : Bool). option_and_then (λ name. option_map (λ entry. (name, entry)) (entry_in (entry_tree e.1))) (only_if b (Some e.0))) named
+
+rows_back : (es : List Row) → AreNamed es → all_in entry_of (pairs_of (entry_members es)) ≡ Some es
+rows_back [] named = refl
+rows_back (e ∷ es) named =
+    ap (λ (o : Option Row). option_and_then (λ y. option_map (λ ys. y ∷ ys) (all_in entry_of (pairs_of (entry_members es)))) o) (row_back e named.0)
+    ∙ ap (option_map (λ ys. e ∷ ys)) (rows_back es named.1)
+
+pub length-members : (es : List Row) → length (pairs_of (entry_members es)) ≡ length es
+length-members [] = refl
+length-members (e ∷ es) = ap suc (length-members es)
+
+-- a list is read back
+pub list_back : (list : Entries) → IsList list → list_in (list_tree list) ≡ Some list
+list_back list held =
+    let rows = entries list in
+    let named = each_found rows (entries_sorted list) (λ k v f. held.names k v (get-entries list k ∙ f)) in
+    let few : nat_le (length (pairs_of (entry_members rows))) 1024 ≡ true = le-leb _ 1024 (omega (arith, length-members rows, len-entries list, held.few)) in
+    ap (λ (b : Bool). only_if b (option_map map_of (all_in entry_of (pairs_of (entry_members rows))))) few
+    ∙ ap (option_map map_of) (rows_back rows named) ∙ ap Some (map_back list)
+
+-- ---- rows in order are the entries of their map
+
+rows_rise : (es : List Row) → IsRising (entry_members es) → T (is_sorted text_order es)
+rows_rise [] up = tt
+rows_rise (e ∷ es) up = together (below_all text_order e.0 es) (is_sorted text_order es) (all_below es up.0) (rows_rise es up.1) where
+  together : (a b : Bool) → T a → T b → T (a && b)
+  together true b p q = q
+  together false b p q = absurd p
+
+  all_below : (fs : List Row) → Above e.0 (entry_members fs) → T (below_all text_order e.0 fs)
+  all_below [] h = tt
+  all_below (f ∷ fs) h = together (is_lt (text_order e.0 f.0)) (below_all text_order e.0 fs) (subst (λ (o : Ordering). T (is_lt o)) (sym h.0) tt) (all_below fs h.1)
+
+rows_of_map : (es : List Row) → T (is_sorted text_order es) → entries (map_of es) ≡ es
+rows_of_map es rising =
+    let sorted : map_of es ≡ from_sorted es =
+    put_on [] es rising (apart_empty es)
+    ∙ same_map nat_list_cmp_total exact_texts _ _ (λ q. get-from_entries nat_list_cmp_total es q ∙ sym (get-from_sorted text_order es q rising)) in
+    ap entries sorted ∙ entries-from_sorted text_order es rising
+
+found_named : (es : List Row) (q : List ℕ) (entry : Rights) → AreNamed es → find text_order q es ≡ Some entry → is_name (length q) q ≡ true
+found_named [] q entry named there = let both : None ≡ Some entry = there in absurd (cc)
+found_named (e ∷ es) q entry named there = at (eq_by_cmp text_order q e.0) refl (found_named es q entry named.1) there where
+  at : (b : Bool) → eq_by_cmp text_order q e.0 ≡ b → (find text_order q es ≡ Some entry → is_name (length q) q ≡ true) → cond b (Some e.1) (find text_order q es) ≡ Some entry → is_name (length q) q ≡ true
+  at true is rest h = subst (λ (t : List ℕ). is_name (length t) t ≡ true) (sym (exact_texts q e.0 ((Equal-is (text_order q e.0)).0 is))) named.0
+  at false is rest h = rest h
+
+pub list_of_rows : (es : List Row) → IsRising (entry_members es) → AreNamed es → length es ≤ 1024 → (entries (map_of es) ≡ es) × IsList (map_of es)
+list_of_rows es up named few =
+    let back = rows_of_map es (rows_rise es up) in (
+      back,
+      record {
+        few = omega (arith, few, ap length back, len-entries (map_of es));
+        names = λ q entry there. found_named es q entry named (ap (find text_order q) (sym back) ∙ sym (get-entries (map_of es) q) ∙ there);
+      },
+    )
+
+-- ---- depths
+
+members_flat : (es : List Row) → members_depth (entry_members es) ≤ 1
+members_flat [] = omega arith
+members_flat (e ∷ es) = omega (arith, members_flat es)
+
+pub list_flat : (list : Entries) → depth (list_tree list) ≤ 2
+list_flat list = omega (arith, members_flat (entries list))

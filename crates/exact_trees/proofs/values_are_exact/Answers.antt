@@ -1,5 +1,0 @@
-use Rattle.exact_trees.proofs.Floats.{element_exact, nested_exact, value_exact}
-use Rattle.exact_trees.proofs.values_are_exact.Goals as goal
-
-pub returns : goal.returns
-returns c = record { element = element_exact; nested = nested_exact; value = value_exact }

@@ -1,5 +1,0 @@
-use Rattle.journal_keeping.proofs.Backing.{each_image}
-use Rattle.journal_keeping.proofs.laws.images_are_kept.Goals as goal
-
-pub returns : goal.returns
-returns g c = λ j building world worlds backed image left. each_image g.W.Kept.tells j building (g.W.Kept.says world) worlds backed image left

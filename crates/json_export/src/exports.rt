@@ -1,0 +1,90 @@
+//! The document of a domain.
+
+ghost use Rattle.std.specs.Prelude.{◌≡◌, ◌↔◌, ◌≤◌, ◌^◌, Some, None, Err, IfOk, length, string_bytes};
+ghost use Rattle.serde_json.specs.View.{view};
+ghost use Rattle.serde_json.specs.Written.{compact_text};
+ghost use Rattle.documents.specs.Domains.Documents.{document_tree};
+ghost use Rattle.documents.specs.Domains.Printed.{IsPrinted};
+ghost use Rattle.service_core.specs.Worlds.{seen};
+ghost use Rattle.json_export.specs.Documents.{Answers, IsReadAs, IsTextOf, IsTooLong, doc};
+ghost use Rattle.json_export.specs.Documents.{home_at, home_of};
+
+use crate::faults::ExportFault;
+use crate::worlds::Held;
+use documents::domains::{Home, Printed, print_domain};
+use domains::NodeClass;
+use object_ids::DomainPath;
+use serde_json::Value;
+use service_core::World;
+use std::alloc::Global;
+
+/// The document of the domain at a path: all objects of the domain, and the root, each at the text of its id.
+///
+/// # Errors
+///
+/// [`ExportFault::NoDomain`] exactly where no domain is at the path; [`ExportFault::TooLarge`] exactly where the compact text of
+/// the document has more than [`crate::MAX_TEXT`] bytes; [`ExportFault::NoMemory`] only where memory runs out.
+pub fn document(alloc: Global, world: &World, path: &DomainPath) -> Result<Value, ExportFault>
+    ensures tree { IfOk result (λ tree. doc (seen world.now) path.now ≡ Some (view tree)) }
+    ensures short { IfOk result (λ tree. length (compact_text (view tree)) ≤ 2 ^ 27) }
+    ensures none { (result ≡ Err ExportFault.NoDomain) ↔ (doc (seen world.now) path.now ≡ None) }
+    ensures large { result ≡ Err ExportFault.TooLarge → IsTooLong (doc (seen world.now) path.now) }
+{
+    let Printed { tree, .. } = printed(alloc, world, path)?;
+    Ok(tree)
+}
+
+/// The compact text of that document, which is read as the document, where it nests no deeper than is read.
+///
+/// # Errors
+///
+/// Those of [`document`], and where it has them.
+pub fn document_text(alloc: Global, world: &World, path: &DomainPath) -> Result<String, ExportFault>
+    ensures text { IfOk result
+        (λ text. IsTextOf (string_bytes text) (doc (seen world.now) path.now)) }
+    ensures reads { IfOk result
+        (λ text. IsReadAs (string_bytes text) (doc (seen world.now) path.now)) }
+    ensures short { IfOk result (λ text. length (string_bytes text) ≤ 2 ^ 27) }
+    ensures none { (result ≡ Err ExportFault.NoDomain) ↔ (doc (seen world.now) path.now ≡ None) }
+    ensures large { result ≡ Err ExportFault.TooLarge → IsTooLong (doc (seen world.now) path.now) }
+{
+    let Printed { text, .. } = printed(alloc, world, path)?;
+    Ok(text)
+}
+
+// The document at a path with its text, where there is one that isn't too long.
+fn printed(alloc: Global, world: &World, path: &DomainPath) -> Result<Printed, ExportFault>
+    ensures { Answers (λ p tree. IsPrinted tree p) result (doc (seen world.now) path.now) }
+{
+    match home_at(world, path) {
+        Some(home) => domain_printed(alloc, world, &home),
+        None => Err(ExportFault::NoDomain),
+    }
+}
+
+// The domain at a path, where one is there.
+fn home_at(world: &World, path: &DomainPath) -> Option<Home>
+    ensures { result ≡ home_at (seen world.now) path.now }
+{
+    let node = world.node(path)?;
+    home_of(&node.class)
+}
+
+fn home_of(class: &NodeClass) -> Option<Home>
+    ensures { result ≡ home_of (Some class.now) }
+{
+    match class {
+        NodeClass::Folder => None,
+        NodeClass::Domain { number, root } => Some(Home {
+            number: *number,
+            root: *root,
+        }),
+    }
+}
+
+fn domain_printed(alloc: Global, world: &World, home: &Home) -> Result<Printed, ExportFault>
+    ensures { Answers (λ p tree. IsPrinted tree p) result
+        (Some (document_tree (seen world.now).objects home.now)) }
+{
+    Ok(print_domain(alloc, &Held { world }, home)?)
+}

@@ -1,5 +1,0 @@
-mod RootLemmas
-mod GroupLemmas
-mod RecordLemmas
-mod OpeningLemmas
-mod MakingLemmas

@@ -1,6 +1,0 @@
-pub mod Fronts
-pub mod LaneKeys
-pub mod Taking
-pub mod Walking
-pub mod Telling
-pub mod Standing

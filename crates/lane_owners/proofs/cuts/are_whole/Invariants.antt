@@ -1,7 +1,0 @@
-use Rattle.std.proofs.Common.{take}
-use Rattle.std.specs.List.{AllByRecursion}
-use Rattle.chunk_owner.specs.Lanes.{IsWhole}
-use Rattle.lane_owners.proofs.cuts.are_whole.Given as goal
-
-abbrev pub invariant-loop-owner : goal.invariant-loop-owner
-invariant-loop-owner l = AllByRecursion IsWhole (take l.owner-index l.owners)

@@ -1,7 +1,0 @@
-use Rattle.std.proofs.Common.{length}
-use Rattle.flush_journal.specs.Batches.{records}
-use Rattle.lane_owners.proofs.CutLemmas.{IsCutTo}
-use Rattle.lane_owners.proofs.cuts.cut_lanes.Given as goal
-
-abbrev pub invariant-loop-lane : goal.invariant-loop-lane
-invariant-loop-lane l = IsCutTo (length l.fn.owners) l.lane l.fn.owners l.owners (records l.fn.into) (records l.into)

@@ -1,9 +1,0 @@
-use Rattle.std.proofs.Common.{ap}
-use Rattle.http_wire.specs.Replies.{reply_text}
-use Rattle.link_service.proofs.StepLemmas.{written}
-use Rattle.link_service.proofs.writing.send_reply.Goals as goal
-
-pub returns-clause-sent : goal.returns-clause-sent
-returns-clause-sent g c =
-    written _ _ _ _ _ (ap (λ b. reply_text c.args.reply.now.status c.args.reply.now.extra b c.args.close) c.as_bytes.ensures)
-    c.write_reply.ensures.ok c.write_reply.ensures.err

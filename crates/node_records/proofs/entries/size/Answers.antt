@@ -1,7 +1,0 @@
-use Rattle.std.proofs.Common.{ap, sym, ◌∙◌}
-use Rattle.node_records.specs.Lists.{size_of}
-use Rattle.node_records.proofs.ReadLemmas.{length-rest_of}
-use Rattle.node_records.proofs.entries.size.Goals as goal
-
-pub returns-in-Some : goal.returns-in-Some
-returns-in-Some c = c.len.ensures.len ∙ sym (length-rest_of c.in-Some.members.now.entries) ∙ ap size_of c.in-Some.ensures

@@ -1,5 +1,0 @@
-use Rattle.std.proofs.Common.{sym}
-use Rattle.object_slots.proofs.cuts.append_at.Goals as goal
-
-pub append_slot-requires-clause-kind : goal.append_slot-requires-clause-kind
-append_slot-requires-clause-kind c = c.requires.kinds c.args.id.now c.in-Some.slot.now (sym c.in-Some.ensures)

@@ -1,0 +1,135 @@
+-- The keys of nodes, in the order of bytes, and the records in front of one.
+use Rattle.std.proofs.Common.{◌≡◌, ◌≢◌, ◌⊎◌, inl, inr, ℕ, suc, ◌+◌, ◌==◌, T, Bool, true, false, cond, ◌&&◌, List, [], ◌∷◌, ◌++◌, drop, get_or, take, Option, Some, None, IsSome, is_some, Ordering, Less, Equal, Greater, is_eq, nat_cmp, count_by, refl, sym, ap, ap₂, subst, ◌∙◌, arith}
+use Rattle.std.proofs.lemmas.Bool.{cases_eq, cond-false, cond-true, eq-eqb, eqb-true, ne_eqb}
+use Rattle.std.proofs.Math.Seq.{split_at}
+use Rattle.std.specs.Cmp.{nat_cmp_total}
+use Rattle.std.proofs.lemmas.List.Sums.{sum_by-cons}
+use Rattle.std.specs.Cmp.Lexicographic.{nat_list_cmp_total}
+use Rattle.std.specs.FinMap.{entries, entries_sorted, find, get, get-from_entries, is_sorted}
+use Rattle.std.specs.FinMap.Entries.{below_all}
+use Rattle.std.specs.Ordering.{eq_by_cmp, ordering_then}
+use Rattle.std.proofs.lemmas.Cmp.{tied_itself}
+use Rattle.containers.specs.TextMaps.Keyed.{text_order}
+use Rattle.flush_journal.specs.Records.{Held, Record}
+use Rattle.object_ids.specs.Paths.{is_slash, path_of, parent_of, root_path, starts_with_slash}
+use Rattle.object_ids.proofs.PathLemmas.{IsLongPath, has_last_slash, is_path-from_path_of, parent_of-at, parent_of-none, path_cases}
+use Rattle.object_records.specs.Keys.Keys.{node_key}
+use Rattle.containers.specs.TextMaps.Fronts.{held_by}
+use Rattle.containers.proofs.TextMaps.Fronts.{below_part, first, none_some, same_key, second, some_is}
+use Rattle.containers.proofs.Passing.{by_bool, contrary}
+use Rattle.register.specs.Installed.Registers.{count_nodes, is_node_key}
+
+pub key_path : (a b : List ℕ) → node_key a ≡ node_key b → a ≡ b
+key_path a b e = cc
+
+pub key_order : (a b : List ℕ) → text_order (node_key a) (node_key b) ≡ text_order a b
+key_order a b = refl
+
+pub never_less : (q : List ℕ) → text_order q q ≡ Less → ⊥
+never_less q e = let c : Equal ≡ Less = sym (tied_itself nat_list_cmp_total q) ∙ e in cc
+
+heads : (x y : Record) (xs ys : List Record) → x ∷ xs ≡ y ∷ ys → x ≡ y
+heads x y xs ys e = cc
+
+tails : (x y : Record) (xs ys : List Record) → x ∷ xs ≡ y ∷ ys → xs ≡ ys
+tails x y xs ys e = cc
+
+-- a key that isn't a node's
+pub other_kind : (path key : List ℕ) → is_node_key key ≡ false → node_key path ≢ key
+other_kind path key isnt same = contrary (is_node_key key) ⊥ (ap is_node_key (sym same)) isnt
+
+-- ---- paths
+
+-- no path stands before `/`
+pub root_first : (path : List ℕ) → path_of path ≡ Some path → text_order path root_path ≡ Less → ⊥
+root_first path canonical low = at path (path_cases path (is_path-from_path_of path path canonical)) low where
+  after : (rest : List ℕ) → text_order rest [] ≡ Less → ⊥
+  after [] e = cc
+  after (b ∷ bs) e = cc
+
+  slash : (b : ℕ) (bs : List ℕ) → is_slash b ≡ true → text_order (b ∷ bs) root_path ≡ Less → ⊥
+  slash b bs is e = after bs (ap (λ o. ordering_then o (text_order bs [])) (sym (ap (λ x. nat_cmp x 47) (eqb-true b 47 is))) ∙ e)
+
+  long : (path : List ℕ) → starts_with_slash path ≡ true → text_order path root_path ≡ Less → ⊥
+  long [] is e = contrary false ⊥ is refl
+  long (b ∷ bs) is e = slash b bs is e
+
+  at : (path : List ℕ) → (path ≡ root_path) ⊎ IsLongPath path → text_order path root_path ≡ Less → ⊥
+  at path (inl root) e = never_less root_path (ap (λ q. text_order q root_path) (sym root) ∙ e)
+  at path (inr l) e = long path l.begins e
+
+-- any other path stands behind it
+pub root_before : (path : List ℕ) → path_of path ≡ Some path → path ≢ root_path → text_order root_path path ≡ Less
+root_before path canonical other = at path (path_cases path (is_path-from_path_of path path canonical)) other where
+  after : (bs : List ℕ) → (47 ∷ bs) ≢ root_path → text_order [] bs ≡ Less
+  after [] isnt = absurd (isnt refl)
+  after (b ∷ bs) isnt = refl
+
+  long : (path : List ℕ) → starts_with_slash path ≡ true → path ≢ root_path → text_order root_path path ≡ Less
+  long [] is isnt = contrary false _ is refl
+  long (b ∷ bs) is isnt =
+      let same : b ≡ 47 = eqb-true b 47 is in
+      ap (λ x. ordering_then (nat_cmp 47 x) (text_order [] bs)) same ∙ after bs (λ e. isnt (ap (λ x. x ∷ bs) same ∙ e))
+
+  at : (path : List ℕ) → (path ≡ root_path) ⊎ IsLongPath path → path ≢ root_path → text_order root_path path ≡ Less
+  at path (inl root) isnt = absurd (isnt root)
+  at path (inr l) isnt = long path l.begins isnt
+
+behind_front : (front : List ℕ) (b : ℕ) (rest : List ℕ) → text_order front (front ++ b ∷ rest) ≡ Less
+behind_front [] b rest = refl
+behind_front (p ∷ ps) b rest = ap (λ o. ordering_then o (text_order ps (ps ++ b ∷ rest))) (tied_itself nat_cmp_total p) ∙ behind_front ps b rest
+
+-- a path stands behind its parent
+pub parent_before : (path : List ℕ) → path_of path ≡ Some path → path ≢ root_path → text_order (parent_of path) path ≡ Less
+parent_before path canonical other = elim (has_last_slash path) [
+  | inl none ↦ at_root (parent_of-none path none)
+  | inr found ↦ elim (cases_eq found.0 0) [
+    | inl first ↦ at_root (parent_of-at path found.0 found.1 ∙ cond-true _ _ _ (eq-eqb found.0 0 first))
+    | inr later ↦
+        let e = parent_of-at path found.0 found.1 ∙ cond-false _ _ _ (ne_eqb found.0 0 later) in
+        ap (λ q. text_order q path) e ∙ ap (text_order (take found.0 path)) (split_at path found.0 0 found.1.within) ∙ behind_front (take found.0 path) (get_or path found.0 0) (drop (suc found.0) path)
+  ]
+] where
+  at_root : parent_of path ≡ root_path → text_order (parent_of path) path ≡ Less
+  at_root e = ap (λ q. text_order q path) e ∙ root_before path canonical other
+
+-- ---- counting
+
+pub count_more : (front : List Record) (e : Record) → count_nodes (front ++ e ∷ []) ≡ count_nodes front + cond (is_node_key e.0) 1 0
+count_more [] e = sum_by-cons (λ x. cond (is_node_key x.0) 1 0) e [] ∙ plus_none (cond (is_node_key e.0) 1 0) where
+  plus_none : (n : ℕ) → n + 0 ≡ 0 + n
+  plus_none n = omega arith
+count_more (x ∷ xs) e =
+    sum_by-cons (λ y. cond (is_node_key y.0) 1 0) x (xs ++ e ∷ []) ∙ ap (λ n. cond (is_node_key x.0) 1 0 + n) (count_more xs e)
+    ∙ shift (cond (is_node_key x.0) 1 0) (count_nodes xs) (cond (is_node_key e.0) 1 0)
+    ∙ ap (λ n. n + cond (is_node_key e.0) 1 0) (sym (sum_by-cons (λ y. cond (is_node_key y.0) 1 0) x xs)) where
+      shift : (a b c : ℕ) → a + (b + c) ≡ (a + b) + c
+      shift a b c = omega arith
+
+-- ---- records in front of one
+
+module _ (held : Held) (front rest : List Record) (e : Record) (split : entries held ≡ front ++ e ∷ rest) where
+  sorted_all : T (is_sorted text_order (front ++ e ∷ rest))
+  sorted_all = subst (λ (xs : List Record). T (is_sorted text_order xs)) split (entries_sorted held)
+
+  -- a record in front has a lesser key
+  pub front_less : (q body : List ℕ) → get (held_by front) q ≡ Some body → text_order q e.0 ≡ Less
+  front_less q body is = at front sorted_all (sym (get-from_entries nat_list_cmp_total front q) ∙ is) where
+    at : (xs : List Record) → T (is_sorted text_order (xs ++ e ∷ rest)) → find text_order q xs ≡ Some body → text_order q e.0 ≡ Less
+    at [] s f = absurd (none_some body f)
+    at (x ∷ xs) s f = by_bool (eq_by_cmp text_order q x.0) (text_order q e.0 ≡ Less)
+        (λ same. ap (λ k. text_order k e.0) (same_key q x.0 same) ∙ below_part x.0 xs e rest (first _ _ s))
+        (λ other. at xs (second (below_all text_order x.0 (xs ++ e ∷ rest)) _ s) (sym (ap (λ b. cond b (Some x.1) (find text_order q xs)) other) ∙ f))
+
+-- the records of a map are split at a key in one way
+pub one_split : (xs ys us vs : List Record) (k a b : List ℕ) → T (is_sorted text_order (xs ++ (k, a) ∷ us)) → xs ++ (k, a) ∷ us ≡ ys ++ (k, b) ∷ vs → xs ≡ ys
+one_split [] [] us vs k a b s e = refl
+one_split [] (y ∷ ys) us vs k a b s e =
+    let same : (k, a) ≡ y = heads (k, a) y us (ys ++ (k, b) ∷ vs) e in
+    let sorted : T (is_sorted text_order ((y ∷ ys) ++ (k, b) ∷ vs)) = subst (λ (zs : List Record). T (is_sorted text_order zs)) e s in
+    absurd (never_less k (ap (λ (r : Record). text_order r.0 k) same ∙ below_part y.0 ys (k, b) vs (first _ _ sorted)))
+one_split (x ∷ xs) [] us vs k a b s e =
+    let same : x ≡ (k, b) = heads x (k, b) (xs ++ (k, a) ∷ us) vs e in
+    absurd (never_less k (ap (λ (r : Record). text_order r.0 k) (sym same) ∙ below_part x.0 xs (k, a) us (first _ _ s)))
+one_split (x ∷ xs) (y ∷ ys) us vs k a b s e =
+    ap₂ (λ (z : Record) zs. z ∷ zs) (heads x y _ _ e) (one_split xs ys us vs k a b (second (below_all text_order x.0 (xs ++ (k, a) ∷ us)) _ s) (tails x y _ _ e))

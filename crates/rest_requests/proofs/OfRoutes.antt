@@ -1,0 +1,4 @@
+pub mod Segments
+pub mod Paths
+pub mod PutLemmas
+pub mod RouteParts

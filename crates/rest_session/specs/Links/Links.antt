@@ -1,0 +1,120 @@
+-- What a link gave and what was written to it, over any step of a world.
+use Rattle.std.specs.Prelude.{◌≡◌, ◌⊎◌, ℕ, ◌<◌, ◌≤◌, List, [], ◌∷◌, ◌++◌, length, true, false, Option, ⊤}
+use Rattle.std.specs.List.{flat_map}
+use Rattle.std.specs.Io.KnownBytes.{IsAtEnd}
+use Rattle.edge_traits.specs.Causes.{Rose}
+use Rattle.http_wire.specs.Messages.{RequestMessage, IsSpelled, spelling, closes, HasNoMessage, HasNoBadSize, StopsInside, IsRefusedFor}
+use Rattle.http_wire.specs.Replies.{fault_reply, no_memory_reply}
+use Rattle.http_wire.specs.declared.limits.TheConstants.{HEAD_LIMIT}
+use Rattle.http_wire.specs.declared.message_fault.MessageFault.{MessageFault}
+use Rattle.rest_session.specs.declared.links.end.LinkEnd.{LinkEnd}
+use Rattle.rest_session.specs.declared.links.end.LinkEnd.TheVariants.{Closed, Cut, Ended, ReadFault, WriteFault, Budget, NoMemory}
+use Rattle.rest_session.specs.declared.links.end.TheConstants.{BUDGET}
+
+-- of the world before, a message, the whole answer's bytes, and the world after
+abbrev pub Step : Type 0 → Type 1
+Step W = W → RequestMessage → List ℕ → W → Type 0
+
+-- whole messages, none of which closes
+abbrev pub AllOpen : List RequestMessage → Type 0
+AllOpen [] = ⊤
+AllOpen (m ∷ ms) = IsSpelled m × (closes m ≡ false) × AllOpen ms
+
+-- whole messages
+abbrev pub AllSpelled : List RequestMessage → Type 0
+AllSpelled [] = ⊤
+AllSpelled (m ∷ ms) = IsSpelled m × AllSpelled ms
+
+-- their bytes, one message after another
+abbrev pub spellings : List RequestMessage → List ℕ
+spellings ms = flat_map spelling ms
+
+-- the bytes answer the message: by a step of the world, or they say that memory was wanting, and the world stays
+abbrev pub IsAnswer : {W : Type 0} → Step W → W → RequestMessage → List ℕ → W → Type 0
+IsAnswer step w m bytes v = step w m bytes v ⊎ ((bytes ≡ no_memory_reply (closes m)) × (v ≡ w))
+
+-- the replay: each message has one answer, and the bytes are the answers in order
+abbrev pub Replays : {W : Type 0} → Step W → W → List RequestMessage → List ℕ → W → Type 0
+Replays step w [] bytes v = (bytes ≡ []) × (v ≡ w)
+Replays {W} step w (m ∷ ms) bytes v =
+    (first : List ℕ) × (others : List ℕ) × (mid : W) × (bytes ≡ first ++ others) × IsAnswer step w m first mid × Replays step mid ms others v
+
+-- the first of some bytes
+abbrev pub IsFront : List ℕ → List ℕ → Type 0
+IsFront front whole = (others : List ℕ) × (whole ≡ front ++ others)
+
+-- a message stands at the front of the tail, and the bytes answer it; no more was read ahead than a head may have
+pub record IsLastAnswer {W : Type 0} (step : Step W) (w : W) (tail answer : List ℕ) (v : W) : Type 0 where
+  pub message : RequestMessage
+  pub ahead : List ℕ
+  pub spelled : IsSpelled message
+  pub bytes : tail ≡ spelling message ++ ahead
+  pub room : length ahead ≤ HEAD_LIMIT
+  pub is_answer : IsAnswer step w message answer v
+
+-- how a link ends: of the world, the bytes behind the messages that were answered and left it open, what was written for them, what the
+-- source has left, and the world after
+abbrev pub IsEnd : {W : Type 0} → Step W → W → List ℕ → List ℕ → Option (List ℕ) → W → LinkEnd → Type 0
+IsEnd step w tail sent left v Closed =
+    ((tail ≡ []) × (sent ≡ []) × IsAtEnd left × (v ≡ w)) ⊎ ((a : IsLastAnswer step w tail sent v) × (closes a.message ≡ true))
+IsEnd step w tail sent left v (Cut unread) =
+    HasNoMessage tail × HasNoBadSize tail × (length tail ≡ unread) × (0 < unread) × IsAtEnd left × (sent ≡ []) × (v ≡ w)
+    × StopsInside tail
+IsEnd step w tail sent left v (Ended fault) = IsRefusedFor tail fault × (length tail ≤ HEAD_LIMIT) × (sent ≡ fault_reply fault) × (v ≡ w)
+IsEnd step w tail sent left v ReadFault = HasNoMessage tail × HasNoBadSize tail × (sent ≡ []) × (v ≡ w)
+IsEnd step w tail sent left v WriteFault =
+    ((answer : List ℕ) × IsLastAnswer step w tail answer v × IsFront sent answer)
+    ⊎ ((fault : MessageFault) × IsRefusedFor tail fault × (length tail ≤ HEAD_LIMIT) × IsFront sent (fault_reply fault) × (v ≡ w))
+IsEnd step w tail sent left v Budget = (length tail ≤ HEAD_LIMIT) × (sent ≡ []) × (v ≡ w)
+IsEnd step w tail sent left v NoMemory = (tail ≡ []) × (sent ≡ []) × (v ≡ w)
+
+-- how many messages were answered and left the link open
+abbrev pub IsCounted : ℕ → LinkEnd → Type 0
+IsCounted n Closed = n < BUDGET
+IsCounted n (Cut unread) = n < BUDGET
+IsCounted n (Ended fault) = n < BUDGET
+IsCounted n ReadFault = n < BUDGET
+IsCounted n WriteFault = n < BUDGET
+IsCounted n Budget = n ≡ BUDGET
+IsCounted n NoMemory = n ≡ 0
+
+-- the messages that a link gave, what was written to it, and how it ended, from the world before to the world after
+pub record IsTranscript {W : Type 0} (step : Step W) (w : W) (taken sent : List ℕ) (left : Option (List ℕ)) (v : W) (end : LinkEnd) : Type 0 where
+  pub messages : List RequestMessage
+  pub answers : List ℕ
+  pub mid : W
+  pub tail : List ℕ
+  pub last : List ℕ
+  pub opened : AllOpen messages
+  pub counted : IsCounted (length messages) end
+  pub replays : Replays step w messages answers mid
+  pub ends : IsEnd step mid tail last left v end
+  pub bytes : taken ≡ spellings messages ++ tail
+  pub written : sent ≡ answers ++ last
+
+-- no count of the link fell, and each fault was counted
+pub record HasCauses (read_before read_now write_before write_now : ℕ) (end : LinkEnd) : Type 0 where
+  pub read_later : read_before ≤ read_now
+  pub write_later : write_before ≤ write_now
+  pub read_fault : end ≡ ReadFault → Rose read_before read_now
+  pub write_fault : end ≡ WriteFault → Rose write_before write_now
+
+-- an end that comes of the input's end, of a fault or of want of memory
+abbrev pub IsPeaceful : LinkEnd → Type 0
+IsPeaceful Closed = ⊤
+IsPeaceful (Cut unread) = ⊥
+IsPeaceful (Ended fault) = ⊥
+IsPeaceful ReadFault = ⊤
+IsPeaceful WriteFault = ⊤
+IsPeaceful Budget = ⊥
+IsPeaceful NoMemory = ⊤
+
+-- an end that comes of the bytes alone
+abbrev pub IsUndisturbed : LinkEnd → Type 0
+IsUndisturbed Closed = ⊤
+IsUndisturbed (Cut unread) = ⊤
+IsUndisturbed (Ended fault) = ⊤
+IsUndisturbed ReadFault = ⊥
+IsUndisturbed WriteFault = ⊥
+IsUndisturbed Budget = ⊤
+IsUndisturbed NoMemory = ⊥

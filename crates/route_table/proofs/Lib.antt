@@ -1,4 +1,0 @@
-mod Segments
-mod Paths
-mod PutLemmas
-mod RouteParts

@@ -1,6 +1,0 @@
-use Rattle.std.proofs.Common.{◌≡◌, map, drop}
-use Rattle.route_table.specs.Rows.{AreNew, put_all, text_row}
-use Rattle.route_table.proofs.table.insert_all.Given as goal
-
-abbrev pub invariant-loop-row : goal.invariant-loop-row
-invariant-loop-row l = AreNew (map text_row (drop l.row-index l.rows)) l.router × (put_all (map text_row (drop l.row-index l.rows)) l.router ≡ put_all (map text_row l.rows) l.fn.router)

@@ -1,8 +1,0 @@
-use Rattle.route_table.proofs.PutLemmas.{none_other, put_is}
-use Rattle.route_table.proofs.table.inserted.Goals as goal
-
-pub returns-clause-row : goal.returns-clause-row
-returns-clause-row c = put_is c.args.text.now c.args.route c.args.router.now c.insert.new.self c.insert.result c.insert.ensures
-
-pub returns-clause-memory : goal.returns-clause-memory
-returns-clause-memory c = λ is. none_other c.args.text.now c.args.route c.args.router.now c.insert.new.self c.insert.result is c.insert.ensures

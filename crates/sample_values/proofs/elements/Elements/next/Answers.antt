@@ -1,7 +1,0 @@
-use Rattle.std.proofs.Common.{◌∙◌, ap, sym, add-one}
-use Rattle.sample_values.specs.Samples.{next_state, state}
-use Rattle.sample_values.proofs.elements.Elements.next.Goals as goal
-
-pub returns-clause-state : goal.returns-clause-state
-unfolding state
-returns-clause-state c n k h = c.following-self-inside.ensures ∙ (ap next_state (c.self.view_is ∙ h) ∙ ap (state n) (sym (add-one k)))

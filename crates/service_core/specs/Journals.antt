@@ -1,0 +1,4 @@
+pub mod Opening
+pub mod Begun
+pub mod Groups
+pub mod FirstJournals

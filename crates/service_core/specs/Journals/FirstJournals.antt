@@ -1,0 +1,61 @@
+-- What a new journal holds, and why none is made.
+--     HoldsFirstWorld catalogue held      what is held describes the catalogue's world in run 0, with an empty group at each root
+--     AreFirstRecords catalogue rs      the records that make such a map, in whatever order
+--     IsFirstJournal catalogue lanes file      a journal for so many lanes of one batch, which is such records
+--     MayRefuseMaking      why no journal is made
+use Rattle.std.specs.Prelude.{◌≡◌, ◌≢◌, ◌⊎◌, ℕ, ◌+◌, ◌<◌, List, [], take, Ok}
+use Rattle.std.specs.FinMap.{empty}
+use Rattle.std.specs.List.{AllByRecursion}
+use Rattle.edge_traits.specs.Causes.{Rose}
+use Rattle.flush_journal.specs.Files.{content, fresh, magic}
+use Rattle.flush_journal.specs.Frames.{need_of}
+use Rattle.flush_journal.specs.Records.{Held, Record, put_all}
+use Rattle.flush_journal.specs.Refusals.{NoMagic}
+use Rattle.flush_journal.specs.Standing.{with_batch}
+use Rattle.flush_journal.specs.declared.why.Why.{Why}
+use Rattle.flush_journal.specs.declared.why.Why.TheVariants.{DiskFault, NotAJournal, JournalFull, Exists, NoMemory}
+use Rattle.flush_journal.specs.Cuts.Cuts.{AreOnce}
+use Rattle.domains.specs.Contents.{Contents}
+use Rattle.service_core.specs.Records.{DescribesWorld, IsWorldRecord}
+use Rattle.service_core.specs.Steps.{World}
+use Rattle.service_core.specs.Journals.Groups.{HasFirstGroups}
+
+-- the catalogue's world in run 0, with an empty group at each domain's root, and nothing else
+pub record HoldsFirstWorld (catalogue : Contents) (held : Held) : Type 0 where
+  pub world : World
+  pub nodes : world.door.catalogue ≡ catalogue
+  pub groups : HasFirstGroups catalogue world.objects
+  pub described : DescribesWorld held 0 world
+
+-- records that make such a map: one for each key that is held, with the body of what stands there, and no other
+pub record AreFirstRecords (catalogue : Contents) (records : List Record) : Type 0 where
+  pub some : records ≢ []
+  pub holds : HoldsFirstWorld catalogue (put_all records empty)
+  pub once : AreOnce records
+  pub each : AllByRecursion (IsWorldRecord holds.world) records
+  pub bodies : AllByRecursion (λ r. r.1 ≢ []) records
+
+-- a journal for so many lanes that holds one batch, of such records
+pub record IsFirstJournal (catalogue : Contents) (lanes : ℕ) (file : List ℕ) : Type 0 where
+  pub records : List Record
+  pub first : AreFirstRecords catalogue records
+  pub is_journal : content file ≡ Ok (with_batch (fresh lanes) records)
+
+-- so many bytes behind a place don't fit: the header with a marker at the front, or the batch behind the header
+abbrev pub DoesNotFit : List Record → (end need room : ℕ) → Type 0
+DoesNotFit rs end need room = (room < end + need) × (((end ≡ 0) × (need ≡ 17)) ⊎ ((end ≡ 16) × (need ≡ need_of rs)))
+
+-- Writing a journal of these records may be refused so: where one stands; else where there is no room for it; and by a fault only
+-- where the count rose.
+abbrev pub MayRefuseWriting : List Record → Type 0 → List ℕ → (room before now : ℕ) → Why → Type 0
+MayRefuseWriting rs told file room before now DiskFault = Rose before now
+MayRefuseWriting rs told file room before now Exists = told → take 8 file ≡ magic
+MayRefuseWriting rs told file room before now (JournalFull end need r) = (r ≡ room) × DoesNotFit rs end need room × NoMagic told file
+MayRefuseWriting rs told file room before now (NotAJournal at) = ⊥
+MayRefuseWriting rs told file room before now NoMemory = ⊥
+
+-- and making the journal of a catalogue for want of memory too
+abbrev pub MayRefuseMaking : Contents → Type 0 → List ℕ → (room before now : ℕ) → Why → Type 0
+MayRefuseMaking catalogue told file room before now NoMemory = Unit {0}
+MayRefuseMaking catalogue told file room before now why =
+    (rs : List Record) × AreFirstRecords catalogue rs × MayRefuseWriting rs told file room before now why

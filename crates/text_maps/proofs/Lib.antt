@@ -1,5 +1,0 @@
-pub mod KeyedMaps
-pub mod TreeMaps
-pub mod ValueMaps
-pub mod Walks
-pub mod Lending

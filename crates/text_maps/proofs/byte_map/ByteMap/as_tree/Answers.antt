@@ -1,7 +1,0 @@
-use Rattle.std.proofs.Common.{ap, sym, ◌∙◌, vec_items}
-use Rattle.std.specs.FinMap as map
-use Rattle.text_maps.proofs.KeyedMaps.{entries-keyed}
-use Rattle.text_maps.proofs.byte_map.ByteMap.as_tree.Goals as goal
-
-pub returns : goal.returns
-returns g c = ap map.entries (sym c.self.view_is) ∙ entries-keyed vec_items c.self.inside.entries.entries c.len-count.ensures.ordered

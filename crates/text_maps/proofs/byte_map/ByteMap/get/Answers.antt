@@ -1,9 +1,0 @@
-use Rattle.std.proofs.Common.{ap, sym, ◌∙◌, vec_items}
-use Rattle.std.specs.FinMap as map
-use Rattle.text_maps.proofs.KeyedMaps.{get-keyed}
-use Rattle.text_maps.proofs.byte_map.ByteMap.get.Goals as goal
-
-pub returns : goal.returns
-returns g c =
-    c.get.ensures.value ∙ sym (get-keyed vec_items c.self.inside.entries.entries c.args.key.now)
-    ∙ ap (λ m. map.get m c.args.key.now) c.self.view_is
