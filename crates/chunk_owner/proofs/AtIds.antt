@@ -2,11 +2,11 @@
 use Rattle.std.proofs.Common.{◌≡◌, ℕ, Bool, true, false, cond, ◌==◌, IfOk, Option, Some, None, is_some, Result, Ok, Err, sym, ap, subst, refl, ◌∙◌, eqb-true, arith}
 use Rattle.std.specs.Ordering.{eq_by_cmp}
 use Rattle.std.specs.FinMap.{get, len, insert, remove, get-insert, get-remove, same_map}
+use Rattle.std.proofs.lemmas.Bool.{and_parts}
 use Rattle.object_ids.specs.IdOrder.{id_order, id_eq, kind_rank}
 use Rattle.object_ids.specs.IdValues.{Id}
 use Rattle.object_ids.specs.declared.ids.Kind.{Kind}
 use Rattle.object_ids.specs.declared.ids.Kind.TheVariants as kind
-use Rattle.json_trees.proofs.TreeLemmas.{both_true}
 use Rattle.object_ids.proofs.IdOrders.{id_order_once, id_order_total}
 use Rattle.object_ops.specs.declared.grants.Grant.{Grant}
 use Rattle.object_ops.specs.declared.replies.Reply.{Reply}
@@ -161,7 +161,7 @@ group_rank kind.Datatype e = absurd (omega arith)
 
 -- a root is a group
 pub root_kind : (id root : Id) → id_eq id root ≡ true → root.kind ≡ kind.Group → id.kind ≡ kind.Group
-root_kind id root e group = group_rank id.kind (eqb-true (kind_rank id.kind) (kind_rank root.kind) (both_true _ _ e).0 ∙ ap kind_rank group)
+root_kind id root e group = group_rank id.kind (eqb-true (kind_rank id.kind) (kind_rank root.kind) (and_parts _ _ e).0 ∙ ap kind_rank group)
 
 -- ---- an object is removed
 

@@ -3,6 +3,7 @@ use Rattle.std.proofs.Common.{◌≡◌, Bool, true, false, cond, Option, Some, 
 use Rattle.std.specs.Cmp.{Equal-is}
 use Rattle.std.specs.Ordering.{eq_by_cmp}
 use Rattle.std.specs.FinMap.{empty, get, insert, remove, get-empty, get-insert, get-remove, same_map}
+use Rattle.std.proofs.lemmas.Option.{none-some}
 use Rattle.chunk_owner.proofs.OfInstalls.Walking.{unmarked_once}
 use Rattle.containers.proofs.TextMaps.ValueMaps.{get-values}
 use Rattle.object_ids.specs.IdOrder.{id_order}
@@ -26,12 +27,9 @@ pub stays : (b : Bool) (w : Option Object) (o : Object) → cond b None w ≡ So
 stays true w o e = let both : None ≡ Some o = e in absurd (cc)
 stays false w o e = e
 
-none_there : (o : Object) → None ≡ Some o → ⊥
-none_there o e = absurd (cc)
-
 module _ (P : Id → Object → Type 0) where
   pub each_empty : Each P empty
-  each_empty q o e = absurd (none_there o (sym (get-empty id_order q) ∙ e))
+  each_empty q o e = absurd (none-some o (sym (get-empty id_order q) ∙ e))
 
   pub each_insert : (m : Objects) (k : Id) (v : Object) → P k v → Each P m → Each P (insert m k v)
   each_insert m k v new old = λ q o e.
@@ -78,7 +76,7 @@ shown-shown m = same_map id_order_total id_order_once _ _ (λ q.
     get-shown (shown m) q ∙ ap (option_map unmarked) (get-shown m q) ∙ option-unmarked (get m q) ∙ sym (get-shown m q))
 
 there : (w : Option Object) (o : Object) → option_map unmarked w ≡ Some o → (x : Object) × (w ≡ Some x) × (unmarked x ≡ o)
-there None o e = absurd (none_there o e)
+there None o e = absurd (none-some o e)
 there (Some x) o e = (x, refl, let same : Some (unmarked x) ≡ Some o = e in cc)
 
 module _ (P Q : Id → Object → Type 0) where

@@ -2,8 +2,7 @@
 use Rattle.std.proofs.Common.{◌≡◌, ◌<◌, ◌⊎◌, inl, inr, ⊎_elim, Bool, true, false, ◌&&◌, ◌||◌, ◌==◌, nat_lt, cond, Option, Some, None, sym, ap, refl, ◌∙◌, eq-eqb, ne_eqb, eqb-true, lt-ltb, ltb-true}
 use Rattle.std.specs.Ordering.{eq_by_cmp}
 use Rattle.std.specs.FinMap.{get, get-insert, get-remove}
-use Rattle.std.proofs.lemmas.Bool.{or_right, and_from}
-use Rattle.json_trees.proofs.TreeLemmas.{both_true}
+use Rattle.std.proofs.lemmas.Bool.{or_right, and_from, or_left, and_parts}
 use Rattle.object_ids.specs.IdOrder.{id_order}
 use Rattle.object_ids.specs.IdValues.{Id}
 use Rattle.object_ids.proofs.IdOrders.{id_order_total}
@@ -22,10 +21,6 @@ either_true : (a b : Bool) → (a || b) ≡ true → (a ≡ true) ⊎ (b ≡ tru
 either_true true b e = inl refl
 either_true false b e = inr e
 
-left_true : (a b : Bool) → a ≡ true → (a || b) ≡ true
-left_true true b e = refl
-left_true false b e = absurd (cc)
-
 is_gone : (b : Bool) (id : Id) → cond b (Gone id) (NoObject id) ≡ Gone id → b ≡ true
 is_gone true id e = refl
 is_gone false id e = let both : NoObject id ≡ Gone id = e in absurd (cc)
@@ -33,18 +28,18 @@ is_gone false id e = let both : NoObject id ≡ Gone id = e in absurd (cc)
 used_given : (g : Grant) (id : Id) → is_used g id ≡ true → (id.run < g.run) ⊎ ((id.run ≡ g.run) × (id.serial < g.serial))
 used_given g id e = ⊎_elim
     (λ (r : nat_lt id.run g.run ≡ true). inl (ltb-true id.run g.run r))
-    (λ (s : (id.run == g.run && nat_lt id.serial g.serial) ≡ true). let p = both_true (id.run == g.run) (nat_lt id.serial g.serial) s in inr (eqb-true id.run g.run p.0, ltb-true id.serial g.serial p.1))
+    (λ (s : (id.run == g.run && nat_lt id.serial g.serial) ≡ true). let p = and_parts (id.run == g.run) (nat_lt id.serial g.serial) s in inr (eqb-true id.run g.run p.0, ltb-true id.serial g.serial p.1))
     (either_true (nat_lt id.run g.run) (id.run == g.run && nat_lt id.serial g.serial) e)
 
 given_used : (g : Grant) (id : Id) → ((id.run < g.run) ⊎ ((id.run ≡ g.run) × (id.serial < g.serial))) → is_used g id ≡ true
 given_used g id h = ⊎_elim
-    (λ (r : id.run < g.run). left_true (nat_lt id.run g.run) (id.run == g.run && nat_lt id.serial g.serial) (lt-ltb id.run g.run r))
+    (λ (r : id.run < g.run). or_left (nat_lt id.run g.run) (id.run == g.run && nat_lt id.serial g.serial) (lt-ltb id.run g.run r))
     (λ (s : (id.run ≡ g.run) × (id.serial < g.serial)). or_right (nat_lt id.run g.run) (id.run == g.run && nat_lt id.serial g.serial)
     (and_from (id.run == g.run) (nat_lt id.serial g.serial) (eq-eqb id.run g.run s.0) (lt-ltb id.serial g.serial s.1)))
     h
 
 test_given : (g : Grant) (id : Id) → (id.domain == g.number && is_used g id) ≡ true → WasGiven g id
-test_given g id e = let p = both_true (id.domain == g.number) (is_used g id) e in (eqb-true id.domain g.number p.0, used_given g id p.1)
+test_given g id e = let p = and_parts (id.domain == g.number) (is_used g id) e in (eqb-true id.domain g.number p.0, used_given g id p.1)
 
 pub gone_where_given : GoneWhereGiven
 gone_where_given g id = (

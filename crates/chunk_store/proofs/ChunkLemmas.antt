@@ -5,13 +5,14 @@ use Rattle.std.specs.BTreeMap.{BTreeMap}
 use Rattle.std.specs.Cmp.{both_ways}
 use Rattle.std.specs.declared.vec.Vec.{Vec}
 use Rattle.std.specs.declared.alloc.Global.{Global}
-use Rattle.std.proofs.lemmas.Bool.{cases_Bool, cases_lt}
+use Rattle.std.proofs.lemmas.Bool.{cases_Bool, cases_lt, and_parts}
 use Rattle.std.proofs.lemmas.Bool.Decides.{nat_tests}
 use Rattle.std.proofs.lemmas.List.{drop-drop, length-drop}
 use Rattle.std.proofs.lemmas.List.Elements.{All-tail}
 use Rattle.std.proofs.lemmas.Nat.{le-div, mod-mul-add, mul-le}
 use Rattle.std.proofs.Math.Nat.{div-mul-le_self, mul-div_cancel_left}
 use Rattle.std.proofs.lemmas.Slice.Eq.{bytes_eq-Decides}
+use Rattle.std.proofs.Math.Bool.{and-false}
 use Rattle.hdf_types.specs.Elems.{Elem}
 use Rattle.hdf_types.specs.Reading.{size_of}
 use Rattle.hdf_types.specs.Types.{IsFormed}
@@ -38,7 +39,7 @@ use Rattle.chunk_store.specs.Marks.{in_grid, shown, content, body_of, body_value
 use Rattle.chunk_store.proofs.GridLemmas.{value-tabulated, tabulated_same}
 use Rattle.chunk_store.proofs.KeptLemmas.{absent_blank, absent_value, given_blank, whole_view}
 use Rattle.chunk_store.proofs.CutLemmas.{lies_rank, flat_same}
-use Rattle.chunk_store.proofs.TrackLemmas.{rank_of, cell_of_chunk, first_true, second_true}
+use Rattle.chunk_store.proofs.TrackLemmas.{rank_of, cell_of_chunk}
 use Rattle.chunk_store.proofs.InstallLemmas.{cell_there}
 
 abbrev Cells : Type 0
@@ -53,13 +54,13 @@ grid_test s c i b dims rank test =
     both_ways b (nat_eq (length i) (length c) && lies_in (corner i c) s)
     (λ said. rw (eq-eqb (length i) (length c) (in_grid_rank s c i rank (test.0 said))) (lies_read (corner i c) s (grid_begun s c i dims rank (test.0 said))))
     (λ said.
-    let ranks = eqb-true (length i) (length c) (first_true (nat_eq (length i) (length c)) (lies_in (corner i c) s) said) in
-    test.1 (begun_grid s c i dims ranks (lies_told (corner i c) s (second_true (nat_eq (length i) (length c)) (lies_in (corner i c) s) said))))
+    let ranks = eqb-true (length i) (length c) (and_parts (nat_eq (length i) (length c)) (lies_in (corner i c) s) said).0 in
+    test.1 (begun_grid s c i dims ranks (lies_told (corner i c) s (and_parts (nat_eq (length i) (length c)) (lies_in (corner i c) s) said).1)))
 
 pub index_here : (h : Grid) (i : List ℕ) → IsWhole h → in_grid h i ≡ true → IsIndex h.chunk i
 index_here h i w g =
     let ranks = rank_of h i g in
-    let lies = lies_told (corner i h.chunk) h.shape (second_true (nat_eq (length i) (length h.chunk)) (lies_in (corner i h.chunk) h.shape) g) in
+    let lies = lies_told (corner i h.chunk) h.shape (and_parts (nat_eq (length i) (length h.chunk)) (lies_in (corner i h.chunk) h.shape) g).1 in
     record { rank = ranks; small = small_index h.shape h.chunk i w.dims w.shape (begun_grid h.shape h.chunk i w.dims ranks lies) }
 
 -- ---- walks over a chunk's cells
@@ -182,16 +183,12 @@ filled_end chunk i q size k bs f dims rank past =
     ap (λ b. cond b (piece_at size (offset_of q chunk) bs) (f q))
     (and_true (bytes_eq (quotients q chunk) i) (nat_lt (offset_of q chunk) k) (lt_past (offset_of q chunk) (cell_count chunk) k (offset_below q chunk dims rank) past))
 
-and_no : (a : Bool) → (a && false) ≡ false
-and_no true = refl
-and_no false = refl
-
 lt_zero : (o : ℕ) → nat_lt o 0 ≡ false
 lt_zero o = grind (arith, nat_tests)
 
 pub filled_first : (chunk i q : List ℕ) (size : ℕ) (bs : List ℕ) (f : List ℕ → List ℕ) → f q ≡ filled chunk i size bs f 0 q
 filled_first chunk i q size bs f =
-    sym (ap (λ b. cond b (piece_at size (offset_of q chunk) bs) (f q)) (ap (λ b. bytes_eq (quotients q chunk) i && b) (lt_zero (offset_of q chunk)) ∙ and_no (bytes_eq (quotients q chunk) i)))
+    sym (ap (λ b. cond b (piece_at size (offset_of q chunk) bs) (f q)) (ap (λ b. bytes_eq (quotients q chunk) i && b) (lt_zero (offset_of q chunk)) ∙ and-false (bytes_eq (quotients q chunk) i)))
 
 pub body_some : (h : Grid) (bs at : List ℕ) → 1 ≤ length bs → body_value h bs at ≡ piece_at (size_of h.kind) (offset_of at h.chunk) bs
 body_some h [] at some = absurd (omega (arith, some))

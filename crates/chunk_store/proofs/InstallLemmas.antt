@@ -3,7 +3,7 @@ use Rattle.std.proofs.Common.{◌≡◌, ℕ, suc, ◌+◌, ◌*◌, ◌<◌, �
 use Rattle.std.specs.List.{flat_map}
 use Rattle.std.proofs.lemmas.Bool.{cases_Bool}
 use Rattle.std.proofs.lemmas.Nat.{mul-le}
-use Rattle.std.proofs.lemmas.List.{take-append-drop, length-drop, drop-drop, length-take-le}
+use Rattle.std.proofs.lemmas.List.{take-append-drop, length-drop, drop-drop, length-take-le, nil_from_length}
 use Rattle.std.proofs.lemmas.Slice.Eq.{bytes_eq-Decides}
 use Rattle.hdf_types.specs.Reading.{size_of}
 use Rattle.hdf_values.proofs.PieceLemmas.{some_size}
@@ -23,13 +23,9 @@ use Rattle.chunk_store.proofs.TrackLemmas.{IsCellOf, cell_of_chunk, cells_of_chu
 pub cell_there : (chunk i : List ℕ) (k : ℕ) → All IsChunkDim chunk → length i ≡ length chunk → k < cell_count chunk → offset_of (get_or (chunk_cells i chunk) k []) chunk ≡ k
 cell_there chunk i k dims e low = ap (λ x. offset_of x chunk) (chunk_listed chunk i k dims low) ∙ cell_offset chunk i k dims e low
 
-pub empty : (bs : List ℕ) → length bs ≡ 0 → bs ≡ []
-empty [] e = refl
-empty (b ∷ bs) e = absurd (omega (arith, e))
-
 -- pieces one after another
 pub flat_pieces : (g : List ℕ → List ℕ) (s k : ℕ) (xs : List (List ℕ)) (bs : List ℕ) → length bs ≡ length xs * s → ((j : ℕ) → j < length xs → g (get_or xs j []) ≡ take s (drop (j * s) bs)) → flat_map g xs ≡ bs
-flat_pieces g s k [] bs e each = sym (empty bs (e ∙ omega arith))
+flat_pieces g s k [] bs e each = sym (nil_from_length bs (e ∙ omega arith))
 flat_pieces g s k (x ∷ xs) bs e each =
     let none : 0 * s ≡ 0 = omega arith in
     let first : g x ≡ take s bs = each 0 (omega arith) ∙ ap (λ n. take s (drop n bs)) none in

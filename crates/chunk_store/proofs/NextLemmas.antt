@@ -2,7 +2,7 @@
 use Rattle.std.proofs.Common.{◌≡◌, ◌≢◌, ℕ, ◌||◌, Bool, true, false, cond, length, IsSome, IfSome, bytes_eq, List, [], ◌∷◌, Option, Some, None, Ordering, Less, Equal, Greater, nat_cmp, is_eq, refl, sym, ap, subst, ◌∙◌, ◌⊎◌, inl, inr}
 use Rattle.std.specs.List.{list_any}
 use Rattle.std.specs.Cmp.Lexicographic.{slice_cmp}
-use Rattle.std.proofs.lemmas.Bool.{cases_Bool, or_right}
+use Rattle.std.proofs.lemmas.Bool.{cases_Bool, or_right, or_left, and_parts}
 use Rattle.std.proofs.lemmas.Map.Text.{is_eq-slice_cmp}
 use Rattle.std.proofs.lemmas.Slice.Eq.{bytes_eq-Decides}
 use Rattle.std.specs.List.{AllByRecursion, filter}
@@ -12,16 +12,12 @@ use Rattle.std.specs.Ordering.{is_lt, ordering_then}
 use Rattle.std.specs.Cmp.Derive.{both_true as both_pass}
 use Rattle.std.specs.Cmp.{tied_itself, nat_cmp_total}
 use Rattle.std.proofs.lemmas.Map.Keys.{sorted_head, sorted_tail}
-use Rattle.json_trees.proofs.TreeLemmas.{both_true}
 use Rattle.containers.specs.ShortLists.Order.{list_order}
 use Rattle.containers.specs.ShortLists.OrderLaws.{same_tied}
 use Rattle.chunk_store.specs.Cells.{put}
 use Rattle.chunk_store.specs.Grids.{Grid}
 use Rattle.chunk_store.specs.Indexes.{IsIndex}
 use Rattle.chunk_store.specs.Marks.{Stored, state, is_dirty, body_of, cut, AreIndexes, ComesAfter, IsNext, Covers, recorded, first_key, is_after, is_later}
-
-first_true : (a b : Bool) → a ≡ true → (a || b) ≡ true
-first_true a b h = ap (λ x. x || b) h
 
 by_order : (i j : List ℕ) (o : Ordering) → slice_cmp nat_cmp i j ≡ o → (o ≡ Greater → ⊥) → (bytes_eq i j ≡ true) ⊎ (slice_cmp nat_cmp i j ≡ Less)
 by_order i j Less e h = inr e
@@ -33,7 +29,7 @@ pub covers_next : (is_meant : List ℕ → Bool) (done : List (List ℕ)) (after
 covers_next is_meant done after i covers next = λ j dirty. elim (covers j dirty) [
   | inl there ↦ inl (or_right (bytes_eq j i) (list_any (bytes_eq j) done) there)
   | inr later ↦ elim (by_order i j (slice_cmp nat_cmp i j) refl (next.2 j later dirty)) [
-    | inl same ↦ inl (first_true (bytes_eq j i) (list_any (bytes_eq j) done) ((bytes_eq-Decides j i).1 (sym ((bytes_eq-Decides i j).0 same))))
+    | inl same ↦ inl (or_left (bytes_eq j i) (list_any (bytes_eq j) done) ((bytes_eq-Decides j i).1 (sym ((bytes_eq-Decides i j).0 same))))
     | inr less ↦ inr less
   ]
 ]
@@ -139,7 +135,7 @@ module _ (test : Option Bool → Bool) (none : test None ≡ false) where
   -- one more entry in front, whose key comes first
   first_here : (e : List ℕ × Bool) (es : List (List ℕ × Bool)) (after : Option (List ℕ)) → AllByRecursion (λ k. list_order e.0 k ≡ Less) (keys_of es) → is_later test after e ≡ true → IsFirstLater (e ∷ es) after (Some e.0)
   first_here e es after low h =
-      let both = both_true (test (Some e.1)) (is_after after e.0) h in (
+      let both = and_parts (test (Some e.1)) (is_after after e.0) h in (
         told_here e es e.0 ((bytes_eq-Decides e.0 e.0).1 refl) ∙ both.0,
         after_told after e.0 both.1,
         λ j later dirty. elim (cases_Bool (bytes_eq j e.0)) [

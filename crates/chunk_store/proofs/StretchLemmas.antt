@@ -49,10 +49,6 @@ blank_next blank ats k many out new piece whole e low is same done =
     ap (λ l. l ++ flat_map (λ at. blank) (drop (k + 1) ats)) (is ∙ ap (λ l. out ++ l) same)
     ∙ read_next (λ at. blank) ats k (get_or ats k []) out whole (omega (arith, e, low)) refl done
 
-pub on_ok : {T E A B : Type 0} (r : Result T E) → (A → B) → OnOk r A → OnOk r B
-on_ok (Ok x) h a = h a
-on_ok (Err e) h a = tt
-
 pub on_added : {T E B : Type 0} (r : Result T E) (old more new : List ℕ) → new ≡ (if is_ok r then old ++ more else old) → (new ≡ old ++ more → B) → OnOk r B
 on_added (Ok x) old more new e h = h e
 on_added (Err f) old more new e h = tt

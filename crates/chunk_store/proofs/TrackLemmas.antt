@@ -1,7 +1,7 @@
 -- Writes and other dims keep what the records stand for.
-use Rattle.std.proofs.Common.{◌≡◌, ℕ, suc, ◌+◌, ◌*◌, ◌/◌, ◌%◌, ◌<◌, ◌≤◌, ◌&&◌, ◌||◌, Bool, true, false, cond, min, nat_eq, nat_lt, nat_le, bytes_eq, eqb-true, eq-eqb, List, [], ◌∷◌, length, take, drop, get_or, All, Option, Some, None, refl, sym, ap, subst, ◌∙◌, ◌⊎◌, inl, inr, arith}
+use Rattle.std.proofs.Common.{◌≡◌, ℕ, suc, ◌+◌, ◌*◌, ◌/◌, ◌%◌, ◌<◌, ◌≤◌, ◌||◌, Bool, true, false, cond, min, nat_eq, nat_lt, nat_le, bytes_eq, eqb-true, eq-eqb, List, [], ◌∷◌, length, take, drop, get_or, All, Option, Some, None, refl, sym, ap, subst, ◌∙◌, ◌⊎◌, inl, inr, arith}
 use Rattle.std.specs.List.{AllByRecursion}
-use Rattle.std.proofs.lemmas.Bool.{cases_Bool, ltb-true, leb-true, or_parts}
+use Rattle.std.proofs.lemmas.Bool.{cases_Bool, ltb-true, leb-true, or_parts, and_parts}
 use Rattle.std.proofs.lemmas.Nat.{div-add-mod', mod_below}
 use Rattle.std.proofs.lemmas.List.Elements.{All-head, All-tail}
 use Rattle.std.proofs.lemmas.Slice.Eq.{bytes_eq-Decides}
@@ -39,16 +39,8 @@ cell_of_chunk chunk i k dims e low = subst (IsCellOf chunk i) (sym (chunk_listed
 pub cells_of_chunk : (chunk i : List ℕ) → All IsChunkDim chunk → length i ≡ length chunk → AllByRecursion (IsCellOf chunk i) (chunk_cells i chunk)
 cells_of_chunk chunk i dims e = by_index (IsCellOf chunk i) (chunk_cells i chunk) (λ k low. cell_of_chunk chunk i k dims e (omega (arith, low, chunk_count chunk i)))
 
-pub first_true : (a b : Bool) → (a && b) ≡ true → a ≡ true
-first_true true b h = refl
-first_true false b h = h
-
-pub second_true : (a b : Bool) → (a && b) ≡ true → b ≡ true
-second_true true b h = h
-second_true false b h = absurd (let both : false ≡ true = h in cc)
-
 pub rank_of : (h : Grid) (i : List ℕ) → in_grid h i ≡ true → length i ≡ length h.chunk
-rank_of h i g = eqb-true (length i) (length h.chunk) (first_true (nat_eq (length i) (length h.chunk)) (lies_in (corner i h.chunk) h.shape) g)
+rank_of h i g = eqb-true (length i) (length h.chunk) (and_parts (nat_eq (length i) (length h.chunk)) (lies_in (corner i h.chunk) h.shape) g).0
 
 -- ---- what stands for a chunk whose cells stay
 
@@ -144,7 +136,7 @@ new_lies x Scalar t dims h = absurd h
 new_lies x (Simple old limits) t dims h = (refl, refl)
 
 axis_told : (i n old new : ℕ) → keeps_axis i n old new ≡ true → (i * n < new) × (min (i * n + n) old ≤ new)
-axis_told i n old new h = (ltb-true (i * n) new (first_true (nat_lt (i * n) new) (nat_le (min (i * n + n) old) new) h), leb-true (min (i * n + n) old) new (second_true (nat_lt (i * n) new) (nat_le (min (i * n + n) old) new) h))
+axis_told i n old new h = (ltb-true (i * n) new (and_parts (nat_lt (i * n) new) (nat_le (min (i * n + n) old) new) h).0, leb-true (min (i * n + n) old) new (and_parts (nat_lt (i * n) new) (nat_le (min (i * n + n) old) new) h).1)
 
 -- the number of a kept chunk's cell is below the new dim
 kept_number : (x i n old new : ℕ) → 1 ≤ n → x / n ≡ i → keeps_axis i n old new ≡ true → x < old → x < new
@@ -164,8 +156,8 @@ kept_cell is ns (o ∷ olds) (w ∷ news) [] dims e l m here h on = absurd on
 kept_cell is [] (o ∷ olds) (w ∷ news) (x ∷ xs) dims e l m here h on = absurd (omega (arith, l))
 kept_cell [] (n ∷ ns) (o ∷ olds) (w ∷ news) (x ∷ xs) dims e l m here h on = absurd (omega (arith, e))
 kept_cell (i ∷ is) (n ∷ ns) (o ∷ olds) (w ∷ news) (x ∷ xs) dims e l m here h on =
-    let first = first_true (keeps_axis i n o w) (keeps is ns olds news) h in
-    let rest = second_true (keeps_axis i n o w) (keeps is ns olds news) h in
+    let first = (and_parts (keeps_axis i n o w) (keeps is ns olds news) h).0 in
+    let rest = (and_parts (keeps_axis i n o w) (keeps is ns olds news) h).1 in
     let front : x / n ≡ i = ap (λ qs. get_or qs 0 0) here in (
       kept_number x i n o w (All-head IsChunkDim n ns dims).0 front first on.0,
       kept_cell is ns olds news xs (All-tail IsChunkDim n ns dims) (omega (arith, e)) (omega (arith, l)) (omega (arith, m)) (ap (drop 1) here) rest on.1,
@@ -181,8 +173,8 @@ kept_corner (i ∷ is) [] olds news e l m h = absurd (omega (arith, e))
 kept_corner (i ∷ is) (n ∷ ns) [] news e l m h = absurd (omega (arith, l))
 kept_corner (i ∷ is) (n ∷ ns) (o ∷ olds) [] e l m h = absurd (omega (arith, m))
 kept_corner (i ∷ is) (n ∷ ns) (o ∷ olds) (w ∷ news) e l m h = (
-  (axis_told i n o w (first_true (keeps_axis i n o w) (keeps is ns olds news) h)).0,
-  kept_corner is ns olds news (omega (arith, e)) (omega (arith, l)) (omega (arith, m)) (second_true (keeps_axis i n o w) (keeps is ns olds news) h),
+  (axis_told i n o w (and_parts (keeps_axis i n o w) (keeps is ns olds news) h).0).0,
+  kept_corner is ns olds news (omega (arith, e)) (omega (arith, l)) (omega (arith, m)) (and_parts (keeps_axis i n o w) (keeps is ns olds news) h).1,
 )
 
 -- a cell of the array after the cut

@@ -2,7 +2,7 @@
 use Rattle.std.proofs.Common.{◌≡◌, ◌≢◌, ℕ, zero, suc, ◌+◌, ◌*◌, ◌<◌, Bool, true, false, cond, bytes_eq, List, [], ◌∷◌, ◌++◌, length, take, drop, get_or, All, Option, Some, None, refl, sym, ap, subst, ◌∙◌, inl, inr, arith}
 use Rattle.std.specs.List.{flat_map}
 use Rattle.std.proofs.lemmas.Bool.{cases_Bool}
-use Rattle.std.proofs.lemmas.List.{append_assoc, drop-drop, length-drop, length-map, length-take-le, take-append-drop, take_at, drop_at}
+use Rattle.std.proofs.lemmas.List.{append_assoc, drop-drop, length-drop, length-map, length-take-le, take-append-drop, take_at, drop_at, nil_from_length}
 use Rattle.std.proofs.lemmas.Slice.Eq.{bytes_eq-Decides}
 use Rattle.hdf_types.specs.Elems.{Elem}
 use Rattle.hdf_types.specs.Reading.{size_of}
@@ -22,7 +22,7 @@ use Rattle.chunk_store.specs.Marks.{Stored, IsTracked, is_dirty, flagged, state,
 use Rattle.chunk_store.proofs.ChunkLemmas.{chunk_told}
 use Rattle.chunk_store.proofs.CutLemmas.{content_value, piece_of, shown_size}
 use Rattle.chunk_store.proofs.GridLemmas.{value-tabulated, tabulated_same, reads_same}
-use Rattle.chunk_store.proofs.InstallLemmas.{empty, flat_pieces}
+use Rattle.chunk_store.proofs.InstallLemmas.{flat_pieces}
 use Rattle.chunk_store.proofs.KeyLemmas.{put_here}
 use Rattle.chunk_store.proofs.PickLemmas.{each_at, each_all}
 use Rattle.chunk_store.proofs.SameLemmas.{same_held}
@@ -57,7 +57,7 @@ other_value h ats bs at lies none =
     ∙ written_other (value_at h) (size_of h.kind) ats bs at (by_index (λ x. x ≡ at → ⊥) ats none)
 
 pub written_joined : (f : List ℕ → List ℕ) (s : ℕ) (a b : List (List ℕ)) (xs ys q : List ℕ) → length xs ≡ length a * s → written f s (a ++ b) (xs ++ ys) q ≡ written (written f s a xs) s b ys q
-written_joined f s [] b xs ys q e = ap (λ l. written f s b (l ++ ys) q) (empty xs (e ∙ omega arith))
+written_joined f s [] b xs ys q e = ap (λ l. written f s b (l ++ ys) q) (nil_from_length xs (e ∙ omega arith))
 written_joined f s (x ∷ a) b xs ys q e =
     let more : suc (length a) * s ≡ s + length a * s = omega arith in
     let whole : xs ++ ys ≡ take s xs ++ (drop s xs ++ ys) = ap (λ l. l ++ ys) (sym (take-append-drop s xs)) ∙ append_assoc (take s xs) (drop s xs) ys in

@@ -7,6 +7,7 @@ use Rattle.std.specs.FinMap.{FinMap, contains_key, get, insert, remove, get-inse
 use Rattle.std.specs.Cmp.Lexicographic.{nat_list_cmp_total}
 use Rattle.std.proofs.lemmas.Map.Text.{is_eq-slice_cmp}
 use Rattle.std.proofs.lemmas.Slice.Eq.{bytes_eq-Decides}
+use Rattle.std.proofs.Math.Bool.{and-false}
 use Rattle.containers.specs.TextMaps.Keyed.{text_order}
 use Rattle.toml.specs.Data.{Data}
 use Rattle.configuration.specs.People.{Group, group_of, groups_with, names_at}
@@ -26,10 +27,6 @@ names_at-added m u g q =
     split : (b : Bool) → bytes_eq q u ≡ b → unwrap_or (cond b (Some (names_at m u ++ g ∷ [])) (cond b None (get m q))) [] ≡ names_at m q ++ cond b (g ∷ []) []
     split true e = ap (λ (x : List ℕ). names_at m x ++ g ∷ []) (sym ((bytes_eq-Decides q u).0 e))
     split false e = sym (append-nil (names_at m q))
-
-and_false : (c : Bool) → (c && false) ≡ false
-and_false true = refl
-and_false false = refl
 
 same_or : (c b : Bool) → c ≡ true → c ≡ (c || b)
 same_or c b h = h ∙ sym (ap (λ (d : Bool). d || b) h)
@@ -63,7 +60,7 @@ adds_none seen names u g q h = sym (append-nil names) ∙ sym (ap (λ (b : Bool)
   where
     split : (b : Bool) → bytes_eq q u ≡ b → (not (contains_key seen q) && b) ≡ false
     split true e = ap (λ (d : Bool). not d && true) (ap (contains_key seen) ((bytes_eq-Decides q u).0 e) ∙ h)
-    split false e = and_false (not (contains_key seen q))
+    split false e = and-false (not (contains_key seen q))
 
 -- one who was not seen gets the group
 pub adds_one : {V : Type 0} (seen : FinMap text_order V) (u g q : List ℕ) → contains_key seen u ≡ false → cond (bytes_eq q u) (g ∷ []) [] ≡ cond (not (contains_key seen q) && bytes_eq q u) (g ∷ []) []
@@ -71,7 +68,7 @@ adds_one seen u g q h = ap (λ (b : Bool). cond b (g ∷ []) []) (split (bytes_e
   where
     split : (b : Bool) → bytes_eq q u ≡ b → b ≡ (not (contains_key seen q) && b)
     split true e = sym (ap (λ (d : Bool). not d && true) (ap (contains_key seen) ((bytes_eq-Decides q u).0 e) ∙ h))
-    split false e = sym (and_false (not (contains_key seen q)))
+    split false e = sym (and-false (not (contains_key seen q)))
 
 -- what is added for some users and for one more
 pub added_more : (old names before : List (List ℕ)) (g : List ℕ) (was here : Bool) → before ≡ old ++ cond was (g ∷ []) [] → names ≡ before ++ cond (not was && here) (g ∷ []) [] → names ≡ old ++ cond (was || here) (g ∷ []) []

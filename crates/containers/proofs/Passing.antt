@@ -4,7 +4,7 @@ use Rattle.std.specs.FinMap.{find}
 use Rattle.std.specs.List.{filter, list_any}
 use Rattle.std.specs.Map.{lookup}
 use Rattle.std.specs.Ordering.{eq_by_cmp, is_lt}
-use Rattle.std.proofs.lemmas.Bool.{or_right}
+use Rattle.std.proofs.lemmas.Bool.{or_right, or_left}
 
 pub by_bool : (b : Bool) (P : Type 0) → (b ≡ true → P) → (b ≡ false → P) → P
 by_bool true P is_so isnt = is_so refl
@@ -23,9 +23,6 @@ lt_less Greater e = contrary false (Greater ≡ Less) e refl
 pub or_more : (a b c : Bool) → (b ≡ true → c ≡ true) → (a || b) ≡ true → (a || c) ≡ true
 or_more true b c f e = refl
 or_more false b c f e = f e
-
-pub or_first : (a b : Bool) → a ≡ true → (a || b) ≡ true
-or_first a b e = ap (λ x. x || b) e
 
 pub or_either : (a b : Bool) (P : Type 0) → (a ≡ true → P) → (b ≡ true → P) → (a || b) ≡ true → P
 or_either true b P f g e = f refl
@@ -74,13 +71,13 @@ module _ {K V : Type 0} (p q : K → Bool) (weaker : (k : K) → p k ≡ true �
 pub found_lookup : {K V : Type 0} (test : K → Bool) (es : List (K × V)) → IsSome (lookup test es) → list_any (λ e. test e.0) es ≡ true
 found_lookup {K} {V} test [] e = contrary false (list_any {X = K × V} (λ d. test d.0) [] ≡ true) e refl
 found_lookup test (e ∷ es) there = by_bool (test e.0) (list_any (λ d. test d.0) (e ∷ es) ≡ true)
-    (λ y. or_first (test e.0) (list_any (λ d. test d.0) es) y)
+    (λ y. or_left (test e.0) (list_any (λ d. test d.0) es) y)
     (λ n. or_right (test e.0) (list_any (λ d. test d.0) es) (found_lookup test es (ap (λ b. is_some (cond b (Some e.1) (lookup test es))) (sym n) ∙ there)))
 
 pub found_find : {K V : Type 0} (R : K → K → Ordering) (k : K) (es : List (K × V)) → IsSome (find R k es) → list_any (λ e. eq_by_cmp R k e.0) es ≡ true
 found_find {K} {V} R k [] e = contrary false (list_any {X = K × V} (λ d. eq_by_cmp R k d.0) [] ≡ true) e refl
 found_find R k (e ∷ es) there = by_bool (eq_by_cmp R k e.0) (list_any (λ d. eq_by_cmp R k d.0) (e ∷ es) ≡ true)
-    (λ y. or_first (eq_by_cmp R k e.0) (list_any (λ d. eq_by_cmp R k d.0) es) y)
+    (λ y. or_left (eq_by_cmp R k e.0) (list_any (λ d. eq_by_cmp R k d.0) es) y)
     (λ n. or_right (eq_by_cmp R k e.0) (list_any (λ d. eq_by_cmp R k d.0) es) (found_find R k es (ap (λ b. is_some (cond b (Some e.1) (find R k es))) (sym n) ∙ there)))
 
 pub on_error : {A E : Type 0} (r : Result A E) (P : Type 0) → P → OnErr r P

@@ -11,9 +11,10 @@ use Rattle.std.proofs.lemmas.Bool.Decides.{Decides-eqb}
 use Rattle.std.proofs.lemmas.Cmp.{tied_itself}
 use Rattle.std.proofs.lemmas.Slice.Eq.{bytes_eq-Decides, starts_is}
 use Rattle.std.proofs.Math.Seq.{split_at}
+use Rattle.std.proofs.lemmas.List.{nil_from_length}
 use Rattle.containers.specs.TextMaps.Keyed.{text_order}
 use Rattle.containers.specs.TextMaps.Nexts.{first, left}
-use Rattle.containers.proofs.TextMaps.KeyedMaps.{exact_texts, no_length}
+use Rattle.containers.proofs.TextMaps.KeyedMaps.{exact_texts}
 use Rattle.containers.proofs.TextMaps.Walks.{less}
 use Rattle.object_ids.specs.Paths.{parent_of, path_of, root_path, starts_with_slash}
 use Rattle.object_ids.proofs.PathLemmas.{IsLongPath, has_last_slash, is_path-from_path_of, parent_of-at, parent_of-none, path_cases}
@@ -271,4 +272,4 @@ is_has_children c path (child, parent, other, there) =
 pub root_childless : (node : Node) → children_of (only_root node) root_path ≡ []
 root_childless node =
     ap (children_in root_path) (entries-insert nat_list_cmp_total (empty {X = Node} {R = text_order}) root_path node
-    ∙ ap (put text_order root_path node) (no_length _ (sym (len-entries (empty {X = Node} {R = text_order})) ∙ len-empty text_order Node)))
+    ∙ ap (put text_order root_path node) (nil_from_length _ (sym (len-entries (empty {X = Node} {R = text_order})) ∙ len-empty text_order Node)))

@@ -1,12 +1,12 @@
 -- A catalogue stays one when a node is put.
 use Rattle.std.proofs.Common.{◌≡◌, ◌≢◌, ◌⊎◌, inl, inr, ⊎_elim, ℕ, ◌+◌, ◌<◌, ◌≤◌, ◌^◌, Bool, true, false, cond, is_some, List, length, Option, Some, None, IsSome, option_map, refl, ap, sym, subst, ◌∙◌, arith, true≢false, lit<, lit≤, lt_irrefl, lt_of_lt_of_le}
 use Rattle.std.specs.Ordering.{eq_by_cmp}
-use Rattle.std.specs.Option.{unwrap_or}
 use Rattle.std.specs.Cmp.Lexicographic.{nat_list_cmp_total}
 use Rattle.std.specs.FinMap.{FinMap, empty, get, insert, len, get-insert, get-empty, len-insert, len-empty}
 use Rattle.std.proofs.lemmas.Bool.{cases_Bool}
 use Rattle.std.proofs.lemmas.Map.Text.{is_eq-slice_cmp}
 use Rattle.std.proofs.lemmas.Slice.Eq.{bytes_eq-Decides}
+use Rattle.std.proofs.lemmas.Option.{same_Some}
 use Rattle.containers.specs.TextMaps.Keyed.{text_order}
 use Rattle.object_ids.specs.Paths.{parent_of, path_of, root_path}
 use Rattle.object_ids.specs.declared.ids.ObjectId.{ObjectId}
@@ -45,9 +45,6 @@ module _ (m : FinMap text_order Node) (path : List ℕ) (node : Node) where
   unfolding IsOther
   get_elsewhere q far = get-insert nat_list_cmp_total m path node q ∙ ap (λ b. cond b (Some node) (get m q)) far
 
-some_class : (x y : NodeClass) → Some x ≡ Some y → x ≡ y
-some_class x y e = ap (λ o. unwrap_or o x) e
-
 has_class : (o : Option NodeClass) → IsSome o → (class : NodeClass) × (o ≡ Some class)
 has_class None h = absurd (true≢false (sym h))
 has_class (Some class) h = (class, refl)
@@ -63,7 +60,7 @@ module _ (c : Contents) (path : List ℕ) (node : Node) where
   class_elsewhere q far = ap (option_map (λ n. n.class)) (get_elsewhere c.nodes path node q far)
 
   class_is : (q : List ℕ) (class : NodeClass) → q ≡ path → class_at (with_node c path node) q ≡ Some class → node.class ≡ class
-  class_is q class same at = some_class node.class class (sym class_here ∙ ap (class_at (with_node c path node)) (sym same) ∙ at)
+  class_is q class same at = same_Some node.class class (sym class_here ∙ ap (class_at (with_node c path node)) (sym same) ∙ at)
 
   class_was : (q : List ℕ) (class : NodeClass) → IsOther q path → class_at (with_node c path node) q ≡ Some class → class_at c q ≡ Some class
   class_was q class far at = sym (class_elsewhere q far) ∙ at

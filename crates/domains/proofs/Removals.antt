@@ -110,7 +110,3 @@ module _ (c : Contents) (path : List ℕ) where
     roots = λ q number id at. valid.roots q number id (was_class q _ at);
     distinct = λ q r number id own at that. valid.distinct q r number id own (was_class q _ at) (was_class r _ that);
   }
-
-pub on_refused : {A E P Q : Type 0} (r : Result A E) → (P → Q) → OnErr r P → OnErr r Q
-on_refused (Ok a) f p = tt
-on_refused (Err e) f p = f p

@@ -2,12 +2,9 @@
 use Rattle.std.proofs.Common.{◌≡◌, ◌≢◌, ℕ, ◌<◌, true, false, List, [], ◌∷◌, length, Option, Some, None, MatchOption, refl, sym, ◌∙◌, ap, arith}
 use Rattle.std.specs.Prelude.{option_map}
 use Rattle.std.specs.FinMap as map
+use Rattle.std.proofs.lemmas.List.{nil_from_length}
 use Rattle.flush_journal.specs.Records.{Record, Held, first_record, records_of, put_record, put_all}
 use Rattle.flush_journal.proofs.RecordLemmas.{records_of_first, records_of_none, records_of_nothing, first_record_shorter}
-
-pub no_length : (l : List ℕ) → length l ≡ 0 → l ≡ []
-no_length [] e = refl
-no_length (b ∷ l) e = absurd (omega arith)
 
 pub put_empty : (key body : List ℕ) (m : Held) → length body ≡ 0 → put_record (key, body) m ≡ map.remove m key
 put_empty key [] m e = refl
@@ -39,7 +36,7 @@ not_read payload rest m0 m so_far some none =
 
 pub all_read : (payload rest : List ℕ) (m0 m : Held) → SoFar payload rest m0 m → length rest ≡ 0 → MatchOption (records_of payload) (true ≡ false) (λ rs. (true ≡ true) × (m ≡ put_all rs m0))
 all_read payload rest m0 m so_far none =
-    all_of (records_of payload) m0 m (so_far ∙ ap (option_map (λ rs. put_all rs m)) (ap records_of (no_length rest none) ∙ records_of_nothing))
+    all_of (records_of payload) m0 m (so_far ∙ ap (option_map (λ rs. put_all rs m)) (ap records_of (nil_from_length rest none) ∙ records_of_nothing))
 
 pub record_read : (payload rest after : List ℕ) (r : Record) (m0 m m' : Held) → SoFar payload rest m0 m → Some (r, after) ≡ first_record rest → m' ≡ put_record r m → SoFar payload after m0 m'
 record_read payload rest after r m0 m m' so_far is put =

@@ -1,12 +1,11 @@
 -- What holds of the links of a group after a change.
 use Rattle.std.proofs.Common.{◌≡◌, ◌<◌, ◌≤◌, ℕ, ◌&&◌, List, Bool, true, false, cond, length, nat_le, nat_lt, Option, Some, None, Result, Ok, Err, OnOk, OnErr, OnErr, refl, sym, ap, subst, ◌∙◌, arith}
-use Rattle.std.proofs.lemmas.Bool.{le-leb, ltb-true}
+use Rattle.std.proofs.lemmas.Bool.{le-leb, ltb-true, and_parts}
 use Rattle.std.specs.Cmp.{Equal-is}
 use Rattle.std.specs.Cmp.Lexicographic.{nat_list_cmp_total}
 use Rattle.std.specs.FinMap.{FinMap, contains_key, empty, get, insert, len, remove, get-empty, get-insert, get-remove, len-empty, same_map}
 use Rattle.std.specs.List.{list_all}
 use Rattle.std.specs.Ordering.{eq_by_cmp}
-use Rattle.json_trees.proofs.TreeLemmas.{both_true}
 use Rattle.containers.specs.TextMaps.Keyed.{text_order}
 use Rattle.containers.proofs.TextMaps.KeyedMaps.{exact_texts}
 use Rattle.object_ids.specs.Names.{is_name, is_name_byte}
@@ -27,8 +26,8 @@ Group = FinMap text_order LinkTo
 -- a name of at most so many bytes
 pub shorter_name : (most : ℕ) (text : List ℕ) → is_name (length text) text ≡ true → length text ≤ most → is_name most text ≡ true
 shorter_name most text name short =
-    let all = both_true (nat_lt 0 (length text) && nat_le (length text) (length text)) (list_all is_name_byte text) name in
-    let some = both_true (nat_lt 0 (length text)) (nat_le (length text) (length text)) all.0 in
+    let all = and_parts (nat_lt 0 (length text) && nat_le (length text) (length text)) (list_all is_name_byte text) name in
+    let some = and_parts (nat_lt 0 (length text)) (nat_le (length text) (length text)) all.0 in
     rw (some.0, le-leb (length text) most short, all.1) refl
 
 -- ---- no links

@@ -1,9 +1,9 @@
 -- Texts and the ids that they are.
 use Rattle.std.proofs.Common.{◌≡◌, ◌≢◌, ℕ, ◌^◌, List, ◌++◌, true, false, cond, Bool, drop, Option, Some, None, option_and_then, refl, sym, ap, ◌∙◌}
-use Rattle.std.proofs.lemmas.Bool.{lt-ltb, ltb-true}
+use Rattle.std.proofs.lemmas.Bool.{lt-ltb, ltb-true, and_parts}
 use Rattle.std.specs.Int.{from_be_bytes, to_be_bytes, w128}
 use Rattle.json_trees.proofs.TableLemmas.{equal_bytes, same_bytes}
-use Rattle.json_trees.proofs.TreeLemmas.{and_then_some, both_true}
+use Rattle.json_trees.proofs.TreeLemmas.{and_then_some}
 use Rattle.object_ids.specs.Text.{parsed}
 use Rattle.object_ids.specs.Ids.{InRange, bits_of, id_in, prefix_of, text_of_id, uuid_of}
 use Rattle.object_ids.specs.IdValues.{Id}
@@ -27,9 +27,9 @@ is_own id h = rw (lt-ltb id.domain (2 ^ 48) h.domain, lt-ltb id.run (2 ^ 22) h.r
 
 owned : (id : Id) (text : List ℕ) → is_text_of id text ≡ true → InRange id × (text_of_id id ≡ text)
 owned id text e =
-    let last = both_true _ _ e in
-    let serial = both_true _ _ last.0 in
-    let run = both_true _ _ serial.0 in (
+    let last = and_parts _ _ e in
+    let serial = and_parts _ _ last.0 in
+    let run = and_parts _ _ serial.0 in (
       record { domain = ltb-true id.domain (2 ^ 48) run.0; run = ltb-true id.run (2 ^ 22) run.1; serial = ltb-true id.serial (2 ^ 40) serial.1 },
       same_bytes (text_of_id id) text last.1,
     )

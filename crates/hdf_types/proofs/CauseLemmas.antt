@@ -3,13 +3,13 @@ use Rattle.std.proofs.Common.{◌≡◌, ℕ, zero, suc, ◌<◌, ◌⊎◌, inl
 use Rattle.std.specs.Option.{ok_or, is_some, option_map_or}
 use Rattle.std.specs.List.{AllByRecursion}
 use Rattle.std.specs.Str.{bytes_eq}
-use Rattle.std.proofs.lemmas.Bool.{le-leb, cases_lt}
+use Rattle.std.proofs.lemmas.Bool.{le-leb, cases_lt, and_parts}
 use Rattle.serde_json.specs.Data.{Data, null, string}
 use Rattle.serde_json.specs.Find.{get, as_str}
 use Rattle.json_trees.specs.Trees.{whole_in, text_at}
 use Rattle.json_trees.specs.Faults.{◌>>=◌}
 use Rattle.json_trees.specs.Tables.{look_up}
-use Rattle.json_trees.proofs.TreeLemmas.{and_then_some, both_true, text_of, whole_in_number}
+use Rattle.json_trees.proofs.TreeLemmas.{and_then_some, text_of, whole_in_number}
 use Rattle.json_trees.proofs.TableLemmas.{same_bytes}
 use Rattle.json_trees.proofs.FaultLemmas.{chosen, ok_or_ok}
 use Rattle.hdf_types.specs.declared.IntType.{IntType}
@@ -163,7 +163,7 @@ some_of (Some x) h = (x, refl)
 
 member_told : (d : Data) → is_member d ≡ true → IsMember d
 member_told d h =
-    let both = both_true (is_some (name_in d)) (is_some (get (codes "type") d)) h in
+    let both = and_parts (is_some (name_in d)) (is_some (get (codes "type") d)) h in
     let named = some_of (name_in d) both.0 in
     let name = name_told d named.0 named.1 in
     ((named.0, name.0, (name.1, name.2)), some_of (get (codes "type") d) both.1)
@@ -174,7 +174,7 @@ member_read d h = rw (name_read d h.0.0 h.0.1 h.0.2.0 h.0.2.1, h.1.1)
 members_list : (ds : List Data) → list_pass ds ≡ true → AllByRecursion IsMember ds
 members_list [] h = tt
 members_list (d ∷ ds) h =
-    let both = both_true (is_member d) (list_pass ds) h in
+    let both = and_parts (is_member d) (list_pass ds) h in
     (member_told d both.0, members_list ds both.1)
 
 pub members_pass : (ds : List Data) → AllByRecursion IsMember ds → list_pass ds ≡ true

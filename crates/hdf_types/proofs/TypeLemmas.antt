@@ -2,14 +2,14 @@
 use Rattle.std.proofs.Common.{◌≡◌, ℕ, zero, suc, ◌≤◌, ◌&&◌, ◌⊎◌, inl, inr, Bool, true, false, cond, List, [], ◌∷◌, ◌++◌, length, Option, Some, None, option_and_then, Result, Ok, Err, IfOk, nat_le, codes, refl, sym, ap, subst, ◌∙◌, arith}
 use Rattle.std.specs.Option.{ok_or}
 use Rattle.std.specs.Str.{bytes_eq}
-use Rattle.std.proofs.lemmas.Bool.{leb-true, le-leb}
+use Rattle.std.proofs.lemmas.Bool.{leb-true, le-leb, and_parts}
 use Rattle.std.proofs.lemmas.Option.{same_Some}
 use Rattle.serde_json.specs.Data.{Data, Items, null, boolean, number, string, array, object}
 use Rattle.serde_json.specs.Find.{get, as_str}
 use Rattle.json_trees.specs.Trees.{list_of, list_in, whole_in, text_at}
 use Rattle.json_trees.specs.Faults.{◌>>=◌}
 use Rattle.json_trees.specs.Tables.{look_up}
-use Rattle.json_trees.proofs.TreeLemmas.{and_then_some, list_in_array, whole_in_number, text_of, both_true}
+use Rattle.json_trees.proofs.TreeLemmas.{and_then_some, list_in_array, whole_in_number, text_of}
 use Rattle.json_trees.proofs.TableLemmas.{same_bytes}
 use Rattle.json_trees.proofs.FaultLemmas.{bind_ok, chosen, ok_or_ok, test_ok}
 use Rattle.hdf_types.specs.declared.IntType.{IntType}
@@ -84,7 +84,7 @@ sized_ok : (path : List ℕ) (utf8 : Bool) (pad : Pad) (n : ℕ) (e : Elem) → 
 unfolding sized_at
 sized_ok path utf8 pad n e h =
     let passed = test_ok (is_good_length n) (Ok (text (record { utf8 = utf8; pad = pad; len = n }))) (fault path BadLength) e h in
-    let ends = both_true (nat_le 1 n) (nat_le n MAX_TEXT) passed.0 in
+    let ends = and_parts (nat_le 1 n) (nat_le n MAX_TEXT) passed.0 in
     (cc, leb-true 1 n ends.0, leb-true n MAX_TEXT ends.1)
 
 string_ok : (path : List ℕ) (d : Data) (e : Elem) → HasClass (codes "H5T_STRING") d → string_at path d ≡ Ok e → IsTypeOf d e × (depth e ≡ 0)
@@ -160,7 +160,7 @@ name_told d name e =
     good_from : (n : List ℕ) → text_at (codes "name") d ≡ Some n → cond (is_good_name n) (Some n) None ≡ Some name → (get (codes "name") d ≡ Some (string name)) × (1 ≤ length name) × (length name ≤ MAX_NAME)
     good_from n is k = elim (chosen (is_good_name n) (Some n) None (Some name) k) [
       | inl p ↦
-          let ends = both_true (nat_le 1 (length n)) (nat_le (length n) MAX_NAME) p.0 in
+          let ends = and_parts (nat_le 1 (length n)) (nat_le (length n) MAX_NAME) p.0 in
           let P = λ (m : List ℕ). (get (codes "name") d ≡ Some (string m)) × (1 ≤ length m) × (length m ≤ MAX_NAME) in
           subst P (same_Some n name p.1) (text_told (codes "name") d n is, leb-true 1 (length n) ends.0, leb-true (length n) MAX_NAME ends.1)
       | inr p ↦ cc
@@ -247,7 +247,7 @@ members_told d ds e =
     some_from : (es : List Data) (items : Items) → get (codes "fields") d ≡ Some (array items) → list_of items ≡ es → some_members es ≡ Some ds → (items : Items) × (get (codes "fields") d ≡ Some (array items)) × (list_of items ≡ ds) × (1 ≤ length ds) × (list_pass ds ≡ true)
     some_from es items is same k = elim (chosen (nat_le 1 (length es) && list_pass es) (Some es) None (Some ds) k) [
       | inl p ↦
-          let ends = both_true (nat_le 1 (length es)) (list_pass es) p.0 in
+          let ends = and_parts (nat_le 1 (length es)) (list_pass es) p.0 in
           let eq = same_Some es ds p.1 in
           let P = λ (x : List Data). 1 ≤ length x in
           let Q = λ (x : List Data). list_pass x ≡ true in

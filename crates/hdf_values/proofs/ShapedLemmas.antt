@@ -1,6 +1,6 @@
 -- A value of a shape is read as its bytes, and these stand for it.
-use Rattle.std.proofs.Common.{◌≡◌, ℕ, List, [], ◌∷◌, length, Ok, refl, sym, ap, ◌∙◌, arith}
-use Rattle.std.proofs.lemmas.List.{append-nil}
+use Rattle.std.proofs.Common.{◌≡◌, ℕ, List, [], Ok, refl, sym, ap, ◌∙◌, arith}
+use Rattle.std.proofs.lemmas.List.{append-nil, nil_from_length}
 use Rattle.serde_json.specs.Data.{Data}
 use Rattle.hdf_types.specs.Elems.{Elem}
 use Rattle.hdf_types.specs.Types.{IsSoundType}
@@ -22,12 +22,8 @@ value_read e Null d bs h = ap null_from h.0 ∙ ap Ok (sym h.1)
 value_read e Scalar d bs h = nested_read e [] 0 d h.0 ∙ ap Ok (one_bytes e d ∙ sym h.1)
 value_read e (Simple dims limits) d bs h = nested_read e dims 0 d h.0 ∙ ap Ok (sym h.1)
 
-no_bytes : (bs : List ℕ) → length bs ≡ 0 → bs ≡ []
-no_bytes [] h = refl
-no_bytes (b ∷ bs) h = absurd (omega arith)
-
 pub value_back : (e : Elem) (s : Shape) (bs : List ℕ) → IsSoundType e → AreEncoded e (count_of s) bs → value_from e s (value_tree e s bs) ≡ Ok bs
-value_back e Null bs w h = ap Ok (sym (no_bytes bs (omega (arith, h.whole))))
+value_back e Null bs w h = ap Ok (sym (nil_from_length bs (omega (arith, h.whole))))
 value_back e Scalar bs w h = decoded_read e [] bs w h
 value_back e (Simple dims limits) bs w h = decoded_read e dims bs w h
 

@@ -1,5 +1,5 @@
 -- The values of a list, seen as data, and lists read member by member.
-use Rattle.std.proofs.Common.{◌≡◌, ℕ, ◌&&◌, Bool, true, false, List, [], ◌∷◌, map, length, Option, Some, None, option_map, option_and_then, suc, subst, refl, ap}
+use Rattle.std.proofs.Common.{◌≡◌, ℕ, true, false, List, [], ◌∷◌, map, length, Option, Some, None, option_map, option_and_then, suc, subst, refl, ap}
 use Rattle.std.proofs.lemmas.Bool.{false≢true}
 use Rattle.serde_json.specs.Data.{Data, Items, null, boolean, number, string, array, object, unsigned, negative, float}
 use Rattle.serde_json.specs.Find.{as_str}
@@ -83,8 +83,3 @@ text_of (number n) word e = cc
 text_of (string s) word e = cc
 text_of (array ds) word e = cc
 text_of (object ms) word e = cc
-
--- two tests that both pass
-pub both_true : (a b : Bool) → (a && b) ≡ true → (a ≡ true) × (b ≡ true)
-both_true true b e = (refl, e)
-both_true false b e = cc

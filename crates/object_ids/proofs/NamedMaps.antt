@@ -20,10 +20,6 @@ name_of n = n.name
 abbrev named_entry : {X : Type 0} → List ℕ × Named X → List ℕ × X
 named_entry e = (e.1.name, e.1.value)
 
-pub on_ok : {A E P Q : Type 0} (r : Result A E) → (P → Q) → OnOk r P → OnOk r Q
-on_ok (Ok a) f p = f p
-on_ok (Err e) f p = tt
-
 -- one loan, and two ways to say what its owner ends as
 pub same_lent : {N V D : Type 0} {n : N} {F G : V → D} → ((w : V) → F w ≡ G w) → ◌≡◌ {A = (N × (V → D)) ⊎ D} (inl (n, F)) (inl (n, G))
 same_lent {n = n} same = λ i. inl (n, λ w. same w i)

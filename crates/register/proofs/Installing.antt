@@ -4,6 +4,7 @@ use Rattle.std.proofs.lemmas.Nat.{from_be_bytes-to_be_bytes_4}
 use Rattle.std.specs.Int.{from_be_bytes, w32}
 use Rattle.std.specs.Prelude.{option_and_then}
 use Rattle.std.specs.FinMap.{get}
+use Rattle.std.proofs.lemmas.Option.{same_Some}
 use Rattle.flush_journal.specs.Records.{Held}
 use Rattle.object_ids.specs.IdValues.{Id}
 use Rattle.domains.specs.Contents.{Contents, IsDomainAt}
@@ -28,15 +29,9 @@ none_class x e = absurd (cc)
 none_node : {P : Type 0} (x : Node) → None ≡ Some x → P
 none_node x e = absurd (cc)
 
-same_class : (x y : NodeClass) → Some x ≡ Some y → x ≡ y
-same_class x y e = cc
-
-pub same_bytes : (x y : List ℕ) → Some x ≡ Some y → x ≡ y
-same_bytes x y e = cc
-
 pub one_run : (held : Held) (a b : ℕ) → IsRun held a → IsRun held b → a ≡ b
 one_run held a b x y =
-    sym (from_be_bytes-to_be_bytes_4 a (below a x.small)) ∙ ap (from_be_bytes w32) (same_bytes (run_bytes a) (run_bytes b) (sym x.here ∙ y.here)) ∙ from_be_bytes-to_be_bytes_4 b (below b y.small) where
+    sym (from_be_bytes-to_be_bytes_4 a (below a x.small)) ∙ ap (from_be_bytes w32) (same_Some (run_bytes a) (run_bytes b) (sym x.here ∙ y.here)) ∙ from_be_bytes-to_be_bytes_4 b (below b y.small) where
       below : (n : ℕ) → n < 2 ^ 22 → n < 2 ^ 32
       below n small = omega arith
 
@@ -54,7 +49,7 @@ module _ (held : Held) (run : ℕ) (c : Contents) (h : DescribesRegister held ru
     found None e = none_class (Domain number root) (told None e)
     found (Some body) e =
         let r = h.rules path body e in
-        let class = same_class r.node.class (Domain number root) (sym (ap (option_map (λ (n : Node). n.class)) r.reads) ∙ told (Some body) e) in
+        let class = same_Some r.node.class (Domain number root) (sym (ap (option_map (λ (n : Node). n.class)) r.reads) ∙ told (Some body) e) in
         (subst (λ (x : NodeClass). KeepsNumber held path x) class r.number).made run h.kept
 
   -- the roots were given out in earlier runs

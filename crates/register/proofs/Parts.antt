@@ -68,10 +68,6 @@ module _ (due : Bool) (key body : List ℕ) (old new : List Record) where
 
 -- ---- what a call says
 
-pub map_err : {A E P Q : Type 0} (r : Result A E) → (P → Q) → OnErr r P → OnErr r Q
-map_err (Ok x) f h = tt
-map_err (Err e) f h = f h
-
 pub on_error : {A E P : Type 0} (r : Result A E) → P → OnErr r P
 on_error (Ok x) h = tt
 on_error (Err e) h = h

@@ -5,7 +5,7 @@ use Rattle.std.specs.FinMap.{FinMap, contains_key, entries, get}
 use Rattle.std.specs.List.{AllByRecursion}
 use Rattle.std.specs.Ordering.{is_lt, ordering_reverse}
 use Rattle.std.proofs.lemmas.Cmp.{tied_itself}
-use Rattle.std.proofs.lemmas.Bool.{and_from}
+use Rattle.std.proofs.lemmas.Bool.{and_from, and_parts}
 use Rattle.containers.specs.TextMaps.Keyed.{text_order}
 use Rattle.containers.specs.TextMaps.Nexts.{is_behind, left, IsNext, IsStep}
 use Rattle.containers.proofs.TextMaps.KeyedMaps.{exact_texts}
@@ -19,14 +19,6 @@ use Rattle.object_records.specs.Keys.Keys.{node_key}
 use Rattle.register.specs.Cutting.{AddsNodes, AddsWanted, AreAdded, IsAmong, IsDueNode, IsNodeBody, IsRightNode, is_key_wanted, is_of_all, is_of_paths, is_wanted}
 use Rattle.register.specs.Marks.{Marked}
 use Rattle.containers.proofs.Passing.{by_bool, contrary, lt_less}
-
-pub first_half : (a b : Bool) → (a && b) ≡ true → a ≡ true
-first_half true b e = refl
-first_half false b e = contrary false (false ≡ true) e refl
-
-pub second_half : (a b : Bool) → (a && b) ≡ true → b ≡ true
-second_half true b e = e
-second_half false b e = contrary false (b ≡ true) e refl
 
 pub same_path : (p q : List ℕ) → node_key p ≡ node_key q → p ≡ q
 same_path p q e = cc
@@ -82,7 +74,7 @@ module _ (c : Contents) {V : Type 0} (keys : FinMap text_order V) (missing : Boo
 
   none_behind : (last : Option (List ℕ)) → IsNext keys last None → (path : List ℕ) → is_behind text_order last path ≡ true → wanted path ≡ true → IsAmong (node_key path) []
   none_behind last none path behind want =
-      contrary (is_some (get keys path)) (IsAmong (node_key path) []) (first_half (contains_key keys path) (is_wanted c missing path) want) (ap is_some (none path behind))
+      contrary (is_some (get keys path)) (IsAmong (node_key path) []) (and_parts (contains_key keys path) (is_wanted c missing path) want).0 (ap is_some (none path behind))
 
   pub walk_end : (old cur : List Record) (last : Option (List ℕ)) → IsNext keys last None → IsPathWalk old cur last → AddsNodes c wanted true old cur
   walk_end old cur last none walk = nothing_more old cur last true (record { right = tt; once = tt; all = λ w. none_behind last none }) walk
@@ -98,7 +90,7 @@ module _ (c : Contents) {V : Type 0} (keys : FinMap text_order V) (missing : Boo
     -- what is wanted and isn't behind the next path is that path
     not_before : (path : List ℕ) (P : Type 0) → is_behind text_order last path ≡ true → wanted path ≡ true → text_order path k ≡ Less → P
     not_before path P behind want less =
-        contrary (is_some (get keys path)) P (first_half (contains_key keys path) (is_wanted c missing path) want) (ap is_some (next.2 path behind less))
+        contrary (is_some (get keys path)) P (and_parts (contains_key keys path) (is_wanted c missing path) want).0 (ap is_some (next.2 path behind less))
 
     with_record : (whole : Bool) (body : List ℕ) (tail : List Record) → is_wanted c missing k ≡ true → IsNodeBody (get c.nodes k) body → IsTail whole (Some k) tail
         → IsTail whole last ((node_key k, body) ∷ tail)
@@ -120,7 +112,7 @@ module _ (c : Contents) {V : Type 0} (keys : FinMap text_order V) (missing : Boo
       all = λ w path behind want. by_bool (is_behind text_order (Some k) path) (IsAmong (node_key path) tail)
           (λ y. t.all w path y want)
           (λ n. by_place k path (IsAmong (node_key path) tail) n
-          (λ same. contrary (is_wanted c missing k) (IsAmong (node_key path) tail) (subst (λ (p : List ℕ). is_wanted c missing p ≡ true) (sym same) (second_half (contains_key keys path) (is_wanted c missing path) want)) unwanted)
+          (λ same. contrary (is_wanted c missing k) (IsAmong (node_key path) tail) (subst (λ (p : List ℕ). is_wanted c missing p ≡ true) (sym same) (and_parts (contains_key keys path) (is_wanted c missing path) want).1) unwanted)
           (λ less. not_before path (IsAmong (node_key path) tail) behind want less));
     }
 

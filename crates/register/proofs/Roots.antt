@@ -2,6 +2,7 @@
 use Rattle.std.proofs.Common.{◌≡◌, ◌⊎◌, inl, inr, ⊎_elim, ℕ, ◌+◌, cond, is_some, List, Option, Some, None, option_map, refl, ap, sym, subst, ◌∙◌, arith, true≢false}
 use Rattle.std.specs.Cmp.Lexicographic.{nat_list_cmp_total}
 use Rattle.std.specs.FinMap.{empty, get, insert, get-empty, get-remove}
+use Rattle.std.proofs.lemmas.Option.{same_Some}
 use Rattle.containers.specs.TextMaps.Keyed.{text_order}
 use Rattle.object_ids.specs.IdValues.{Id}
 use Rattle.object_ids.specs.Paths.{root_path}
@@ -29,16 +30,13 @@ put_domain_was : (c : Contents) (path : List ℕ) (node : Node) (q : List ℕ) (
     → (node.class ≡ Domain number root) ⊎ IsDomainAt c q number root
 put_domain_was c path node q number root at =
     ⊎_elim
-    (λ same. inl (some_class node.class (Domain number root) (sym (class_here c path node) ∙ ap (class_at (with_node c path node)) (sym same) ∙ at)))
+    (λ same. inl (same_Some node.class (Domain number root) (sym (class_here c path node) ∙ ap (class_at (with_node c path node)) (sym same) ∙ at)))
     (λ far. inr (sym (class_elsewhere c path node q far) ∙ at))
     (same_or_other q path)
   where
     class_or : NodeClass → Option NodeClass → NodeClass
     class_or x None = x
     class_or x (Some y) = y
-
-    some_class : (x y : NodeClass) → Some x ≡ Some y → x ≡ y
-    some_class x y e = ap (class_or x) e
 
 pub with_folder : (c : Contents) (path owner : List ℕ) (run serial : ℕ) → AreGivenOut c run serial → AreGivenOut (with_node c path (new_node Folder owner)) run serial
 with_folder c path owner run serial h q number root at =

@@ -1,6 +1,7 @@
 -- The array of the document's dataset has the elements in its cells.
 use Rattle.std.proofs.Common.{◌≡◌, ℕ, ◌+◌, ◌*◌, ◌^◌, ◌<◌, List, [], ◌∷◌, codes, Result, Some, None, Ok, inl, inr, refl, sym, ap, subst, ◌∙◌, arith}
-use Rattle.serde_json.specs.Data.{Data, string}
+use Rattle.std.proofs.lemmas.Option.{same_Some}
+use Rattle.serde_json.specs.Data.{string}
 use Rattle.serde_json.specs.View.{items_of}
 use Rattle.hdf_types.specs.Elems.{Elem}
 use Rattle.hdf_types.specs.Reading.{int_named, size_of, type_of}
@@ -51,9 +52,6 @@ shape_is s h =
 same_bytes : (a b : List ℕ) (r : Result (List ℕ) ValueFault) → r ≡ Ok a → r ≡ Ok b → a ≡ b
 same_bytes a b r h k = cc
 
-same_tree : (x y : Data) → Some x ≡ Some y → x ≡ y
-same_tree x y e = cc
-
 -- the bytes of the dataset's value are those of its elements
 value_bytes : (n : ℕ) (e : Elem) (s : Shape) (bs : List ℕ) (limits : List ℕ) → n < 2 ^ 64 → e ≡ i32 → s ≡ Simple (1000 ∷ 1000 ∷ []) limits → value_from e s (value_tree n 1000 1000) ≡ Ok bs
     → bs ≡ nested_bytes i32 (1000 ∷ 1000 ∷ []) (value_tree n 1000 1000)
@@ -82,7 +80,7 @@ sample_is n g bs small type shape read cells =
           let inside : IsInside (row ∷ column ∷ []) (1000 ∷ 1000 ∷ []) = (h, (k, tt)) in
           let lies = subst (λ (s : Shape). LiesIn at s) (sym square) inside in
           let found = row_bytes i32 dims at v i32_sound (value_fits n 1000 1000 small) inside in
-          let is = same_tree found.0 (whole (element n (row * 1000 + column))) (sym found.1 ∙ value_at_cell n 1000 1000 row column h k) in
+          let is = same_Some found.0 (whole (element n (row * 1000 + column))) (sym found.1 ∙ value_at_cell n 1000 1000 row column h k) in
           cells at lies
           ∙ ap (λ e. piece_at (size_of e) (place at (dims_of g.shape)) bs) kind
           ∙ ap (λ (s : Shape). piece_at 4 (place at (dims_of s)) bs) square

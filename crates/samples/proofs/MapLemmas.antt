@@ -1,17 +1,14 @@
 -- Maps of one entry.
-use Rattle.std.proofs.Common.{◌≡◌, ◌-◌, List, [], ◌∷◌, cond, length, Some, is_eq, is_some, Ordering, refl, sym, ap, ◌∙◌, arith}
+use Rattle.std.proofs.Common.{◌≡◌, ◌-◌, [], ◌∷◌, cond, length, Some, is_eq, is_some, Ordering, sym, ap, ◌∙◌, arith}
 use Rattle.std.specs.Cmp.{IsTotalOrder}
 use Rattle.std.specs.FinMap.{FinMap, empty, empty_of_len, entries, entries-insert, get, get-insert, insert, len, len-empty, len-entries, len-remove, put, remove}
 use Rattle.std.proofs.lemmas.Cmp.{tied_itself}
-
-no_entries : {A : Type 0} (es : List A) → length es ≡ 0 → es ≡ []
-no_entries [] e = refl
-no_entries (x ∷ es) e = absurd (omega arith)
+use Rattle.std.proofs.lemmas.List.{nil_from_length}
 
 pub none_entries : {K : Type 0} (X : Type 0) (R : K → K → Ordering) → entries (empty {X = X} {R = R}) ≡ []
 none_entries X R =
     let m = empty {X = X} {R = R} in
-    no_entries (entries m) (sym (len-entries m) ∙ len-empty R X)
+    nil_from_length (entries m) (sym (len-entries m) ∙ len-empty R X)
 
 module _ {K X : Type 0} {R : K → K → Ordering} (o : IsTotalOrder R) where
   pub get_put : (m : FinMap R X) (k : K) (v : X) → get (insert m k v) k ≡ Some v

@@ -2,6 +2,7 @@
 use Rattle.std.proofs.Common.{◌≡◌, ℕ, zero, suc, ◌+◌, ◌-◌, ◌*◌, ◌/◌, ◌%◌, ◌^◌, ◌<◌, ◌≤◌, List, [], ◌∷◌, map, length, get_or, Some, option_and_then, inl, inr, inl, inr, refl, sym, ap, subst, ◌∙◌, arith}
 use Rattle.std.specs.List.{AllByRecursion, range_with_len}
 use Rattle.std.proofs.lemmas.List.FromFn.{fill_by_all, length-map-range_with_len, get_or-map-range_with_len}
+use Rattle.std.proofs.lemmas.Option.{same_Some}
 use Rattle.serde_json.specs.Data.{Data, Items, null, array, item, no_items}
 use Rattle.serde_json.specs.View.{items_of}
 use Rattle.json_trees.specs.Trees.{list_of}
@@ -46,9 +47,6 @@ made_of : (items : Items) (x : ℕ → Data) (many : ℕ) → length (list_of it
     → array items ≡ listed (map x (range_with_len 0 many))
 made_of items x many long each = ap array (sym (items_of-list_of items)) ∙ ap listed (fill_by_all x (list_of items) many null long each)
 
-some_same : (x y : Data) → Some x ≡ Some y → x ≡ y
-some_same x y e = cc
-
 -- of one axis
 row_is : (d : Data) (x : ℕ → Data) (many : ℕ) → FitsNested i32 (many ∷ []) d → ((i : ℕ) → i < many → tree_at (i ∷ []) d ≡ Some (x i)) → d ≡ listed (map x (range_with_len 0 many))
 row_is d x many fits each =
@@ -56,7 +54,7 @@ row_is d x many fits each =
     fits.1
     ∙ made_of items x many fits.2 (λ i h.
     let there : i < length (list_of fits.0) = omega (arith, fits.2) in
-    some_same (get_or (list_of items) i null) (x i)
+    same_Some (get_or (list_of items) i null) (x i)
     (sym (ap (λ o. option_and_then (tree_at []) o) (item_at items i there)) ∙ (sym (ap (tree_at (i ∷ [])) fits.1) ∙ each i h)))
 
 -- of two axes

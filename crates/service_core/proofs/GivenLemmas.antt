@@ -1,7 +1,8 @@
 -- The ids of objects were given, also after a request.
 use Rattle.std.proofs.Common.{◌≡◌, ℕ, ◌+◌, ◌<◌, ◌==◌, nat_lt, IfSome, Bool, true, false, cond, List, [], ◌∷◌, Option, Some, None, refl, sym, ap, subst, ◌∙◌, arith, eqb-true}
 use Rattle.std.specs.FinMap.{get}
-use Rattle.json_trees.proofs.TreeLemmas.{both_true}
+use Rattle.std.proofs.lemmas.Option.{none-some}
+use Rattle.std.proofs.lemmas.Bool.{and_parts}
 use Rattle.object_ids.specs.IdValues.{Id}
 use Rattle.object_ids.specs.declared.ids.Kind.{Kind}
 use Rattle.object_ids.specs.IdOrder.{id_eq}
@@ -31,15 +32,12 @@ use Rattle.service_core.specs.Steps.{AreGiven, IsGiven, Obeys, StopsIn, run_on, 
 use Rattle.service_core.specs.Worlds.{IsFreshId}
 use Rattle.service_core.proofs.ForgetLemmas.{get-without}
 
-pub no_object : (o : Object) → None ≡ Some o → ⊥
-no_object o e = let both : None ≡ Some o = e in absurd (cc)
-
 -- ids of one number, run and serial are given together
 pub given_same : (d : Door) (id root : Id) → id_eq id root ≡ true → IsGiven d root → IsGiven d id
 given_same d id root e h =
-    let a = both_true _ _ e in
-    let b = both_true _ _ a.1 in
-    let c = both_true _ _ b.1 in
+    let a = and_parts _ _ e in
+    let b = and_parts _ _ a.1 in
+    let c = and_parts _ _ b.1 in
     let domain : id.domain ≡ root.domain = eqb-true id.domain root.domain b.0 in
     let run : id.run ≡ root.run = eqb-true id.run root.run c.0 in
     let serial : id.serial ≡ root.serial = eqb-true id.serial root.serial c.1 in
@@ -57,27 +55,27 @@ module _ (d : Door) (g : Grant) (root : IsGiven d g.root) (fresh : (id : Id) →
     changed_none : (own same : Bool) → (same ≡ true → IsGiven d id) → (o : Object)
         → (changed_by f (missing g id) None (cond own (cond same (Some empty_group) None) None)).1 ≡ Some o → IsGiven d id
     changed_none true true h o e = h refl
-    changed_none true false h o e = absurd (no_object o e)
-    changed_none false same h o e = absurd (no_object o e)
+    changed_none true false h o e = absurd (none-some o e)
+    changed_none false same h o e = absurd (none-some o e)
 
     changing_none : (o : Object) → (changing g id f None).1 ≡ Some o → IsGiven d id
     changing_none o e = changed_none (id.domain == g.number) (id_eq id g.root) (λ same. given_same d id g.root same root) o e
 
   on_none : (b : Bool) (op : Op) (id : Id) (o : Object) → (cond b (reading g id (reply_of g.root op) None) (changing g id (change_of op) None)).1 ≡ Some o → IsGiven d id
-  on_none true op id o e = absurd (no_object o e)
+  on_none true op id o e = absurd (none-some o e)
   on_none false op id o e = changing_none id (change_of op) o e
 
   removing_none : (b : Bool) (id : Id) (s : Option Object) (o : Object) → (removed b (missing g id) None s).1 ≡ Some o → IsGiven d id
-  removing_none b id None o e = absurd (no_object o e)
-  removing_none true id (Some x) o e = absurd (no_object o e)
-  removing_none false id (Some x) o e = absurd (no_object o e)
+  removing_none b id None o e = absurd (none-some o e)
+  removing_none true id (Some x) o e = absurd (none-some o e)
+  removing_none false id (Some x) o e = absurd (none-some o e)
 
   linking_none : (place : Option LinkPlace) (new : Option Id) (id : Id) → group_of place ≡ Some id → (o : Object) → (linking g place new None).1 ≡ Some o → IsGiven d id
   linking_none (Some place) (Some new) id at o e =
       let same : place.group ≡ id = (let both : Some place.group ≡ Some id = at in cc) in
       subst (IsGiven d) same (changing_none place.group (link_to place new) o e)
-  linking_none (Some place) None id at o e = absurd (no_object o e)
-  linking_none None new id at o e = absurd (no_object o e)
+  linking_none (Some place) None id at o e = absurd (none-some o e)
+  linking_none None new id at o e = absurd (none-some o e)
 
   make_none : (make : Make) (place : Option LinkPlace) (s : Step) (id : Id) → touched_by_make g place s ≡ Some id → (o : Object) → (make_act g make place s None).1 ≡ Some o → IsGiven d id
   make_none make place Only id at o e = fresh id at

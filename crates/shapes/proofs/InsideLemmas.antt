@@ -1,9 +1,8 @@
 -- The test of coordinates, axis by axis, agrees with the relation.
 use Rattle.std.proofs.Common.{◌≡◌, ℕ, suc, ◌+◌, ◌<◌, ◌≤◌, Bool, true, false, List, [], ◌∷◌, length, drop, get_or, nat_lt, inl, inr, IsTrue, ◌↔◌, refl, ap, ◌∙◌, sym, arith}
 use Rattle.std.proofs.lemmas.Bool.Decides.{nat_tests}
-use Rattle.std.proofs.lemmas.Bool.{ltb-true, lt-ltb, cases_Bool}
+use Rattle.std.proofs.lemmas.Bool.{ltb-true, lt-ltb, cases_Bool, and_parts}
 use Rattle.std.proofs.lemmas.List.{drop_more, drop_all}
-use Rattle.json_trees.proofs.TreeLemmas.{both_true}
 use Rattle.shapes.specs.Places.{IsInside, is_inside}
 use Rattle.shapes.specs.declared.Shape.{Shape}
 use Rattle.shapes.specs.declared.Shape.TheVariants.{Null, Scalar, Simple}
@@ -34,7 +33,7 @@ inside_told [] [] e = tt
 inside_told [] (n ∷ ns) e = cc
 inside_told (x ∷ xs) [] e = cc
 inside_told (x ∷ xs) (n ∷ ns) e =
-    let both = both_true (nat_lt x n) (is_inside xs ns) e in
+    let both = and_parts (nat_lt x n) (is_inside xs ns) e in
     (ltb-true x n both.0, inside_told xs ns both.1)
 
 pub inside_read : (xs ns : List ℕ) → IsInside xs ns → is_inside xs ns ≡ true

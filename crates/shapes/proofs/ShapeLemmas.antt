@@ -1,7 +1,7 @@
 -- The tests in order find the shape that the grammar relates to the trees, and no other.
 use Rattle.std.proofs.Common.{◌≡◌, ℕ, zero, suc, ◌≤◌, ◌&&◌, inl, inr, true, false, List, [], ◌∷◌, map, length, All, Option, Some, None, option_and_then, MatchOption, Result, Ok, Err, IfOk, IfSome, nat_le, nat_eq, codes, refl, sym, ap, subst, ◌∙◌, arith}
 use Rattle.std.specs.Str.{bytes_eq}
-use Rattle.std.proofs.lemmas.Bool.{leb-true, le-leb, eqb-true, eq-eqb}
+use Rattle.std.proofs.lemmas.Bool.{leb-true, le-leb, eqb-true, eq-eqb, and_parts}
 use Rattle.std.proofs.lemmas.List.Elements.{All-nil, All-cons, All-head, All-tail}
 use Rattle.std.proofs.lemmas.Option.{same_Some}
 use Rattle.std.proofs.lemmas.Bool.Decides.{nat_tests}
@@ -9,7 +9,7 @@ use Rattle.serde_json.specs.Data.{Data, null, boolean, number, string, array, ob
 use Rattle.serde_json.specs.Find.{get, as_str}
 use Rattle.json_trees.specs.Trees.{list_of}
 use Rattle.std.specs.List.{AllZip}
-use Rattle.json_trees.proofs.TreeLemmas.{and_then_some, length-AllZip, text_of, both_true}
+use Rattle.json_trees.proofs.TreeLemmas.{and_then_some, length-AllZip, text_of}
 use Rattle.json_trees.proofs.TableLemmas.{same_bytes}
 use Rattle.json_trees.proofs.FaultLemmas.{chosen, test_ok}
 use Rattle.shapes.specs.declared.Shape.{Shape}
@@ -76,7 +76,7 @@ pub grid_ok : (dims limits : List ℕ) (s : Shape) → grid_of dims limits ≡ O
 unfolding grid_of
 grid_ok dims limits s e =
     let passed = test_ok (nat_le 1 (length dims) && nat_le (length dims) MAX_RANK) (fitted_of dims limits) Rank s e in
-    let ranked = both_true (nat_le 1 (length dims)) (nat_le (length dims) MAX_RANK) passed.0 in
+    let ranked = and_parts (nat_le 1 (length dims)) (nat_le (length dims) MAX_RANK) passed.0 in
     let rest = fitted_ok dims limits s passed.1 in
     (rest.0, record { some_axis = leb-true 1 (length dims) ranked.0; few_axes = leb-true (length dims) MAX_RANK ranked.1; within = rest.1; room = rest.2 })
 
@@ -317,7 +317,7 @@ IfSome-from (Some ns) P h = h ns refl
 few_told : (ns ms : List ℕ) → few_of ns ≡ Some ms → (ns ≡ ms) × (1 ≤ length ns) × (length ns ≤ MAX_RANK)
 few_told ns ms e = elim (chosen (nat_le 1 (length ns) && nat_le (length ns) MAX_RANK) (Some ns) None (Some ms) e) [
   | inl p ↦
-      let ranked = both_true (nat_le 1 (length ns)) (nat_le (length ns) MAX_RANK) p.0 in
+      let ranked = and_parts (nat_le 1 (length ns)) (nat_le (length ns) MAX_RANK) p.0 in
       (same_Some ns ms p.1, leb-true 1 (length ns) ranked.0, leb-true (length ns) MAX_RANK ranked.1)
   | inr p ↦ cc
 ]

@@ -1,34 +1,16 @@
 -- The token that a header's value shows, in two ways of saying it.
-use Rattle.std.proofs.Common.{◌≡◌, ℕ, List, [], ◌∷◌, ◌++◌, map, length, take, drop, Bool, true, false, not, ◌==◌, ◌&&◌, Option, Some, None, is_some, codes, if◌then◌else◌, refl, ap, sym, ◌∙◌, true≢false, take-append-drop, ⊎_elim}
+use Rattle.std.proofs.Common.{◌≡◌, ℕ, List, [], ◌∷◌, ◌++◌, map, length, take, drop, Bool, true, false, ◌==◌, Option, Some, None, is_some, codes, if◌then◌else◌, refl, ap, sym, ◌∙◌, true≢false, take-append-drop, ⊎_elim}
 use Rattle.std.specs.Char.{to_ascii_lowercase}
 use Rattle.std.specs.List.{list_all}
-use Rattle.std.specs.Option.{unwrap_or}
 use Rattle.std.proofs.Math.Seq.{take-append_seam, drop-append_seam}
-use Rattle.std.proofs.lemmas.Bool.{cases_Bool, eqb-true, and_from}
+use Rattle.std.proofs.lemmas.Bool.{cases_Bool, eqb-true, and_from, not-true, not_from_false, and_parts}
 use Rattle.std.proofs.lemmas.List.{length-map}
 use Rattle.std.proofs.lemmas.Slice.Eq.{bytes_eq-Decides}
+use Rattle.std.proofs.lemmas.Option.{same_Some}
 use Rattle.access_lists.specs.Tokens.Bearer.{ShowsToken, after_spaces, bearer_token, begins_token, if_any, is_bearer, without_spaces}
 
 is_space : ℕ → Bool
 is_space byte = byte == 32
-
-not-true : (b : Bool) → not b ≡ true → b ≡ false
-not-true true h = absurd (true≢false (sym h))
-not-true false h = refl
-
-not-false : (b : Bool) → b ≡ false → not b ≡ true
-not-false b h = ap not h
-
-and_first : (a b : Bool) → (a && b) ≡ true → a ≡ true
-and_first true b h = refl
-and_first false b h = absurd (true≢false (sym h))
-
-and_second : (a b : Bool) → (a && b) ≡ true → b ≡ true
-and_second true b h = h
-and_second false b h = absurd (true≢false (sym h))
-
-some_bytes : (x y : List ℕ) → Some x ≡ Some y → x ≡ y
-some_bytes x y e = ap (λ o. unwrap_or o x) e
 
 module _ {A : Type 0} (b : Bool) (x y : A) where
   if_yes : b ≡ true → (if b then x else y) ≡ x
@@ -48,7 +30,7 @@ skips : (spaces token : List ℕ) → list_all (λ byte. byte == 32) spaces ≡ 
 skips [] [] blank begins = refl
 skips [] (byte ∷ bytes) blank begins = if_no _ _ _ (not-true (byte == 32) begins)
 skips (space ∷ spaces) token blank begins =
-    if_yes _ _ _ (and_first (space == 32) _ blank) ∙ skips spaces token (and_second (space == 32) _ blank) begins
+    if_yes _ _ _ (and_parts (space == 32) _ blank).0 ∙ skips spaces token (and_parts (space == 32) _ blank).1 begins
 
 if_any-token : (token : List ℕ) → begins_token token ≡ true → if_any token ≡ Some token
 if_any-token [] begins = absurd (true≢false (sym begins))
@@ -93,8 +75,8 @@ no_space : (byte : ℕ) (bytes token : List ℕ) → (byte == 32) ≡ false → 
 no_space byte bytes token other h = record {
   spaces = [];
   blank = refl;
-  begins = ap begins_token (sym (some_bytes _ _ h)) ∙ not-false (byte == 32) other;
-  parts = some_bytes _ _ h;
+  begins = ap begins_token (sym (same_Some _ _ h)) ∙ not_from_false (byte == 32) other;
+  parts = same_Some _ _ h;
 }
 
 rest-from : (bytes token : List ℕ) → if_any (without_spaces bytes) ≡ Some token → Rest bytes token

@@ -1,8 +1,7 @@
 -- The default chunk is the one after the fewest halvings.
 use Rattle.std.proofs.Common.{◌≡◌, ℕ, zero, suc, ◌*◌, ◌≤◌, Bool, true, false, cond, List, [], ◌∷◌, ◌+◌, sum, nat_lt, refl, sym, ap, ◌∙◌, arith}
-use Rattle.std.proofs.lemmas.Bool.{lt-ltb, ltb-true, false≢true}
+use Rattle.std.proofs.lemmas.Bool.{lt-ltb, ltb-true, false≢true, and_parts}
 use Rattle.std.proofs.lemmas.List.Sums.{sum_by-cons}
-use Rattle.json_trees.proofs.TreeLemmas.{both_true}
 use Rattle.shapes.specs.Places.{cell_count}
 use Rattle.chunk_layout.specs.declared.TheConstants.{DEFAULT_CHUNK_BYTES}
 use Rattle.chunk_layout.specs.Defaults.{at_least_one, largest, halved, IsLarge, IsHalvedDown, IsDefault}
@@ -11,7 +10,7 @@ use Rattle.chunk_layout.specs.DefaultChunks.Halving.{default_chunk, halved_while
 
 large : (size : ℕ) (chunk : List ℕ) → is_large size chunk ≡ true → IsLarge size chunk
 large size chunk e =
-    let both = both_true (nat_lt DEFAULT_CHUNK_BYTES (size * cell_count chunk)) (nat_lt 1 (largest chunk)) e in
+    let both = and_parts (nat_lt DEFAULT_CHUNK_BYTES (size * cell_count chunk)) (nat_lt 1 (largest chunk)) e in
     (ltb-true DEFAULT_CHUNK_BYTES (size * cell_count chunk) both.0, ltb-true 1 (largest chunk) both.1)
 
 not_large : (size : ℕ) (chunk : List ℕ) → is_large size chunk ≡ false → IsLarge size chunk → ⊥

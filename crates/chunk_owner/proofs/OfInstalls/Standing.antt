@@ -2,6 +2,7 @@
 use Rattle.std.proofs.Common.{◌≡◌, ◌≢◌, ℕ, ◌<◌, cond, List, [], length, Option, Some, None, option_and_then, refl, sym, ap, subst, ◌∙◌, arith}
 use Rattle.std.specs.FinMap.{get}
 use Rattle.std.specs.Option.{option_map_or}
+use Rattle.std.proofs.lemmas.Option.{none-some}
 use Rattle.flush_journal.specs.Records.{Held}
 use Rattle.object_ids.specs.IdValues.{Id}
 use Rattle.object_ids.specs.declared.ids.Kind.TheVariants as kinds
@@ -17,7 +18,6 @@ use Rattle.object_records.specs.Objects.{object_of_body}
 use Rattle.chunk_owner.specs.Slots.Slots.{Describes, HasCells, chunks_at}
 use Rattle.chunk_owner.proofs.OfSlots.KeyFacts.{numbers_index}
 use Rattle.chunk_owner.specs.Installs.Records.{AreHeld, AreSound, IsChunkRecord, IsFault, IsObjectRecord, grid_at, grid_of}
-use Rattle.containers.proofs.TextMaps.Fronts.{none_some}
 use Rattle.chunk_owner.proofs.OfInstalls.LaneKeys.{datatype_no_dataset, group_no_dataset}
 use Rattle.chunk_owner.proofs.OfInstalls.Taking.{chunk_of_any, grid_told}
 use Rattle.chunk_owner.proofs.OfInstalls.Walking.{not_both}
@@ -37,7 +37,7 @@ chunk_stands held id i bytes f (body.Datatype type) here some kind told cells = 
 
 module _ (lanes lane run next : ℕ) (held : Held) (objects : Id → Option Object) (h : AreHeld lanes lane run next held objects) where
   object_at : (id : Id) (bytes : List ℕ) (o : Option Object) → objects id ≡ o → Describes held id o → get held (object_key id) ≡ Some bytes → IsObjectRecord run next id bytes
-  object_at id bytes None there told found = absurd (none_some bytes (sym told.0 ∙ found))
+  object_at id bytes None there told found = absurd (none-some bytes (sym told.0 ∙ found))
   object_at id bytes (Some o) there told found = record {
     made = (h.given id o there).0;
     number = (h.given id o there).1;

@@ -1,6 +1,7 @@
 -- Records tell one object.
 use Rattle.std.proofs.Common.{◌≡◌, ℕ, List, Option, Some, None, option_and_then, refl, sym, ap, ◌∙◌}
 use Rattle.std.specs.FinMap.{get}
+use Rattle.std.proofs.lemmas.Option.{none-some, same_Some}
 use Rattle.object_ids.specs.IdValues.{Id}
 use Rattle.chunk_store.specs.Grids.{Grid, IsWhole}
 use Rattle.chunk_store.specs.Marks.{ReadsAs}
@@ -15,7 +16,6 @@ use Rattle.object_records.specs.Objects.{IsKeptBody, object_of_body}
 use Rattle.object_records.specs.Same.{IsSameBody}
 use Rattle.chunk_owner.specs.Slots.Slots.{Describes, HasCells, chunks_at}
 use Rattle.chunk_owner.specs.Installs.Records.{IsWholeObject}
-use Rattle.containers.proofs.TextMaps.Fronts.{none_some, some_is}
 
 module _ (attributes : (a b : Object) → entry_of a ≡ entry_of b → a.attributes ≡ b.attributes) (bodies : (a b : Object) → entry_of a ≡ entry_of b → IsSameBody a.body b.body)
     (one : (held : List ℕ → List ℕ) (h k : Grid) → IsWhole h → IsWhole k → k.kind ≡ h.kind → k.shape ≡ h.shape → k.chunk ≡ h.chunk → k.fill ≡ h.fill → ReadsAs held h → ReadsAs held k → k ≡ h) where
@@ -33,11 +33,11 @@ module _ (attributes : (a b : Object) → entry_of a ≡ entry_of b → a.attrib
 
   pub tells_one : (held : Held) (id : Id) (a b : Option Object) → IsWholeObject a → IsWholeObject b → Describes held id a → Describes held id b → a ≡ b
   tells_one held id None None wa wb da db = refl
-  tells_one held id None (Some y) wa wb da db = absurd (none_some (entry_of y) (ap (option_and_then (object_of_body (kind_of_body y.body))) (sym da.0) ∙ db.1))
-  tells_one held id (Some x) None wa wb da db = absurd (none_some (entry_of x) (ap (option_and_then (object_of_body (kind_of_body x.body))) (sym db.0) ∙ da.1))
+  tells_one held id None (Some y) wa wb da db = absurd (none-some (entry_of y) (ap (option_and_then (object_of_body (kind_of_body y.body))) (sym da.0) ∙ db.1))
+  tells_one held id (Some x) None wa wb da db = absurd (none-some (entry_of x) (ap (option_and_then (object_of_body (kind_of_body x.body))) (sym db.0) ∙ da.1))
   tells_one held id (Some x) (Some y) wa wb da db =
       let kinds = da.0 ∙ sym db.0 in
-      let told : entry_of x ≡ entry_of y = some_is (entry_of x) (entry_of y) (sym da.1 ∙ ap (λ k. option_and_then (object_of_body k) (get held (object_key id))) kinds ∙ db.1) in
+      let told : entry_of x ≡ entry_of y = same_Some (entry_of x) (entry_of y) (sym da.1 ∙ ap (λ k. option_and_then (object_of_body k) (get held (object_key id))) kinds ∙ db.1) in
       ap (λ (o : Object). Some o) (sym wa.1 ∙ same_object x y (attributes x y told) (bodies_same (chunks_at held id) x.body y.body (bodies x y told) wa.0 wb.0 da.2 db.2) ∙ wb.1) where
         same_object : (x y : Object) → x.attributes ≡ y.attributes → unmarked_body x.body ≡ unmarked_body y.body → unmarked x ≡ unmarked y
         same_object x y names bodies k = record { attributes = names k; body = bodies k }

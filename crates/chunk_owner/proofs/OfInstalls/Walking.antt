@@ -3,6 +3,7 @@ use Rattle.std.proofs.Common.{◌≡◌, ◌≢◌, inl, inr, ℕ, Bool, true, f
 use Rattle.std.specs.FinMap.{empty, entries, get, get-empty, insert}
 use Rattle.std.specs.Option.{option_map_or}
 use Rattle.std.specs.Ordering.{eq_by_cmp}
+use Rattle.std.proofs.lemmas.Option.{none-some, same_Some}
 use Rattle.containers.specs.TextMaps.Keyed.{text_order}
 use Rattle.flush_journal.specs.Records.{Held, Record}
 use Rattle.object_ids.specs.IdOrder.{id_order}
@@ -34,7 +35,7 @@ use Rattle.object_records.specs.declared.install_fault.InstallFault.{InstallFaul
 use Rattle.object_records.specs.declared.install_fault.InstallFault.TheVariants as of_installs
 use Rattle.chunk_owner.specs.declared.installs.faults.RecordFault.{RecordFault}
 use Rattle.chunk_owner.specs.declared.installs.faults.RecordFault.TheVariants.{BadRecord, NoMemory}
-use Rattle.containers.proofs.TextMaps.Fronts.{all_held, held_before, held_here, new_key, none_some, nothing_held, said_else, differ, said_here, same_key, some_is, split_more}
+use Rattle.containers.proofs.TextMaps.Fronts.{all_held, held_before, held_here, new_key, nothing_held, said_else, differ, said_here, same_key, split_more}
 use Rattle.chunk_owner.proofs.OfInstalls.LaneKeys.{by_id, chunk_more, chunk_of_other, chunks_else, object_first, of_no_lane, said_again}
 use Rattle.chunk_owner.proofs.OfInstalls.Taking.{chunk_told, chunk_untold, chunks_said, grid_told, installed_taken, record_taken}
 
@@ -54,9 +55,9 @@ walk_begin lanes lane run next held all slots whole none = subst (λ (m : Slots)
   front = [];
   split = whole;
   says = λ id range own. subst (λ (o : Option Slot). Says o id (held_by [])) (sym (get-empty id_order id)) (nothing_held (object_key id), no_chunks_yet id);
-  own = λ id s e. absurd (none_some s (sym (get-empty id_order id) ∙ e));
-  installed = λ id s e. absurd (none_some s (sym (get-empty id_order id) ∙ e));
-  rules = λ s b is own e. absurd (none_some b (sym (nothing_held (key_of s)) ∙ e));
+  own = λ id s e. absurd (none-some s (sym (get-empty id_order id) ∙ e));
+  installed = λ id s e. absurd (none-some s (sym (get-empty id_order id) ∙ e));
+  rules = λ s b is own e. absurd (none-some b (sym (nothing_held (key_of s)) ∙ e));
 })
 
 -- ---- a rule and a fault
@@ -64,11 +65,11 @@ walk_begin lanes lane run next held all slots whole none = subst (λ (m : Slots)
 pub not_both : (run next : ℕ) (held : Held) (s : Subject) (b : List ℕ) → KeepsRules run next held s b → IsBad run next held s b → ⊥
 not_both run next held the_run b rule bad = bad
 not_both run next held (node path) b rule bad = bad
-not_both run next held (object id) b rule (inl none) = none_some rule.entry (sym none ∙ rule.reads)
+not_both run next held (object id) b rule (inl none) = none-some rule.entry (sym none ∙ rule.reads)
 not_both run next held (object id) b rule (inr (inl late)) = let made = rule.made in omega (arith, made, late)
 not_both run next held (object id) b rule (inr (inr high)) = let number = rule.number in omega (arith, number, high)
-not_both run next held (chunk id i) b rule (inl none) = none_some rule.grid (sym none ∙ rule.there)
-not_both run next held (chunk id i) b rule (inr bad) = bad.2 (subst (λ (h : Grid). IsChunkOf h i b) (some_is rule.grid bad.0 (sym rule.there ∙ bad.1)) rule.fits)
+not_both run next held (chunk id i) b rule (inl none) = none-some rule.grid (sym none ∙ rule.there)
+not_both run next held (chunk id i) b rule (inr bad) = bad.2 (subst (λ (h : Grid). IsChunkOf h i b) (same_Some rule.grid bad.0 (sym rule.there ∙ bad.1)) rule.fits)
 not_both run next held next_number b rule bad = bad
 
 module _ (lanes lane run next : ℕ) (held : Held) (rest : List Record) (e : Record) (slots : Slots) (w : IsWalk lanes lane run next held (e ∷ rest) slots) where
@@ -83,7 +84,7 @@ module _ (lanes lane run next : ℕ) (held : Held) (rest : List Record) (e : Rec
   rules_more : (y : Subject) → IsSubject y → key_of y ≡ e.0 → KeepsRules run next held y e.1 → (s : Subject) (b : List ℕ) → IsSubject s → IsOfLane lanes lane s → get after (key_of s) ≡ Some b → KeepsRules run next held s b
   rules_more y fine key keeps s b is own there = by_bool (eq_by_cmp text_order (key_of s) e.0) (KeepsRules run next held s b)
       (λ same. let at_key = same_key (key_of s) e.0 same in
-      let one : e.1 ≡ b = some_is e.1 b (sym (said_here held w.front rest e w.split) ∙ ap (get after) (sym at_key) ∙ there) in
+      let one : e.1 ≡ b = same_Some e.1 b (sym (said_here held w.front rest e w.split) ∙ ap (get after) (sym at_key) ∙ there) in
       subst (λ (x : Subject). KeepsRules run next held x b) (same_subject y s fine is (key ∙ sym at_key)) (subst (λ (x : List ℕ). KeepsRules run next held y x) one keeps))
       (λ other. w.rules s b is own (sym (said_else held w.front rest e w.split (key_of s) (differ (key_of s) e.0 other)) ∙ there))
 
@@ -113,7 +114,7 @@ module _ (lanes lane run next : ℕ) (held : Held) (rest : List Record) (e : Rec
       none_yet None kept said = said.1
       none_yet (Some s) kept said =
           let told : IsRecordOf (Some s.object) (get (held_by w.front) (object_key id)) = subst (λ (m : Mark). HasRecord m s.object (get (held_by w.front) (object_key id))) (kept s refl) said.0 in
-          absurd (none_some (entry_of s.object) (ap (option_and_then (object_of_body (kind_of_body s.object.body))) (sym no_record) ∙ told))
+          absurd (none-some (entry_of s.object) (ap (option_and_then (object_of_body (kind_of_body s.object.body))) (sym no_record) ∙ told))
 
     untouched : (q : Id) → chunks_at after q ≡ chunks_at (held_by w.front) q
     untouched q = chunks_else held w.front rest e w.split q (λ i index same. object_no_chunk id q i (key ∙ sym same))
@@ -144,7 +145,7 @@ module _ (lanes lane run next : ℕ) (held : Held) (rest : List Record) (e : Rec
             (λ dataset. untouched q) (get slots q) (kinds_there q) (w.says q r o)));
         own = by_id (λ q. (t : Slot) → get (insert slots id s) q ≡ Some t → InRange q × (lane_of lanes q ≡ lane)) id (λ t there. (range, own)) (λ q other t there. w.own q t (sym (put_others slots id s q other) ∙ there));
         installed = by_id (λ q. (t : Slot) → get (insert slots id s) q ≡ Some t → IsInstalled q t) id
-            (λ t there. subst (IsInstalled id) (some_is s t (sym (put_here slots id s) ∙ there)) new.installed)
+            (λ t there. subst (IsInstalled id) (same_Some s t (sym (put_here slots id s) ∙ there)) new.installed)
             (λ q other t there. w.installed q t (sym (put_others slots id s q other) ∙ there));
         rules = rules_more (object id) range key (record { made = new.made; number = new.number; entry = entry_of s.object; reads = new.reads });
       }
@@ -197,7 +198,7 @@ module _ (lanes lane run next : ℕ) (held : Held) (rest : List Record) (e : Rec
             (λ dataset. chunks_else held w.front rest e w.split q (chunk_of_other held w.front rest e w.split id i is key q other r dataset)) (get slots q) (kinds_there q) (w.says q r o)));
         own = by_id (λ q. (x : Slot) → get (insert slots id done.1) q ≡ Some x → InRange q × (lane_of lanes q ≡ lane)) id (λ x there. (is.id, own)) (λ q other x there. w.own q x (sym (put_others slots id done.1 q other) ∙ there));
         installed = by_id (λ q. (x : Slot) → get (insert slots id done.1) q ≡ Some x → IsInstalled q x) id
-            (λ x there. subst (IsInstalled id) (some_is done.1 x (sym (put_here slots id done.1) ∙ there)) (installed_taken i e.1 id done.0 done.1 done.4 (w.installed id done.0 done.2)))
+            (λ x there. subst (IsInstalled id) (same_Some done.1 x (sym (put_here slots id done.1) ∙ there)) (installed_taken i e.1 id done.0 done.1 done.4 (w.installed id done.0 done.2)))
             (λ q other x there. w.installed q x (sym (put_others slots id done.1 q other) ∙ there));
         rules = rules_more (chunk id i) is key (chunk_told held id i e.1 done.0.object.body done.1.object.body (grid_known done.0 done.2) done.4.body);
       }

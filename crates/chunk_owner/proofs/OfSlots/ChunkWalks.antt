@@ -7,11 +7,11 @@ use Rattle.std.specs.Cmp.Lexicographic.{slice_cmp, nat_list_cmp_total}
 use Rattle.std.proofs.lemmas.Cmp.{tied_itself}
 use Rattle.std.proofs.lemmas.Map.Text.{is_eq-slice_cmp}
 use Rattle.std.proofs.lemmas.Slice.Eq.{bytes_eq-Decides}
-use Rattle.std.proofs.lemmas.Bool.{or_right, or_parts}
+use Rattle.std.proofs.lemmas.Bool.{or_right, or_parts, or_left}
 use Rattle.chunk_store.specs.Marks.{ComesAfter, IsNext, is_after}
 use Rattle.chunk_store.proofs.NextLemmas.{after_read}
 use Rattle.chunk_owner.specs.Slots.Cutting.{AreDistinct, is_among}
-use Rattle.containers.proofs.Passing.{by_bool, contrary, lt_less, or_more, or_first, or_either, neither_or, fewer_there, found_lookup}
+use Rattle.containers.proofs.Passing.{by_bool, contrary, lt_less, or_more, or_either, neither_or, fewer_there, found_lookup}
 
 -- ---- chunks among others
 
@@ -28,12 +28,12 @@ among_front [] i j e = contrary false (is_among (i ∷ []) j ≡ true) e refl
 among_front (k ∷ is) i j e = or_more (bytes_eq j k) (is_among is j) (is_among (is ++ i ∷ []) j) (among_front is i j) e
 
 among_last : (is : List (List ℕ)) (i : List ℕ) → is_among (is ++ i ∷ []) i ≡ true
-among_last [] i = or_first (bytes_eq i i) false (itself i)
+among_last [] i = or_left (bytes_eq i i) false (itself i)
 among_last (k ∷ is) i = or_right (bytes_eq i k) (is_among (is ++ i ∷ []) i) (among_last is i)
 
 among_either : (is : List (List ℕ)) (i j : List ℕ) (P : Type 0) → (is_among is j ≡ true → P) → (j ≡ i → P) → is_among (is ++ i ∷ []) j ≡ true → P
 among_either [] i j P there same e = or_either (bytes_eq j i) false P (λ y. same ((bytes_eq-Decides j i).0 y)) (λ n. contrary false P n refl) e
-among_either (k ∷ is) i j P there same e = or_either (bytes_eq j k) (is_among (is ++ i ∷ []) j) P (λ y. there (or_first (bytes_eq j k) (is_among is j) y))
+among_either (k ∷ is) i j P there same e = or_either (bytes_eq j k) (is_among (is ++ i ∷ []) j) P (λ y. there (or_left (bytes_eq j k) (is_among is j) y))
     (λ rest. among_either is i j P (λ h. there (or_right (bytes_eq j k) (is_among is j) h)) same rest) e
 
 among_neither : (is : List (List ℕ)) (i j : List ℕ) → is_among is j ≡ false → bytes_eq j i ≡ false → is_among (is ++ i ∷ []) j ≡ false

@@ -1,9 +1,8 @@
 -- Keys of objects and of chunks.
 use Rattle.std.proofs.Common.{◌≡◌, ◌≢◌, ℕ, ◌<◌, ◌^◌, ◌*◌, ◌&&◌, true, nat_le, nat_lt, length, All, List, [], ◌∷◌, refl, ap, ◌∙◌, get_or, arith, length-append}
 use Rattle.std.specs.List.{list_all}
-use Rattle.std.proofs.lemmas.Bool.{leb-true, le-leb, ltb-true, lt-ltb}
+use Rattle.std.proofs.lemmas.Bool.{leb-true, le-leb, ltb-true, lt-ltb, and_parts}
 use Rattle.std.proofs.lemmas.List.Elements.{All-nil, All-cons, All-head, All-tail}
-use Rattle.json_trees.proofs.TreeLemmas.{both_true}
 use Rattle.shapes.specs.declared.TheConstants.{MAX_RANK}
 use Rattle.object_ids.specs.IdValues.{Id}
 use Rattle.object_ids.specs.Ids.{InRange}
@@ -28,7 +27,7 @@ object_once a b ha hb e = ap (subject_id a) (same_subject (object a) (object b) 
 
 all_small : (ns : List ℕ) → list_all (λ n. nat_lt n (2 ^ 32)) ns ≡ true → All (λ n. n < 2 ^ 32) ns
 all_small [] e = All-nil (λ n. n < 2 ^ 32)
-all_small (n ∷ ns) e = let b = both_true (nat_lt n (2 ^ 32)) (list_all (λ n. nat_lt n (2 ^ 32)) ns) e in
+all_small (n ∷ ns) e = let b = and_parts (nat_lt n (2 ^ 32)) (list_all (λ n. nat_lt n (2 ^ 32)) ns) e in
     All-cons (λ n. n < 2 ^ 32) n ns (ltb-true n (2 ^ 32) b.0) (all_small ns b.1)
 
 small_all : (ns : List ℕ) → All (λ n. n < 2 ^ 32) ns → list_all (λ n. nat_lt n (2 ^ 32)) ns ≡ true
@@ -36,7 +35,7 @@ small_all [] h = refl
 small_all (n ∷ ns) h = ap (λ b. b && list_all (λ n. nat_lt n (2 ^ 32)) ns) (lt-ltb n (2 ^ 32) (All-head (λ n. n < 2 ^ 32) n ns h)) ∙ small_all ns (All-tail (λ n. n < 2 ^ 32) n ns h)
 
 pub index_numbers : (i : List ℕ) → is_index i ≡ true → AreNumbers i
-index_numbers i e = let b = both_true (nat_le (length i) MAX_RANK) (list_all (λ n. nat_lt n (2 ^ 32)) i) e in
+index_numbers i e = let b = and_parts (nat_le (length i) MAX_RANK) (list_all (λ n. nat_lt n (2 ^ 32)) i) e in
     record { few = leb-true (length i) MAX_RANK b.0; small = all_small i b.1 }
 
 pub numbers_index : (i : List ℕ) → AreNumbers i → is_index i ≡ true

@@ -6,6 +6,7 @@ use Rattle.std.specs.Option.{option_map_or}
 use Rattle.std.specs.Ordering.{eq_by_cmp, is_lt, ordering_reverse}
 use Rattle.std.specs.Cmp.{Equal-is}
 use Rattle.std.proofs.lemmas.Cmp.{tied_itself}
+use Rattle.std.proofs.lemmas.Option.{same_Some}
 use Rattle.containers.specs.TextMaps.Nexts.{is_behind, left, IsNext}
 use Rattle.object_ids.specs.IdOrder.{id_order}
 use Rattle.object_ids.specs.IdValues.{Id}
@@ -122,12 +123,9 @@ still_body (body.Datatype type) y h = subst (λ (z : Body). IsStillBody z) (sym 
 pub none_is : {P : Type 0} (t : Slot) → None ≡ Some t → P
 none_is t e = absurd (cc)
 
-some_is : (s t : Slot) → Some s ≡ Some t → s ≡ t
-some_is s t e = cc
-
 pub settled_still : (mark : Mark) (s t : Slot) (new : Option Slot) → SettlesBy mark s new → new ≡ Some t → IsStill t
-settled_still Kept s t new h e = subst IsStill (some_is h.0 t (sym h.1 ∙ e)) (h.2.mark, still_body s.object.body h.0.object.body h.2.body)
-settled_still Changed s t new h e = subst IsStill (some_is h.0 t (sym h.1 ∙ e)) (h.2.mark, still_body s.object.body h.0.object.body h.2.body)
+settled_still Kept s t new h e = subst IsStill (same_Some h.0 t (sym h.1 ∙ e)) (h.2.mark, still_body s.object.body h.0.object.body h.2.body)
+settled_still Changed s t new h e = subst IsStill (same_Some h.0 t (sym h.1 ∙ e)) (h.2.mark, still_body s.object.body h.0.object.body h.2.body)
 settled_still Dropped s t new h e = none_is t (sym h ∙ e)
 
 body_kind : (x y : Body) → BodySettles x y → (kind_of_body y ≡ kind_of_body x) × (IsSoundBody x → IsSoundBody y)
@@ -139,8 +137,8 @@ kept_kind : (k : Kind) (s t : Slot) → SlotSettles s t → IsOfKind k s.object 
 kept_kind k s t h of = let b = body_kind s.object.body t.object.body h.body in record { kind = b.0 ∙ of.kind; sound = b.1 of.sound }
 
 settled_kind : (k : Kind) (mark : Mark) (s t : Slot) (new : Option Slot) → SettlesBy mark s new → new ≡ Some t → IsOfKind k s.object → IsOfKind k t.object
-settled_kind k Kept s t new h e of = subst (λ (z : Slot). IsOfKind k z.object) (some_is h.0 t (sym h.1 ∙ e)) (kept_kind k s h.0 h.2 of)
-settled_kind k Changed s t new h e of = subst (λ (z : Slot). IsOfKind k z.object) (some_is h.0 t (sym h.1 ∙ e)) (kept_kind k s h.0 h.2 of)
+settled_kind k Kept s t new h e of = subst (λ (z : Slot). IsOfKind k z.object) (same_Some h.0 t (sym h.1 ∙ e)) (kept_kind k s h.0 h.2 of)
+settled_kind k Changed s t new h e of = subst (λ (z : Slot). IsOfKind k z.object) (same_Some h.0 t (sym h.1 ∙ e)) (kept_kind k s h.0 h.2 of)
 settled_kind k Dropped s t new h e of = none_is t (sym h ∙ e)
 
 -- without a slot each is of its kind

@@ -3,6 +3,7 @@ use Rattle.std.proofs.Common.{◌≡◌, ◌≢◌, ℕ, Bool, true, false, List
 use Rattle.std.specs.Cmp.{Equal-is}
 use Rattle.std.specs.FinMap.{empty, get, insert, get-empty}
 use Rattle.std.proofs.lemmas.Cmp.{tied_itself}
+use Rattle.std.proofs.lemmas.Option.{same_Some}
 use Rattle.object_ids.specs.IdOrder.{id_order}
 use Rattle.object_ids.specs.IdValues.{Id}
 use Rattle.object_ids.proofs.IdOrders.{id_order_once, id_order_total}
@@ -75,11 +76,8 @@ StillSaid q o p = (held : Held) → Says o q held → Says p q held
 abbrev pub StillKind : Id → Option Slot → Option Slot → Type 0
 StillKind q o p = ((s : Slot) → o ≡ Some s → IsOfKind q.kind s.object) → (s : Slot) → p ≡ Some s → IsOfKind q.kind s.object
 
-some_is : (s t : Slot) → Some s ≡ Some t → s ≡ t
-some_is s t e = cc
-
 pub kind_there : (q : Id) (s : Slot) → IsOfKind q.kind s.object → (t : Slot) → Some s ≡ Some t → IsOfKind q.kind t.object
-kind_there q s is t e = subst (λ (x : Slot). IsOfKind q.kind x.object) (some_is s t e) is
+kind_there q s is t e = subst (λ (x : Slot). IsOfKind q.kind x.object) (same_Some s t e) is
 
 -- ---- an object is put
 

@@ -6,6 +6,7 @@ use Rattle.std.specs.FinMap.{FinMap, entries, entries_sorted, find, get, get-ent
 use Rattle.std.specs.FinMap.Entries.{below_all, find-append}
 use Rattle.std.specs.Ordering.{eq_by_cmp, is_lt, ordering_reverse}
 use Rattle.std.proofs.lemmas.Cmp.{tied_itself}
+use Rattle.std.proofs.lemmas.Option.{none-some}
 use Rattle.containers.specs.TextMaps.Keyed.{text_order}
 use Rattle.containers.proofs.TextMaps.KeyedMaps.{exact_texts}
 use Rattle.containers.specs.TextMaps.Fronts.{held_by}
@@ -13,12 +14,6 @@ use Rattle.containers.proofs.Passing.{by_bool, contrary}
 
 abbrev Record : Type 0
 Record = List ℕ × List ℕ
-
-pub none_some : {A : Type 0} (x : A) → None ≡ Some x → ⊥
-none_some x e = cc
-
-pub some_is : {A : Type 0} (x y : A) → Some x ≡ Some y → x ≡ y
-some_is x y e = cc
 
 -- ---- keys
 
@@ -82,7 +77,7 @@ behind : (q : List ℕ) (front rest : List Record) → find text_order q front �
 behind q [] rest none = refl
 behind q (x ∷ xs) rest none = at (eq_by_cmp text_order q x.0) none (behind q xs rest) where
   at : (b : Bool) → cond b (Some x.1) (find text_order q xs) ≡ None → (find text_order q xs ≡ None → find text_order q (xs ++ rest) ≡ find text_order q rest) → cond b (Some x.1) (find text_order q (xs ++ rest)) ≡ find text_order q rest
-  at true is later = absurd (none_some x.1 (sym is))
+  at true is later = absurd (none-some x.1 (sym is))
   at false is later = later is
 
 -- ---- what records in front say

@@ -1,7 +1,7 @@
 -- A sorted map, whose keys compare by their bytes, is the finite map from those bytes.
 -- `bytes` gives the bytes of a key.
 use Rattle.std.specs.List.{filter}
-use Rattle.std.proofs.Common.{option_map, ◌≡◌, ℕ, suc, Bool, true, false, cond, List, [], ◌∷◌, map, length, Option, Some, None, Ordering, Less, Equal, is_eq, bytes_eq, refl, sym, ap, subst, ◌∙◌, ⊎_elim, arith, Result, Ok, Err, OnErr}
+use Rattle.std.proofs.Common.{option_map, ◌≡◌, ℕ, suc, Bool, true, false, cond, List, [], ◌∷◌, map, length, Option, Some, None, Ordering, Less, Equal, is_eq, bytes_eq, refl, sym, ap, subst, ◌∙◌, ⊎_elim, Result, Ok, Err, OnErr}
 use Rattle.std.specs.BTreeMap.{BTreeMap, UpdatesBy, is_at}
 use Rattle.std.specs.Map.{lookup, IsKeyTest, AreApart, KeepsOthers}
 use Rattle.std.specs.Cmp.{eq_by_cmp_equiv}
@@ -13,6 +13,7 @@ use Rattle.std.specs.FinMap.Entries.{by_order}
 use Rattle.std.proofs.lemmas.Map.Keys.{sorted_head, sorted_tail}
 use Rattle.std.proofs.lemmas.Map.Text.{is_eq-slice_cmp}
 use Rattle.std.proofs.lemmas.Bool.{cases_Bool, cond-true, cond-false}
+use Rattle.std.proofs.lemmas.List.{nil_from_length}
 use Rattle.containers.specs.TextMaps.Keyed.{text_order, keyed}
 use Rattle.containers.specs.TextMaps.Nexts.{first}
 
@@ -50,10 +51,6 @@ by_bytes f g bs w here other cs =
     (λ y. subst (λ l. g l ≡ w) ((bytes_decides bs cs).0 y) here ∙ sym (cond-true (bytes_eq bs cs) w (f cs) y))
     (λ n. other cs n ∙ sym (cond-false (bytes_eq bs cs) w (f cs) n))
     (cases_Bool (bytes_eq bs cs))
-
-pub no_length : {A : Type 0} (es : List A) → length es ≡ 0 → es ≡ []
-no_length [] e = refl
-no_length (x ∷ es) e = absurd (omega arith)
 
 same_test : (bs q : List ℕ) → bytes_eq bs q ≡ is_eq (text_order q bs)
 same_test bs q = sym (is_eq-slice_cmp bs q) ∙ (eq_by_cmp_equiv nat_list_cmp_total).symm bs q
@@ -108,7 +105,7 @@ module _ {K X : Type 0} (bytes : K → List ℕ) where
 
   -- entries in the order of their keys are the map's
   pub entries-keyed : (es : List (K × X)) → IsStrictlySortedBy (order_by bytes) (map (λ e. e.0) es) → entries (from_entries {R = text_order} (keyed bytes es)) ≡ keyed bytes es
-  entries-keyed [] rising = no_length _ (sym (len-entries (empty {X = X} {R = text_order})) ∙ len-empty text_order X)
+  entries-keyed [] rising = nil_from_length _ (sym (len-entries (empty {X = X} {R = text_order})) ∙ len-empty text_order X)
   entries-keyed (e ∷ es) rising =
       entries-insert nat_list_cmp_total (from_entries {R = text_order} (keyed bytes es)) (bytes e.0) e.1
       ∙ ap (put text_order (bytes e.0) e.1) (entries-keyed es (sorted_tail _ e.0 _ rising))

@@ -10,7 +10,7 @@ use Rattle.std.specs.Ordering.{eq_by_cmp}
 use Rattle.std.specs.FinMap.{FinMap, IsAntisymmetric, empty, entries, find, from_entries, get, insert, len, put, remove, entries-insert, get-from_entries, get-insert, get-remove, len-empty, len-entries, same_map}
 use Rattle.std.specs.FinMap.Entries.{by_order}
 use Rattle.std.proofs.lemmas.Map.Keys.{sorted_head, sorted_tail}
-use Rattle.containers.proofs.TextMaps.KeyedMaps.{no_length}
+use Rattle.std.proofs.lemmas.List.{nil_from_length}
 use Rattle.containers.proofs.TextMaps.Lending.{lent_if, is_some-copied}
 use borrow.Follows.Closed.{read_of}
 
@@ -29,7 +29,7 @@ module _ {K X : Type 0} {R : K → K → Ordering} (o : IsTotalOrder R) where
 
   -- entries in the order of their keys are the map's
   pub entries-tree : (es : List (K × X)) → IsStrictlySortedBy R (map (λ e. e.0) es) → entries (from_entries {R = R} es) ≡ es
-  entries-tree [] rising = no_length _ (sym (len-entries (empty {X = X} {R = R})) ∙ len-empty R X)
+  entries-tree [] rising = nil_from_length _ (sym (len-entries (empty {X = X} {R = R})) ∙ len-empty R X)
   entries-tree (e ∷ es) rising =
       entries-insert o (from_entries {R = R} es) e.0 e.1
       ∙ ap (put R e.0 e.1) (entries-tree es (sorted_tail _ e.0 _ rising))

@@ -6,9 +6,9 @@ use Rattle.std.specs.Ordering.{eq_by_cmp, is_lt, ordering_reverse}
 use Rattle.std.specs.FinMap.{FinMap, IsAntisymmetric, empty, entries, entries_sorted, find, from_entries, get, insert, is_sorted, len, put, remove, entries-insert, get-empty, get-entries, get-from_entries, get-insert, get-remove, len-empty, len-entries, same_map}
 use Rattle.std.specs.FinMap.Entries.{below_all, by_order}
 use Rattle.std.proofs.lemmas.Cmp.{tied_itself}
+use Rattle.std.proofs.lemmas.List.{nil_from_length}
 use Rattle.containers.specs.TextMaps.Keyed.{keyed, with_values}
 use Rattle.containers.specs.TextMaps.Nexts.{is_behind, left, IsNext, IsKeyStep}
-use Rattle.containers.proofs.TextMaps.KeyedMaps.{no_length}
 use Rattle.containers.proofs.TextMaps.Walks.{found_above, halves, less}
 
 module _ {K X Y : Type 0} {R : K → K → Ordering} (o : IsTotalOrder R) (h : X → Y) where
@@ -31,7 +31,7 @@ module _ {K X Y : Type 0} {R : K → K → Ordering} (o : IsTotalOrder R) (h : X
   put-front k y (e ∷ es) low = ap (λ r. by_order r ((k, y) ∷ on_value e ∷ map on_value es) ((e.0, y) ∷ map on_value es) (on_value e ∷ put R k y (map on_value es))) (less _ (halves _ _ low).0)
 
   entries-listed : (es : List (K × X)) → T (is_sorted R es) → entries (from_entries {R = R} (map on_value es)) ≡ map on_value es
-  entries-listed [] rising = no_length _ (sym (len-entries (empty {X = Y} {R = R})) ∙ len-empty R Y)
+  entries-listed [] rising = nil_from_length _ (sym (len-entries (empty {X = Y} {R = R})) ∙ len-empty R Y)
   entries-listed (e ∷ es) rising =
       entries-insert o (from_entries {R = R} (map on_value es)) e.0 (h e.1)
       ∙ ap (put R e.0 (h e.1)) (entries-listed es (halves _ _ rising).1)

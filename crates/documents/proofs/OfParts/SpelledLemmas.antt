@@ -3,6 +3,7 @@ use Rattle.std.proofs.Common.{◌≡◌, ℕ, List, Bool, true, false, cond, inl
 use Rattle.std.specs.FinMap.{FinMap, contains_key, insert}
 use Rattle.std.specs.Option.{ok_or}
 use Rattle.std.proofs.lemmas.Bool.{cond-true, cond-false}
+use Rattle.std.proofs.lemmas.Option.{none-some, same_Some}
 use Rattle.serde_json.specs.Data.{Data, Members, null, boolean, number, string, array, object}
 use Rattle.serde_json.specs.Find.{get, as_object, as_str}
 use Rattle.json_trees.specs.Trees.{text_at}
@@ -50,19 +51,13 @@ use Rattle.documents.specs.declared.parts.targets.Target.{Target}
 use Rattle.documents.specs.declared.parts.targets.Target.TheVariants.{Hard, Soft, External}
 use Rattle.documents.proofs.OfParts.ListedLemmas.{bind_at, listed_complete, listed_sound, not_ok, ok_same}
 
-no_some : {A : Type 0} (x : A) → None ≡ Some x → ⊥
-no_some x e = cc
-
-some_same : {A : Type 0} (x y : A) → Some x ≡ Some y → x ≡ y
-some_same x y e = cc
-
 -- what has a text at a key is an object
 object_of_text : (k : List ℕ) (d : Data) (t : List ℕ) → text_at k d ≡ Some t → (ms : Members) × (as_object d ≡ Some ms)
-object_of_text k null t e = absurd (no_some t e)
-object_of_text k (boolean b) t e = absurd (no_some t e)
-object_of_text k (number n) t e = absurd (no_some t e)
-object_of_text k (string s) t e = absurd (no_some t e)
-object_of_text k (array ds) t e = absurd (no_some t e)
+object_of_text k null t e = absurd (none-some t e)
+object_of_text k (boolean b) t e = absurd (none-some t e)
+object_of_text k (number n) t e = absurd (none-some t e)
+object_of_text k (string s) t e = absurd (none-some t e)
+object_of_text k (array ds) t e = absurd (none-some t e)
 object_of_text k (object ms) t e = (ms, refl)
 
 members_there : (path : List ℕ) (d : Data) (k t : List ℕ) → text_at k d ≡ Some t → (ms : Members) × (members_at path d ≡ Ok ms)
@@ -173,16 +168,16 @@ attributes_complete path o m h = listed_complete IsNamed (attribute_step path) (
 -- ---- links
 
 outward_sound : (document d : Data) (o : Option LinkTo) (t : Target) → get (codes "id") d ≡ None → link_in d ≡ o → option_and_then outward_of o ≡ Some t → IsTarget document d t
-outward_sound document d None t none is e = absurd (no_some t e)
-outward_sound document d (Some (links.Hard id)) t none is e = absurd (no_some t e)
-outward_sound document d (Some (links.Soft path)) t none is e = subst (IsTarget document d) (some_same (Soft path) t e) (none, is)
-outward_sound document d (Some (links.External path file)) t none is e = subst (IsTarget document d) (some_same (External path file) t e) (none, is)
+outward_sound document d None t none is e = absurd (none-some t e)
+outward_sound document d (Some (links.Hard id)) t none is e = absurd (none-some t e)
+outward_sound document d (Some (links.Soft path)) t none is e = subst (IsTarget document d) (same_Some (Soft path) t e) (none, is)
+outward_sound document d (Some (links.External path file)) t none is e = subst (IsTarget document d) (same_Some (External path file) t e) (none, is)
 
 hard_sound : (document d : Data) (o : Option (List ℕ)) (t : Target) → text_at (codes "id") d ≡ o → hard_of document o ≡ Some t → IsTarget document d t
-hard_sound document d None t is e = absurd (no_some t e)
+hard_sound document d None t is e = absurd (none-some t e)
 hard_sound document d (Some id) t is e = elim (chosen (is_id id document) (Some (Hard id)) None (Some t) e) [
-  | inl here ↦ subst (IsTarget document d) (some_same (Hard id) t here.1) (is, here.0)
-  | inr there ↦ absurd (no_some t there.1)
+  | inl here ↦ subst (IsTarget document d) (same_Some (Hard id) t here.1) (is, here.0)
+  | inr there ↦ absurd (none-some t there.1)
 ]
 
 target_sound : (document d : Data) (o : Option Data) (t : Target) → get (codes "id") d ≡ o → target_by document o d ≡ Some t → IsTarget document d t

@@ -5,6 +5,7 @@ use Rattle.std.specs.FinMap.{contains_key}
 use Rattle.std.specs.Str.{IsUtf8, is_utf8}
 use Rattle.std.proofs.lemmas.Bool.{cond-false, cond-true, le-leb, leb-true, lt-leb}
 use Rattle.std.proofs.lemmas.Str.{IsUtf8-from_is_utf8}
+use Rattle.std.proofs.lemmas.Option.{none-some}
 use Rattle.serde_json.specs.Data.{Data}
 use Rattle.serde_json.specs.Find.{as_object, as_str, get}
 use Rattle.serde_json.specs.Read.{read}
@@ -105,14 +106,11 @@ tree_complete tree l h =
 
 -- ---- texts
 
-clash : {A : Type 0} (d : A) → None ≡ Some d → ⊥
-clash d h = cc
-
 in_sound : (text : List ℕ) (d : Data) → tree_in text ≡ Some d → IsUtf8 text × (read text ≡ Some d)
 in_sound text d e = at (is_utf8 text) refl where
   at : (b : Bool) → is_utf8 text ≡ b → IsUtf8 text × (read text ≡ Some d)
   at true is = (IsUtf8-from_is_utf8 text is, sym (cond-true (is_utf8 text) (read text) None is) ∙ e)
-  at false is = absurd (clash d (sym (cond-false (is_utf8 text) (read text) None is) ∙ e))
+  at false is = absurd (none-some d (sym (cond-false (is_utf8 text) (read text) None is) ∙ e))
 
 pub text_sound : (text : List ℕ) (l : Loaded) → doc_of text ≡ Ok l → LoadsText text l
 text_sound text l e =

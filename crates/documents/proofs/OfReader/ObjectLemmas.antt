@@ -1,11 +1,10 @@
 -- Objects: what is read is what a tree spells, and the other way.
-use Rattle.std.proofs.Common.{◌≡◌, ℕ, List, Bool, true, false, not, Ok, Err, codes, refl, sym, ap, ◌∙◌}
+use Rattle.std.proofs.Common.{◌≡◌, ℕ, List, true, false, not, Ok, Err, codes, refl, sym, ◌∙◌}
 use Rattle.std.specs.FinMap.{insert}
-use Rattle.std.proofs.lemmas.Bool.{and_from, cond-true}
+use Rattle.std.proofs.lemmas.Bool.{and_from, cond-true, not-true, not_from_false, and_parts}
 use Rattle.serde_json.specs.Data.{Data}
 use Rattle.serde_json.specs.Find.{as_object, get}
 use Rattle.json_trees.proofs.FaultLemmas.{bind_ok, test_ok}
-use Rattle.json_trees.proofs.TreeLemmas.{both_true}
 use Rattle.documents.specs.Parts.Arrays.{array_at}
 use Rattle.documents.specs.Parts.Faults.{fault}
 use Rattle.documents.specs.Parts.Ids.{has_id}
@@ -23,20 +22,13 @@ use Rattle.documents.specs.declared.reader.loaded.Datatype.{Datatype}
 use Rattle.documents.specs.declared.reader.loaded.Group.{Group}
 use Rattle.documents.proofs.OfReader.CollectionLemmas.{is_some_of, members_sound, members_there}
 
-not_true : (b : Bool) → not b ≡ true → b ≡ false
-not_true true h = sym h
-not_true false h = refl
-
-true_not : (b : Bool) → b ≡ false → not b ≡ true
-true_not b h = ap not h
-
 new_type : (id : List ℕ) (document : Data) → is_new_type id document ≡ true → (is_length id ≡ true) × (has_id (codes "datasets") id document ≡ false)
 new_type id document h =
-    let both = both_true (is_length id) (not (has_id (codes "datasets") id document)) h in
-    (both.0, not_true _ both.1)
+    let both = and_parts (is_length id) (not (has_id (codes "datasets") id document)) h in
+    (both.0, not-true _ both.1)
 
 type_new : (id : List ℕ) (document : Data) → is_length id ≡ true → has_id (codes "datasets") id document ≡ false → is_new_type id document ≡ true
-type_new id document h apart = and_from (is_length id) (not (has_id (codes "datasets") id document)) h (true_not _ apart)
+type_new id document h apart = and_from (is_length id) (not (has_id (codes "datasets") id document)) h (not_from_false _ apart)
 
 pub dataset_sound : (id : List ℕ) (m n : Datasets) (d : Data) → dataset_step id m d ≡ Ok n → (x : Dataset) × IsDataset id d x × (n ≡ insert m id x)
 unfolding dataset_at
@@ -101,7 +93,7 @@ unfolding group_at
 group_sound document id m n d e =
     let path : List ℕ = under (codes "groups") id in
     let t = test_ok (is_new_group id document) _ (fault path NotADocument) n e in
-    let both = both_true (is_new_type id document) (not (has_id (codes "datatypes") id document)) t.0 in
+    let both = and_parts (is_new_type id document) (not (has_id (codes "datatypes") id document)) t.0 in
     let new = new_type id document both.0 in
     let a = bind_ok (members_at path d) _ n t.1 in
     let b = bind_ok (attributes_of path d) _ n a.2 in
@@ -110,7 +102,7 @@ group_sound document id m n d e =
       record {
         named = new.0;
         no_dataset = new.1;
-        no_datatype = not_true _ both.1;
+        no_datatype = not-true _ both.1;
         object = is_some_of (as_object d) a.0 (members_sound path d a.0 a.1);
         attributes = attributes_sound (under path (codes "attributes")) (get (codes "attributes") d) b.0 b.1;
         links = links_sound document (under path (codes "links")) (get (codes "links") d) c.0 c.1;
@@ -124,7 +116,7 @@ group_complete document id m d x h =
     let path : List ℕ = under (codes "groups") id in
     let o = members_there path d h.object in
     cond-true (is_new_group id document) _ (Err (fault path NotADocument))
-    (and_from (is_new_type id document) (not (has_id (codes "datatypes") id document)) (type_new id document h.named h.no_dataset) (true_not _ h.no_datatype))
+    (and_from (is_new_type id document) (not (has_id (codes "datatypes") id document)) (type_new id document h.named h.no_dataset) (not_from_false _ h.no_datatype))
     ∙ bind_at (members_at path d) _ o.0 _ o.1
     (bind_at (attributes_of path d) _ x.attributes _ (attributes_complete (under path (codes "attributes")) (get (codes "attributes") d) x.attributes h.attributes)
     (bind_at (links_of document path d) _ x.links _ (links_complete document (under path (codes "links")) (get (codes "links") d) x.links h.links) refl))

@@ -1,12 +1,12 @@
 -- A tree that spells a node is the node's tree.
 use Rattle.std.proofs.Common.{◌≡◌, ◌≤◌, ◌<◌, ◌^◌, ◌==◌, ℕ, List, [], ◌∷◌, length, Bool, true, false, codes, nat_le, bytes_eq, Option, Some, None, option_map, option_and_then, refl, sym, ap, subst, if◌then◌else◌, arith, ◌∙◌}
 use Rattle.std.specs.List.{AllByRecursion}
-use Rattle.std.proofs.lemmas.Bool.{eqb-true, leb-true}
+use Rattle.std.proofs.lemmas.Bool.{eqb-true, leb-true, and_parts}
 use Rattle.std.proofs.lemmas.Slice.Eq.{bytes_eq-Decides}
 use Rattle.serde_json.specs.Data.{unsigned, negative, float, Data, null, boolean, number, string, array, object, Members, no_members, member}
 use Rattle.serde_json.specs.Find.{as_bool, as_str, get_member}
 use Rattle.json_trees.specs.Trees.{all_in, whole_in}
-use Rattle.json_trees.proofs.TreeLemmas.{both_true, and_then_some, map_some}
+use Rattle.json_trees.proofs.TreeLemmas.{and_then_some, map_some}
 use Rattle.object_ids.specs.Ids.{text_of_id}
 use Rattle.object_ids.specs.Names.{is_name}
 use Rattle.object_ids.specs.declared.ids.Kind.{Kind}
@@ -179,7 +179,7 @@ module _ (ms : Members) (up : IsRising ms) (acls : Data) (owner : List ℕ)
       let made = only_told (is_root own.0 root.0) (Some (Domain own.0 root.0)) class root.2 in
       let text = and_then_some id_of (option_and_then as_str (get_member (codes "root") ms)) root.0 root.1 in
       let id = id_told text.0 root.0 text.2 in
-      let held = both_true _ _ made.0 in
+      let held = and_parts _ _ made.0 in
       let same_domain : root.0.domain ≡ own.0 = eqb-true root.0.domain own.0 held.1 in
       let root_is : get_member (codes "root") ms ≡ Some (string (text_of_id root.0)) = text_told _ text.0 text.1 ∙ ap (λ (t : List ℕ). Some (string t)) (sym id.1) in
       let ns = member (codes "acls") acls (member (codes "class") (string (codes "domain")) (member (codes "number") (number (unsigned own.0))

@@ -2,6 +2,7 @@
 use Rattle.std.proofs.Common.{◌≡◌, ℕ, List, [], ◌∷◌, ◌++◌, Option, Some, None, option_map, sym, ap, subst, ◌∙◌, arith}
 use Rattle.std.proofs.lemmas.Str.{IsUtf8-append}
 use Rattle.std.specs.FinMap.{get}
+use Rattle.std.proofs.lemmas.Option.{none-some, same_Some}
 use Rattle.serde_json.specs.Data.{Data}
 use Rattle.serde_json.specs.Written.{compact_text}
 use Rattle.json_trees.proofs.TreeLemmas.{and_then_some, map_some}
@@ -28,7 +29,6 @@ use Rattle.documents.specs.Reader.Loads.{Loads, LoadsText}
 use Rattle.documents.specs.declared.reader.loaded.Loaded.{Loaded}
 use Rattle.json_import.specs.RoundTrips.Held.{AreSound, DomainsAreLoaded, IsSoundAt, TextsAreLoaded, held_in}
 use Rattle.json_import.specs.RoundTrips.Renamed.{renamed}
-use Rattle.json_import.proofs.RoundTrips.ListLemmas.{no_some, some_same}
 use Rattle.json_import.specs.Adoption.Adopted.{root_at}
 use Rattle.json_import.specs.Adoption.Laws.{DomainsAreSound, ExportsAreLoaded, ExportsComeBack, LinesAreLoaded}
 use Rattle.json_import.proofs.OfAdoption.LineLemmas.{read_line}
@@ -38,9 +38,9 @@ use Rattle.json_import.proofs.OfAdoption.TextLemmas.{one_byte}
 -- ---- the root
 
 home_class : (o : Option NodeClass) (h : Home) → home_of o ≡ Some h → o ≡ Some (Domain h.number h.root)
-home_class None h is = absurd (no_some h is)
-home_class (Some Folder) h is = absurd (no_some h is)
-home_class (Some (Domain number root)) h is = ap (λ (x : Home). Some (Domain x.number x.root)) (some_same (record { number = number; root = root }) h is)
+home_class None h is = absurd (none-some h is)
+home_class (Some Folder) h is = absurd (none-some h is)
+home_class (Some (Domain number root)) h is = ap (λ (x : Home). Some (Domain x.number x.root)) (same_Some (record { number = number; root = root }) h is)
 
 -- the record of a domain has a group of the domain for its root
 record IsRootOf (h : Home) : Type 0 where
@@ -81,7 +81,7 @@ domains_sound held run w path h told whole there = sound held run w path h told 
 -- ---- the text
 
 document_is : (w : World) (path : List ℕ) (h : Home) (tree : Data) → home_at w path ≡ Some h → doc w path ≡ Some tree → document_tree w.objects h ≡ tree
-document_is w path h tree there is = some_same _ tree (sym (ap (option_map (document_tree w.objects)) there) ∙ is)
+document_is w path h tree there is = same_Some _ tree (sym (ap (option_map (document_tree w.objects)) there) ∙ is)
 
 module _ (texts : TextsAreLoaded) where
   pub exports_loaded : ExportsAreLoaded

@@ -6,6 +6,7 @@ use Rattle.std.specs.Cmp.Lexicographic.{nat_list_cmp_total}
 use Rattle.std.specs.FinMap.{contains_key, empty, get, get-empty, insert, len, len-empty}
 use Rattle.std.specs.List.{AllByRecursion}
 use Rattle.std.specs.Str.{is_utf8}
+use Rattle.std.proofs.lemmas.Option.{none-some}
 use Rattle.serde_json.specs.Data.{Data, Items, Members}
 use Rattle.serde_json.specs.Data as trees
 use Rattle.serde_json.specs.Find.{get as find}
@@ -49,7 +50,6 @@ use Rattle.object_records.specs.Lists.{attribute_in, attributes_in, listed, name
 use Rattle.object_records.specs.Objects.{kept_in, object_in, object_of_body, spelled_in}
 use Rattle.chunk_owner.specs.Slots.Slots.{IsRecordOf}
 use Rattle.documents.proofs.OfParts.ListedLemmas.{ok_same}
-use Rattle.json_import.proofs.RoundTrips.ListLemmas.{no_some}
 use Rattle.json_import.proofs.OfAdoption.TextLemmas.{HasTexts, IfFound, ItemsHaveTexts, find_texts, found_map, found_then, texts_read}
 
 -- ---- one attribute
@@ -124,8 +124,8 @@ record AreNames (m : Names) : Type 0 where
 no_names : AreNames empty
 no_names = record {
   few = let none = len-empty text_order Content in omega (arith, none);
-  named = λ name c is. absurd (no_some c (sym (get-empty text_order name) ∙ is));
-  sound = λ name c is. absurd (no_some c (sym (get-empty text_order name) ∙ is));
+  named = λ name c is. absurd (none-some c (sym (get-empty text_order name) ∙ is));
+  sound = λ name c is. absurd (none-some c (sym (get-empty text_order name) ∙ is));
 }
 
 abbrev IsGood : List ℕ × Content → Type 0
@@ -235,5 +235,5 @@ are_attributes m are = record {
   seen name a is = get-values nat_list_cmp_total content m name ∙ ap (option_map content) is
 
 pub attributes_told : (o : Object) (found : Option (List ℕ)) → IsRecordOf (Some o) found → AreAttributes o.attributes
-attributes_told o None is = absurd (no_some _ is)
+attributes_told o None is = absurd (none-some _ is)
 attributes_told o (Some body) is = are_attributes o.attributes (subst (IfFound IsEntry) is (body_found (kind_of_body o.body) body))

@@ -7,6 +7,7 @@ use Rattle.std.specs.Ordering.{eq_by_cmp}
 use Rattle.std.specs.FinMap.{FinMap, entries, find, get, get-entries, get-insert, insert, is_sorted}
 use Rattle.std.specs.FinMap.Entries.{below_all}
 use Rattle.std.proofs.lemmas.Cmp.{tied_itself}
+use Rattle.std.proofs.lemmas.Option.{same_Some}
 use Rattle.containers.specs.TextMaps.Keyed.{text_order}
 use Rattle.containers.proofs.TextMaps.KeyedMaps.{exact_texts}
 use Rattle.containers.proofs.TextMaps.Walks.{halves, less}
@@ -29,9 +30,6 @@ pub record IsBehind (last : Id) (many : ℕ) (k : Kind) (id : Id) : Type 0 where
 all_weaker : {A : Type 0} (P Q : A → Type 0) → ((x : A) → P x → Q x) → (xs : List A) → AllByRecursion P xs → AllByRecursion Q xs
 all_weaker P Q weaker [] h = tt
 all_weaker P Q weaker (x ∷ xs) h = (weaker x h.0, all_weaker P Q weaker xs h.1)
-
-pub some_same : {A : Type 0} (x y : A) → Some x ≡ Some y → x ≡ y
-some_same x y e = cc
 
 module _ {X : Type 0} (kind_of : X → Kind) where
   -- the text stands for one of so many ids behind another
@@ -83,7 +81,7 @@ module _ {X : Type 0} (kind_of : X → Kind) where
         → (get m id ≡ Some x) ⊎ ((text : List ℕ) × (get (name_all kind_of next es).names text ≡ Some id) × P text x)
     here true tie is =
         let same : id ≡ own = id_order_once id own ((Equal-is (id_order id own)).0 tie) in
-        inr (e.0, name_kept kind_of e.0 es next once.0 ∙ text_put n.names e.0 own ∙ ap Some (sym same), subst (P e.0) (some_same e.1 x is) all.0)
+        inr (e.0, name_kept kind_of e.0 es next once.0 ∙ text_put n.names e.0 own ∙ ap Some (sym same), subst (P e.0) (same_Some e.1 x is) all.0)
     here false tie is = inl is
 
     at : (get (insert m own e.1) id ≡ Some x) ⊎ ((text : List ℕ) × (get (name_all kind_of next es).names text ≡ Some id) × P text x)
@@ -107,7 +105,7 @@ module _ {X : Type 0} (kind_of : X → Kind) where
     here : (b : Bool) → eq_by_cmp text_order text e.0 ≡ b → cond b (Some own) (get n.names text) ≡ Some id
         → (get n.names text ≡ Some id) ⊎ IsHeldIn n.last.domain (with_each (insert m own e.1) (numbered_by kind_of own (map (λ d. d.1) es))) id
     here true tie is = inr (
-        subst (IsHeldIn n.last.domain (with_each (insert m own e.1) (numbered_by kind_of own (map (λ d. d.1) es)))) (some_same own id is)
+        subst (IsHeldIn n.last.domain (with_each (insert m own e.1) (numbered_by kind_of own (map (λ d. d.1) es)))) (same_Some own id is)
         (refl, ap is_some (object_kept kind_of own (map (λ d. d.1) es) own (insert m own e.1) (omega arith) ∙ id_put m own e.1)))
     here false tie is = inl is
 
@@ -157,7 +155,7 @@ module _ {X : Type 0} (kind_of : X → Kind) where
       → last.serial < id.serial
   text_above names last many [] text id all there is = absurd there
   text_above names last many (e ∷ es) text id all (inl same) is =
-      let one : all.0.0 ≡ id = some_same all.0.0 id (sym all.0.1 ∙ ap (get names.names) (sym same) ∙ is) in
+      let one : all.0.0 ≡ id = same_Some all.0.0 id (sym all.0.1 ∙ ap (get names.names) (sym same) ∙ is) in
       let serial : all.0.0.serial ≡ id.serial = ap (λ (i : Id). i.serial) one in
       omega (arith, all.0.2.above, serial)
   text_above names last many (e ∷ es) text id all (inr later) is = text_above names last many es text id all.1 later is
@@ -174,7 +172,7 @@ module _ {X : Type 0} (kind_of : X → Kind) where
     own = behind n.last (kind_of e.1)
 
     first : (text : List ℕ) → text ≡ e.0 → Stands (name_all kind_of next es) text id → own ≡ id
-    first text same stands = some_same own id (sym (name_kept kind_of e.0 es next once.0 ∙ text_put n.names e.0 own) ∙ ap (get (name_all kind_of next es).names) (sym same) ∙ stands)
+    first text same stands = same_Some own id (sym (name_kept kind_of e.0 es next once.0 ∙ text_put n.names e.0 own) ∙ ap (get (name_all kind_of next es).names) (sym same) ∙ stands)
 
     never : (text other : List ℕ) → text ≡ e.0 → Stands (name_all kind_of next es) text id → IsText other es
         → Stands (name_all kind_of next es) other id → ⊥
@@ -227,7 +225,7 @@ module _ {X : Type 0} (kind_of : X → Kind) where
   rising (e ∷ es) n s t i j once (inl h) is too =
       let next = name_next (kind_of e.1) n e.0 in
       let own = behind n.last (kind_of e.1) in
-      let same : own ≡ i = some_same own i (sym (name_kept kind_of e.0 es next once.0 ∙ text_put n.names e.0 own) ∙ ap (get (name_all kind_of next es).names) (sym h.0) ∙ is) in
+      let same : own ≡ i = same_Some own i (sym (name_kept kind_of e.0 es next once.0 ∙ text_put n.names e.0 own) ∙ ap (get (name_all kind_of next es).names) (sym h.0) ∙ is) in
       let serial : own.serial ≡ i.serial = ap (λ (q : Id). q.serial) same in
       let above = text_above (name_all kind_of next es) own (length es) es t j (all_behind es next once.1) h.1 too in
       omega (arith, serial, above)

@@ -8,6 +8,7 @@ use Rattle.std.specs.Cmp.Lexicographic.{nat_list_cmp_total}
 use Rattle.std.specs.List.{AllByRecursion, range_with_len}
 use Rattle.std.specs.Ordering.{eq_by_cmp}
 use Rattle.std.specs.FinMap.{FinMap, empty, entries, entries_sorted, get, get-empty, get-insert, get-remove, insert, keys, remove, values}
+use Rattle.std.proofs.lemmas.Option.{same_Some}
 use Rattle.containers.specs.TextMaps.Keyed.{text_order, with_values}
 use Rattle.containers.proofs.TextMaps.KeyedMaps.{exact_texts}
 use Rattle.containers.proofs.TextMaps.ValueMaps.{entries-values, get-values}
@@ -26,7 +27,7 @@ use Rattle.json_import.specs.Fresh.Names.{Names, behind, id_in, name_each, named
 use Rattle.json_import.specs.Fresh.Renamed.{dataset_object, datatype_object, group_object, kind_of, objects_put, other_count, other_objects, root_object}
 use Rattle.json_import.specs.declared.fresh.names.Naming.{Naming}
 use Rattle.json_import.proofs.OfFresh.FreshLemmas.{rising as rising_serials}
-use Rattle.json_import.proofs.OfFresh.FreshLemmas.{IsBefore, IsHeldIn, IsNamedBehind, IsText, all_behind, apart, before_behind, before_front, before_sorted, before_texts, entry_text, held_told, name_told, serials_follow, some_same, text_above, text_behind, text_front, text_named}
+use Rattle.json_import.proofs.OfFresh.FreshLemmas.{IsBefore, IsHeldIn, IsNamedBehind, IsText, all_behind, apart, before_behind, before_front, before_sorted, before_texts, entry_text, held_told, name_told, serials_follow, text_above, text_behind, text_front, text_named}
 use Rattle.json_import.proofs.OfFresh.ObjectLemmas.{under_count}
 use Rattle.json_import.proofs.OfFresh.StandingLemmas.{AreOnce, IsAbsent, Stands, absent_joined, all_stand, each_of, id_other, id_put, name_all, name_joined, name_kept, name_kind, object_kept, once_entries, once_joined, text_put}
 
@@ -50,7 +51,7 @@ module _ {X Y : Type 0} where
   seen_from h m k y e = at (get m k) refl (sym (get-values nat_list_cmp_total h m k) ∙ e) where
     at : (found : Option X) → get m k ≡ found → option_map h found ≡ Some y → (x : X) × (get m k ≡ Some x) × (y ≡ h x)
     at None is none = let both : None ≡ Some y = none in absurd (cc)
-    at (Some x) is some = (x, is, sym (some_same (h x) y some))
+    at (Some x) is some = (x, is, sym (same_Some (h x) y some))
 
   values_listed : (h : X → Y) (es : List (List ℕ × X)) → map (λ (e : List ℕ × Y). e.1) (map (λ (e : List ℕ × X). (e.0, h e.1)) es) ≡ map h (map (λ (e : List ℕ × X). e.1) es)
   values_listed h [] = refl
@@ -305,7 +306,7 @@ module _ (l : Loaded) (root : Id) (m : FinMap id_order Object) where
       at : (b : Bool) → eq_by_cmp id_order id root ≡ b → cond b (Some (group_object names root g)) (get m id) ≡ Some o → IsToldBy id o
       at true tie e =
           let same : id ≡ root = id_order_once id root ((Equal-is (id_order id root)).0 tie) in
-          let value : group_object names root g ≡ o = some_same (group_object names root g) o e in
+          let value : group_object names root g ≡ o = same_Some (group_object names root g) o e in
           inr (l.root, ap (λ i. unwrap_or i root) root_name ∙ sym same, inl (g, there, sym value))
       at false tie e = inl e
 
@@ -335,7 +336,7 @@ module _ (l : Loaded) (root : Id) (m : FinMap id_order Object) where
     held_at text None is = root_is_held
     held_at text (Some id) is = at (name_told kind_of listed start begun text id (ap (λ (n : Naming). get n.names text) named_listed ∙ is)) where
       first : (b : Bool) → cond b (Some root) None ≡ Some id → IsHeld id
-      first true e = subst IsHeld (some_same root id e) root_is_held
+      first true e = subst IsHeld (same_Some root id e) root_is_held
       first false e = let both : None ≡ Some id = e in absurd (cc)
 
       at : (get (insert (empty {X = Id} {R = text_order}) l.root root) text ≡ Some id) ⊎ IsHeldIn kind_of root.domain numbered_by_text id → IsHeld id

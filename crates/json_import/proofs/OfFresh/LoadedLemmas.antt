@@ -6,6 +6,7 @@ use Rattle.std.specs.Cmp.Lexicographic.{nat_list_cmp_total, slice_cmp}
 use Rattle.std.specs.List.{AllZip}
 use Rattle.std.specs.Ordering.{eq_by_cmp, match_ordering, nat_cmp}
 use Rattle.std.specs.FinMap.{FinMap, empty, get as at_key, get-empty, get-insert, insert}
+use Rattle.std.proofs.lemmas.Option.{none-some}
 use Rattle.serde_json.specs.Data.{Data, Members, array, boolean, member, no_members, null, number, object, string}
 use Rattle.serde_json.specs.Find.{as_object, get, get_member}
 use Rattle.containers.specs.TextMaps.Keyed.{text_order}
@@ -18,9 +19,6 @@ use Rattle.documents.specs.declared.reader.loaded.Datatype.{Datatype}
 use Rattle.documents.specs.declared.reader.loaded.Group.{Group}
 use Rattle.documents.specs.declared.reader.loaded.Loaded.{Loaded}
 use Rattle.json_import.specs.Fresh.Laws.{StandForOne}
-
-no_value : {X : Type 0} (x : X) → None ≡ Some x → ⊥
-no_value x e = let both : None ≡ Some x = e in absurd (cc)
 
 module _ {X : Type 0} (R : List ℕ → Data → X → Type 0) where
   -- a member has the key, and some tree spells the value
@@ -60,7 +58,7 @@ module _ {X : Type 0} (R : List ℕ → Data → X → Type 0) where
     next (inr s) = inr (later k (slice_cmp nat_cmp k id) d ms s.0, s.1, s.2)
 
   only_spelled : (k : List ℕ) (x : X) (has : Bool) → (at_key (empty {X = X} {R = text_order}) k ≡ Some x) ⊎ Spells k x has → Spells k x has
-  only_spelled k x has (inl e) = absurd (no_value x (sym (get-empty text_order k) ∙ e))
+  only_spelled k x has (inl e) = absurd (none-some x (sym (get-empty text_order k) ∙ e))
   only_spelled k x has (inr s) = s
 
   members_found : (ms : Members) (m : FinMap text_order X) → AreMembers R ms m → (k : List ℕ) (x : X) → at_key m k ≡ Some x → Spells k x (is_some (get_member k ms))
@@ -75,7 +73,7 @@ module _ {X : Type 0} (R : List ℕ → Data → X → Type 0) where
   found_in (object ms) m are k x e = members_found ms m are k x e
 
   pub part_found : (o : Option Data) (m : FinMap text_order X) → IsPart R o m → (k : List ℕ) (x : X) → at_key m k ≡ Some x → Spells k x (is_some (option_and_then (get k) o))
-  part_found None m are k x e = absurd (no_value x (sym (get-empty text_order k) ∙ ap (λ n. at_key n k) (sym are) ∙ e))
+  part_found None m are k x e = absurd (none-some x (sym (get-empty text_order k) ∙ ap (λ n. at_key n k) (sym are) ∙ e))
   part_found (Some d) m are k x e = found_in d m are k x e
 
   pub needed_found : (o : Option Data) (m : FinMap text_order X) → IsNeeded R o m → (k : List ℕ) (x : X) → at_key m k ≡ Some x → Spells k x (is_some (option_and_then (get k) o))

@@ -3,11 +3,12 @@ use Rattle.std.proofs.Common.{◌≡◌, ◌≢◌, ◌↔◌, ◌≤◌, ◌<�
 use Rattle.std.specs.Cmp.{Equal-is}
 use Rattle.std.specs.List.{AllByRecursion, filter}
 use Rattle.std.specs.Ordering.{eq_by_cmp}
-use Rattle.std.proofs.lemmas.Bool.{and_parts, eq-eqb, eqb-true}
+use Rattle.std.proofs.lemmas.Bool.{and_parts, eq-eqb, eqb-true, or_left}
 use Rattle.std.proofs.lemmas.Cmp.{tied_itself}
 use Rattle.std.proofs.lemmas.List.{length-map}
 use Rattle.std.specs.FinMap.{FinMap, contains_key, empty, entries, entries_sorted, find as finite_find, get, get-empty, get-entries, get-insert, insert, is_sorted, len, len-empty, len-entries}
 use Rattle.std.specs.FinMap.Entries.{below_all}
+use Rattle.std.proofs.lemmas.Option.{none-some, same_Some}
 use Rattle.serde_json.specs.Data.{Data, Members, no_members}
 use Rattle.serde_json.specs.Find.{get as find}
 use Rattle.serde_json.specs.Find.{get_member}
@@ -68,8 +69,8 @@ use Rattle.documents.specs.declared.reader.loaded.Datatype.{Datatype}
 use Rattle.documents.specs.declared.reader.loaded.Group.{Group}
 use Rattle.json_import.specs.RoundTrips.Held.{AreSound, IsSoundAt, collection_in, dataset_of, datatype_of, group_of, held_in, held_pairs, pair_before, target_of, targets_in, whole}
 use Rattle.json_import.proofs.RoundTrips.EntryLemmas.{titled_at, values_same}
-use Rattle.json_import.proofs.RoundTrips.HomeLemmas.{behind, both, front, id_length, member_is, member_told, no_member, other_rank, rank_same, same_id}
-use Rattle.json_import.proofs.RoundTrips.ListLemmas.{IsIn, all_free, are_members, listed_of, no_some, put_in, put_there, some_same, sorted_new, zip_all}
+use Rattle.json_import.proofs.RoundTrips.HomeLemmas.{behind, both, id_length, member_is, member_told, no_member, other_rank, rank_same, same_id}
+use Rattle.json_import.proofs.RoundTrips.ListLemmas.{IsIn, all_free, are_members, listed_of, put_in, put_there, sorted_new, zip_all}
 use Rattle.json_import.proofs.RoundTrips.PartLemmas.{array_held}
 
 -- ---- attributes
@@ -169,16 +170,16 @@ module _ (m : Objects) (h : Home) (printed : Data) (known : (id : Id) → is_the
 pub no_attributes : AreAttributes empty
 no_attributes = record {
   few = let none = len-empty text_order Attribute in omega (arith, none);
-  named = λ name a is. absurd (no_some a (sym (get-empty text_order name) ∙ is));
-  sound = λ name a is. absurd (no_some a (sym (get-empty text_order name) ∙ is));
+  named = λ name a is. absurd (none-some a (sym (get-empty text_order name) ∙ is));
+  sound = λ name a is. absurd (none-some a (sym (get-empty text_order name) ∙ is));
 }
 
 pub no_links : AreLinks empty
 no_links = record {
   few = let none = len-empty text_order LinkTo in omega (arith, none);
-  titled = λ title link is. absurd (no_some link (sym (get-empty text_order title) ∙ is));
-  named = λ title link is. absurd (no_some link (sym (get-empty text_order title) ∙ is));
-  sound = λ title link is. absurd (no_some link (sym (get-empty text_order title) ∙ is));
+  titled = λ title link is. absurd (none-some link (sym (get-empty text_order title) ∙ is));
+  named = λ title link is. absurd (none-some link (sym (get-empty text_order title) ∙ is));
+  sound = λ title link is. absurd (none-some link (sym (get-empty text_order title) ∙ is));
 }
 
 itself : (x : Id) → id_eq x x ≡ true
@@ -237,8 +238,8 @@ module _ {X : Type 0} (see : Object → Option X) (number : ℕ) where
   pairs_there (e ∷ es) id o x is numbers sees = at (eq_by_cmp id_order id e.0) refl is (λ later. pairs_there es id o x later numbers sees) where
     here : (b : Bool) → b ≡ true → (found : Option X) → found ≡ Some x → (text : List ℕ) → text_of_id id ≡ text
         → IsIn (text_of_id id) x (pair_before (cond b found None) text (held_pairs see number es))
-    here true own (Some y) is text same = inl (same, sym (some_same y x is))
-    here true own None is text same = absurd (no_some x is)
+    here true own (Some y) is text same = inl (same, sym (same_Some y x is))
+    here true own None is text same = absurd (none-some x is)
     here false own found is text same = let never : false ≡ true = own in absurd (cc)
 
     later_on : (found : Option X) → IsIn (text_of_id id) x (held_pairs see number es)
@@ -251,7 +252,7 @@ module _ {X : Type 0} (see : Object → Option X) (number : ℕ) where
         → IsIn (text_of_id id) x (pair_before (cond (e.0.domain == number) (see e.1) None) (text_of_id e.0) (held_pairs see number es))
     at true tie first later =
         let same = tied id e.0 tie in
-        here (e.0.domain == number) (eq-eqb e.0.domain number (ap (λ (i : Id). i.domain) (sym same) ∙ numbers)) (see e.1) (ap see (some_same e.1 o first) ∙ sees) (text_of_id e.0) (ap text_of_id same)
+        here (e.0.domain == number) (eq-eqb e.0.domain number (ap (λ (i : Id). i.domain) (sym same) ∙ numbers)) (see e.1) (ap see (same_Some e.1 o first) ∙ sees) (text_of_id e.0) (ap text_of_id same)
     at false tie first later = later_on (cond (e.0.domain == number) (see e.1) None) (later first)
 
 found_each : (n : Objects) (es : List (Id × Object)) → AllByRecursion (λ e. finite_find id_order e.0 (entries n) ≡ Some e.1) es
@@ -279,11 +280,11 @@ module _
 
     some_sound : (id : Id) (o : Object) (found : Option Object) → get m id ≡ found → held_or_root h id found ≡ Some o
         → id.domain ≡ h.number → IsSoundAt id o
-    some_sound id o (Some x) there is number = subst (IsSoundAt id) (some_same x o is) (are.each id x there number)
+    some_sound id o (Some x) there is number = subst (IsSoundAt id) (same_Some x o is) (are.each id x there number)
     some_sound id o None there is number = at (id_eq id h.root) refl is where
       at : (b : Bool) → id_eq id h.root ≡ b → cond b (Some empty_group) None ≡ Some o → IsSoundAt id o
-      at true tie e = subst (λ i. IsSoundAt i o) (sym (same_id m h id h.root tie)) (subst (IsSoundAt h.root) (some_same empty_group o e) root_sound)
-      at false tie e = absurd (no_some o e)
+      at true tie e = subst (λ i. IsSoundAt i o) (sym (same_id m h id h.root tie)) (subst (IsSoundAt h.root) (same_Some empty_group o e) root_sound)
+      at false tie e = absurd (none-some o e)
 
     -- an object of the domain
     record IsHeld (id : Id) (o : Object) : Type 0 where
@@ -314,8 +315,8 @@ module _
     known_kind : (id : Id) (o : Object) (k : Kind) → kind_of_body o.body ≡ k
         → find (text_of_id id) (collection_tree m h k) ≡ Some (entry_tree m h o) → is_id (text_of_id id) printed ≡ true
     known_kind id o kind.Group kinds is = behind _ _ (ap is_some is)
-    known_kind id o kind.Dataset kinds is = front _ _ (front _ _ (ap is_some is))
-    known_kind id o kind.Datatype kinds is = front _ _ (behind _ _ (ap is_some is))
+    known_kind id o kind.Dataset kinds is = or_left _ _ (or_left _ _ (ap is_some is))
+    known_kind id o kind.Datatype kinds is = or_left _ _ (behind _ _ (ap is_some is))
 
     there_or_root : (id : Id) (found : Option Object) → (is_some found || id_eq id h.root) ≡ true → IsSome (held_or_root h id found)
     there_or_root id (Some o) is = refl
@@ -365,19 +366,19 @@ module _
     dataset_held : (id : Id) (attributes : AttributeMap) (b : Body) (x : Dataset) → AreAttributes attributes → IsKeptBody b
         → dataset_of attributes b ≡ Some x
         → IsDataset (text_of_id id) (entry_tree m h (record { attributes = attributes; body = b })) x
-    dataset_held id attributes (body.Group links) x held parts is = absurd (no_some x is)
-    dataset_held id attributes (body.Dataset array) x held parts is = subst (IsDataset (text_of_id id) _) (some_same _ x is) (record {
+    dataset_held id attributes (body.Group links) x held parts is = absurd (none-some x is)
+    dataset_held id attributes (body.Dataset array) x held parts is = subst (IsDataset (text_of_id id) _) (same_Some _ x is) (record {
       named = id_length id;
       object = refl;
       attributes = attributes_held attributes held;
       array = array_held creations back elements each array.grid parts.0 _ parts.1 refl refl refl refl;
     })
-    dataset_held id attributes (body.Datatype type) x held parts is = absurd (no_some x is)
+    dataset_held id attributes (body.Datatype type) x held parts is = absurd (none-some x is)
 
     dataset_kind : (attributes : AttributeMap) (b : Body) (x : Dataset) → dataset_of attributes b ≡ Some x → kind_of_body b ≡ kind.Dataset
-    dataset_kind attributes (body.Group links) x is = absurd (no_some x is)
+    dataset_kind attributes (body.Group links) x is = absurd (none-some x is)
     dataset_kind attributes (body.Dataset array) x is = refl
-    dataset_kind attributes (body.Datatype type) x is = absurd (no_some x is)
+    dataset_kind attributes (body.Datatype type) x is = absurd (none-some x is)
 
     dataset_shown : (attributes : AttributeMap) (b : Body) → kind_of_body b ≡ kind.Dataset
         → (x : Dataset) × (dataset_of attributes b ≡ Some x)
@@ -390,9 +391,9 @@ module _
     datatype_held : (id : Id) (attributes : AttributeMap) (b : Body) (x : Datatype) → InRange id → id.kind ≡ kind_of_body b
         → AreAttributes attributes → IsKeptBody b → datatype_of attributes b ≡ Some x
         → IsDatatype printed (text_of_id id) (entry_tree m h (record { attributes = attributes; body = b })) x
-    datatype_held id attributes (body.Group links) x range kinds held parts is = absurd (no_some x is)
-    datatype_held id attributes (body.Dataset array) x range kinds held parts is = absurd (no_some x is)
-    datatype_held id attributes (body.Datatype type) x range kinds held parts is = subst (IsDatatype printed (text_of_id id) _) (some_same _ x is) (record {
+    datatype_held id attributes (body.Group links) x range kinds held parts is = absurd (none-some x is)
+    datatype_held id attributes (body.Dataset array) x range kinds held parts is = absurd (none-some x is)
+    datatype_held id attributes (body.Datatype type) x range kinds held parts is = subst (IsDatatype printed (text_of_id id) _) (same_Some _ x is) (record {
       named = id_length id;
       no_dataset = ap is_some (not_there kind.Dataset id range (λ same. other_rank kind.Datatype kind.Dataset (omega arith) (sym kinds ∙ rank_same id.kind kind.Dataset same)));
       object = refl;
@@ -402,8 +403,8 @@ module _
 
     datatype_kind : (attributes : AttributeMap) (b : Body) (x : Datatype) → datatype_of attributes b ≡ Some x
         → kind_of_body b ≡ kind.Datatype
-    datatype_kind attributes (body.Group links) x is = absurd (no_some x is)
-    datatype_kind attributes (body.Dataset array) x is = absurd (no_some x is)
+    datatype_kind attributes (body.Group links) x is = absurd (none-some x is)
+    datatype_kind attributes (body.Dataset array) x is = absurd (none-some x is)
     datatype_kind attributes (body.Datatype type) x is = refl
 
     datatype_shown : (attributes : AttributeMap) (b : Body) → kind_of_body b ≡ kind.Datatype
@@ -417,7 +418,7 @@ module _
     group_held : (id : Id) (attributes : AttributeMap) (b : Body) (x : Group) → InRange id → id.kind ≡ kind_of_body b
         → AreAttributes attributes → IsKeptBody b → group_of m h attributes b ≡ Some x
         → IsGroup printed (text_of_id id) (entry_tree m h (record { attributes = attributes; body = b })) x
-    group_held id attributes (body.Group links) x range kinds held parts is = subst (IsGroup printed (text_of_id id) _) (some_same _ x is) (record {
+    group_held id attributes (body.Group links) x range kinds held parts is = subst (IsGroup printed (text_of_id id) _) (same_Some _ x is) (record {
       named = id_length id;
       no_dataset = ap is_some (not_there kind.Dataset id range (λ same. other_rank kind.Group kind.Dataset (omega arith) (sym kinds ∙ rank_same id.kind kind.Dataset same)));
       no_datatype = ap is_some (not_there kind.Datatype id range (λ same. other_rank kind.Group kind.Datatype (omega arith) (sym kinds ∙ rank_same id.kind kind.Datatype same)));
@@ -425,13 +426,13 @@ module _
       attributes = attributes_held attributes held;
       links = links_held m h printed known links parts;
     })
-    group_held id attributes (body.Dataset array) x range kinds held parts is = absurd (no_some x is)
-    group_held id attributes (body.Datatype type) x range kinds held parts is = absurd (no_some x is)
+    group_held id attributes (body.Dataset array) x range kinds held parts is = absurd (none-some x is)
+    group_held id attributes (body.Datatype type) x range kinds held parts is = absurd (none-some x is)
 
     group_kind : (attributes : AttributeMap) (b : Body) (x : Group) → group_of m h attributes b ≡ Some x → kind_of_body b ≡ kind.Group
     group_kind attributes (body.Group links) x is = refl
-    group_kind attributes (body.Dataset array) x is = absurd (no_some x is)
-    group_kind attributes (body.Datatype type) x is = absurd (no_some x is)
+    group_kind attributes (body.Dataset array) x is = absurd (none-some x is)
+    group_kind attributes (body.Datatype type) x is = absurd (none-some x is)
 
     group_shown : (attributes : AttributeMap) (b : Body) → kind_of_body b ≡ kind.Group → (x : Group) × (group_of m h attributes b ≡ Some x)
     group_shown attributes (body.Group links) is = (_, refl)

@@ -61,10 +61,6 @@ both true true p q = refl
 both true false p q = q
 both false b p q = p
 
-pub front : (a b : Bool) → a ≡ true → (a || b) ≡ true
-front true b p = refl
-front false b p = let e : false ≡ true = p in absurd (cc)
-
 pub behind : (a b : Bool) → b ≡ true → (a || b) ≡ true
 behind true b p = refl
 behind false b p = p

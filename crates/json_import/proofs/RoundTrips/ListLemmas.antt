@@ -10,6 +10,7 @@ use Rattle.std.specs.FinMap.{FinMap, empty, entries, entries_sorted, find, get, 
 use Rattle.std.specs.FinMap.Entries.{below_all}
 use Rattle.std.proofs.lemmas.Cmp.{tied_itself}
 use Rattle.std.proofs.lemmas.List.{length-map}
+use Rattle.std.proofs.lemmas.Option.{none-some, same_Some}
 use Rattle.serde_json.specs.Data.{Data, Members, member, no_members}
 use Rattle.serde_json.specs.Find.{get_member}
 use Rattle.json_trees.specs.Trees.{list_in}
@@ -25,12 +26,6 @@ use Rattle.documents.specs.Parts.Spelled.{AreListed, AreListedAt, AreListedIn, A
 use Rattle.json_import.proofs.OfFresh.PutLemmas.{get-put, or_none}
 use Rattle.documents.specs.Reader.Loads.{AreMembers, IsMember, pairs_of}
 use Rattle.json_import.specs.RoundTrips.Renamed.{at_texts}
-
-pub some_same : {A : Type 0} (x y : A) → Some x ≡ Some y → x ≡ y
-some_same x y e = cc
-
-pub no_some : {A : Type 0} (x : A) → None ≡ Some x → ⊥
-no_some x e = cc
 
 -- a greater key isn't tied with a lesser one
 greater : (x y : List ℕ) → text_order x y ≡ Less → eq_by_cmp text_order y x ≡ false
@@ -48,7 +43,7 @@ module _ {X : Type 0} where
   put_told [] m k x is = inl is
   put_told (p ∷ ps) m k x is = at (put_told ps (insert m p.0 p.1) k x is) where
     here : (b : Bool) → eq_by_cmp text_order k p.0 ≡ b → cond b (Some p.1) (get m k) ≡ Some x → (get m k ≡ Some x) ⊎ IsIn k x (p ∷ ps)
-    here true tie e = inr (inl (exact_texts k p.0 ((Equal-is (text_order k p.0)).0 tie), sym (some_same p.1 x e)))
+    here true tie e = inr (inl (exact_texts k p.0 ((Equal-is (text_order k p.0)).0 tie), sym (same_Some p.1 x e)))
     here false tie e = inl e
 
     at : (get (insert m p.0 p.1) k ≡ Some x) ⊎ IsIn k x ps → (get m k ≡ Some x) ⊎ IsIn k x (p ∷ ps)
@@ -58,7 +53,7 @@ module _ {X : Type 0} where
   pub put_in : (ps : List (List ℕ × X)) (k : List ℕ) (x : X) → get (put_pairs empty ps) k ≡ Some x → IsIn k x ps
   put_in ps k x is = at (put_told ps empty k x is) where
     at : (get (empty {X = X} {R = text_order}) k ≡ Some x) ⊎ IsIn k x ps → IsIn k x ps
-    at (inl e) = absurd (no_some x (sym (get-empty text_order k) ∙ e))
+    at (inl e) = absurd (none-some x (sym (get-empty text_order k) ∙ e))
     at (inr h) = h
 
   -- what is there stays, or gives way to another entry at its key
@@ -86,11 +81,11 @@ module _ {X : Type 0} where
   found_in m k x is = at (entries m) (sym (get-entries m k) ∙ is) where
     next : (e : List ℕ × X) (es : List (List ℕ × X)) (b : Bool) → eq_by_cmp text_order k e.0 ≡ b
         → cond b (Some e.1) (find text_order k es) ≡ Some x → (find text_order k es ≡ Some x → IsIn k x es) → IsIn k x (e ∷ es)
-    next e es true tie is later = inl (exact_texts k e.0 ((Equal-is (text_order k e.0)).0 tie), sym (some_same e.1 x is))
+    next e es true tie is later = inl (exact_texts k e.0 ((Equal-is (text_order k e.0)).0 tie), sym (same_Some e.1 x is))
     next e es false tie is later = inr (later is)
 
     at : (es : List (List ℕ × X)) → find text_order k es ≡ Some x → IsIn k x es
-    at [] is = absurd (no_some x is)
+    at [] is = absurd (none-some x is)
     at (e ∷ es) is = next e es (eq_by_cmp text_order k e.0) refl is (at es)
 
   -- what stands in a list of which each entry holds
@@ -144,7 +139,7 @@ module _ {X : Type 0} (most : ℕ) (R : Data → List ℕ × X → Type 0) where
   -- some tree spells what is found
   pub listed_found : (o : Option Data) (m : FinMap text_order X) → AreListedAt most R o m → (k : List ℕ) (x : X) → get m k ≡ Some x
       → (d : Data) × R d (k, x)
-  listed_found None m are k x is = absurd (no_some x (sym (get-empty text_order k) ∙ ap (λ (n : FinMap text_order X). get n k) (sym are) ∙ is))
+  listed_found None m are k x is = absurd (none-some x (sym (get-empty text_order k) ∙ ap (λ (n : FinMap text_order X). get n k) (sym are) ∙ is))
   listed_found (Some d) m are k x is = in_found (list_in d) m are k x is
 
   in_few : (o : Option (List Data)) (m : FinMap text_order X) → AreListedIn most R o m → len m ≤ most
@@ -213,12 +208,12 @@ all_found (member k d ms) rises = (
 )
 
 member_in : (ms : Members) (k : List ℕ) (d : Data) → get_member k ms ≡ Some d → IsIn k d (pairs_of ms)
-member_in no_members k d is = absurd (no_some d is)
+member_in no_members k d is = absurd (none-some d is)
 member_in (member l e ms) k d is = at (text_order k l) refl is (member_in ms k d) where
   at : (o : Ordering) → text_order k l ≡ o → match_ordering o (get_member k ms) (Some e) (get_member k ms) ≡ Some d
       → (get_member k ms ≡ Some d → IsIn k d (pairs_of ms)) → IsIn k d ((l, e) ∷ pairs_of ms)
   at Less tie is later = inr (later is)
-  at Equal tie is later = inl (exact_texts k l tie, sym (some_same e d is))
+  at Equal tie is later = inl (exact_texts k l tie, sym (same_Some e d is))
   at Greater tie is later = inr (later is)
 
 module _ {X : Type 0} (R : List ℕ → Data → X → Type 0) (ms : Members) (m : FinMap text_order X) (rises : Rises ms)
@@ -229,7 +224,7 @@ module _ {X : Type 0} (R : List ℕ → Data → X → Type 0) (ms : Members) (m
     one k d is = at (get m k) refl (back k d is) where
       at : (found : Option X) → get m k ≡ found → IsSome found → (x : X) × (get m k ≡ Some x) × R k d x
       at None e there = let both : false ≡ true = there in absurd (cc)
-      at (Some x) e there = let f = forth k x e in (x, e, subst (λ t. R k t x) (some_same f.0 d (sym f.1 ∙ is)) f.2)
+      at (Some x) e there = let f = forth k x e in (x, e, subst (λ t. R k t x) (same_Some f.0 d (sym f.1 ∙ is)) f.2)
 
     abbrev Paired : List (List ℕ × Data) → Type 0
     Paired ps =
@@ -261,7 +256,7 @@ module _ {X : Type 0} (R : List ℕ → Data → X → Type 0) (ms : Members) (m
 
       none : (found : Option X) → get (put_pairs empty paired.0) q ≡ found → get m q ≡ None → get (put_pairs empty paired.0) q ≡ None
       none None is there = is
-      none (Some y) is there = absurd (no_some y (sym there ∙ held y is))
+      none (Some y) is there = absurd (none-some y (sym there ∙ held y is))
 
       some : (found : Option X) → get (put_pairs empty paired.0) q ≡ found → IsSome found → get (put_pairs empty paired.0) q ≡ get m q
       some None is there = let both : false ≡ true = there in absurd (cc)
@@ -362,11 +357,11 @@ module _ {X : Type 0} where
       ap (λ b. cond b (Some e.1) (find text_order q es)) (greater e.0 q (below_in e.0 q y es (halves _ _ rising).0 later)) ∙ sorted_found es q y (halves _ _ rising).1 later
 
   find_in : (es : List (List ℕ × X)) (q : List ℕ) (y : X) → find text_order q es ≡ Some y → IsIn q y es
-  find_in [] q y is = absurd (no_some y is)
+  find_in [] q y is = absurd (none-some y is)
   find_in (e ∷ es) q y is = at (eq_by_cmp text_order q e.0) refl is (find_in es q y) where
     at : (b : Bool) → eq_by_cmp text_order q e.0 ≡ b → cond b (Some e.1) (find text_order q es) ≡ Some y
         → (find text_order q es ≡ Some y → IsIn q y es) → IsIn q y (e ∷ es)
-    at true tie is later = inl (exact_texts q e.0 ((Equal-is (text_order q e.0)).0 tie), sym (some_same e.1 y is))
+    at true tie is later = inl (exact_texts q e.0 ((Equal-is (text_order q e.0)).0 tie), sym (same_Some e.1 y is))
     at false tie is later = inr (later is)
 
   -- a list in order that has just what a map has lists its entries
@@ -418,7 +413,7 @@ module _ {X Y : Type 0} (text : List ℕ → List ℕ) (h : X → Y) where
           → IsIn (text t) (h y) ((text first, h x) ∷ map (λ e. (text e.0, h e.1)) (entries (remove m first)))
       removed t y true tie e =
           let same : t ≡ first = exact_texts t first ((Equal-is (text_order t first)).0 tie) in
-          let value : y ≡ x = some_same y x (sym e ∙ ap (get m) same ∙ is) in
+          let value : y ≡ x = same_Some y x (sym e ∙ ap (get m) same ∙ is) in
           inl (ap text same, ap h value)
       removed t y false tie e =
           inr (in_moved text h (entries (remove m first)) t y (found_in (remove m first) t y (get-remove nat_list_cmp_total m first t ∙ ap (λ b. cond b None (get m t)) tie ∙ e)))
@@ -434,7 +429,7 @@ module _ {X Y : Type 0} (text : List ℕ → List ℕ) (h : X → Y) where
       kept : (t : List ℕ) (y : X) → get (remove m first) t ≡ Some y → get m t ≡ Some y
       kept t y e = at (eq_by_cmp text_order t first) (sym (get-remove nat_list_cmp_total m first t) ∙ e) where
         at : (b : Bool) → cond b None (get m t) ≡ Some y → get m t ≡ Some y
-        at true e = absurd (no_some y e)
+        at true e = absurd (none-some y e)
         at false e = e
 
       there : (k : List ℕ) (y : Y) → IsIn k y ((text first, h x) ∷ map (λ e. (text e.0, h e.1)) (entries (remove m first)))

@@ -9,13 +9,14 @@ use Rattle.std.specs.FinMap.{entries, entries_sorted, find, get, get-from_entrie
 use Rattle.std.specs.FinMap.Entries.{below_all}
 use Rattle.std.specs.Ordering.{eq_by_cmp, ordering_then}
 use Rattle.std.proofs.lemmas.Cmp.{tied_itself}
+use Rattle.std.proofs.lemmas.Option.{none-some}
 use Rattle.containers.specs.TextMaps.Keyed.{text_order}
 use Rattle.flush_journal.specs.Records.{Held, Record}
 use Rattle.object_ids.specs.Paths.{is_slash, path_of, parent_of, root_path, starts_with_slash}
 use Rattle.object_ids.proofs.PathLemmas.{IsLongPath, has_last_slash, is_path-from_path_of, parent_of-at, parent_of-none, path_cases}
 use Rattle.object_records.specs.Keys.Keys.{node_key}
 use Rattle.containers.specs.TextMaps.Fronts.{held_by}
-use Rattle.containers.proofs.TextMaps.Fronts.{below_part, first, none_some, same_key, second, some_is}
+use Rattle.containers.proofs.TextMaps.Fronts.{below_part, first, same_key, second}
 use Rattle.containers.proofs.Passing.{by_bool, contrary}
 use Rattle.register.specs.Installed.Registers.{count_nodes, is_node_key}
 
@@ -116,7 +117,7 @@ module _ (held : Held) (front rest : List Record) (e : Record) (split : entries 
   pub front_less : (q body : List ℕ) → get (held_by front) q ≡ Some body → text_order q e.0 ≡ Less
   front_less q body is = at front sorted_all (sym (get-from_entries nat_list_cmp_total front q) ∙ is) where
     at : (xs : List Record) → T (is_sorted text_order (xs ++ e ∷ rest)) → find text_order q xs ≡ Some body → text_order q e.0 ≡ Less
-    at [] s f = absurd (none_some body f)
+    at [] s f = absurd (none-some body f)
     at (x ∷ xs) s f = by_bool (eq_by_cmp text_order q x.0) (text_order q e.0 ≡ Less)
         (λ same. ap (λ k. text_order k e.0) (same_key q x.0 same) ∙ below_part x.0 xs e rest (first _ _ s))
         (λ other. at xs (second (below_all text_order x.0 (xs ++ e ∷ rest)) _ s) (sym (ap (λ b. cond b (Some x.1) (find text_order q xs)) other) ∙ f))

@@ -7,6 +7,7 @@ use Rattle.std.specs.Cmp.{Equal-is}
 use Rattle.std.specs.Cmp.Lexicographic.{nat_list_cmp_total}
 use Rattle.std.specs.FinMap.{contains_key, empty, entries, entries_sorted, get, get-empty, get-insert, insert, is_sorted, len, len-insert}
 use Rattle.std.specs.Ordering.{eq_by_cmp}
+use Rattle.std.proofs.lemmas.Option.{none-some, same_Some}
 use Rattle.containers.specs.TextMaps.Keyed.{text_order}
 use Rattle.flush_journal.specs.Records.{Held, Record}
 use Rattle.object_ids.specs.IdOrder.{id_order}
@@ -21,7 +22,7 @@ use Rattle.object_records.specs.Keys.Keys.{IsPath, node_key}
 use Rattle.object_records.specs.Keys.Numbers.{next_bytes, run_bytes}
 use Rattle.domains.specs.Records.Nodes.{node_of_body}
 use Rattle.containers.specs.TextMaps.Fronts.{held_by}
-use Rattle.containers.proofs.TextMaps.Fronts.{all_held, differ, held_before, held_here, new_key, none_some, nothing_held, said_else, said_here, same_key, some_is, split_more, unlike}
+use Rattle.containers.proofs.TextMaps.Fronts.{all_held, differ, held_before, held_here, new_key, nothing_held, said_else, said_here, same_key, split_more, unlike}
 use Rattle.containers.proofs.Passing.{by_bool, contrary}
 use Rattle.register.specs.Installed.Registers.{IsDomainOf, IsNextNumber, IsNodeRecord, IsRun, KeepsNumber, class_at, count_nodes, is_node_key, node_at}
 use Rattle.register.specs.Installed.Walks.{AreRoots, IsNextOf, IsNodeWalk, NoPut, no_node, no_place, no_number, PutsNode, Roots, is_given, may_stand, number_id, one_without, with_root}
@@ -32,17 +33,17 @@ class_of o = option_map (λ node. node.class) o
 
 -- a class is that of a node
 pub node_of_class : (o : Option Node) (class : NodeClass) → class_of o ≡ Some class → (node : Node) × (o ≡ Some node) × (node.class ≡ class)
-node_of_class None class e = absurd (none_some class e)
-node_of_class (Some node) class e = (node, refl, some_is node.class class e)
+node_of_class None class e = absurd (none-some class e)
+node_of_class (Some node) class e = (node, refl, same_Some node.class class e)
 
 -- a node is what a body tells
 pub body_of_node : (o : Option (List ℕ)) (node : Node) → option_and_then node_of_body o ≡ Some node → (body : List ℕ) × (o ≡ Some body) × (node_of_body body ≡ Some node)
-body_of_node None node e = absurd (none_some node e)
+body_of_node None node e = absurd (none-some node e)
 body_of_node (Some body) node e = (body, refl, e)
 
 pub never_some : {A : Type 0} (o : Option A) → o ≡ None → IsSome o → ⊥
 never_some None e some = cc
-never_some (Some x) e some = none_some x (sym e)
+never_some (Some x) e some = none-some x (sym e)
 
 either : (b : Bool) (i : Id) (o : Option Id) → IsSome o → IsSome (cond b (Some i) o)
 either true i o some = refl
@@ -58,13 +59,13 @@ same_own n i m j e = cc
 
 one_run : (held : Held) (a b : ℕ) → IsRun held a → IsRun held b → a ≡ b
 one_run held a b x y =
-    sym (from_be_bytes-to_be_bytes_4 a (below a x.small)) ∙ ap (from_be_bytes w32) (some_is (run_bytes a) (run_bytes b) (sym x.here ∙ y.here)) ∙ from_be_bytes-to_be_bytes_4 b (below b y.small) where
+    sym (from_be_bytes-to_be_bytes_4 a (below a x.small)) ∙ ap (from_be_bytes w32) (same_Some (run_bytes a) (run_bytes b) (sym x.here ∙ y.here)) ∙ from_be_bytes-to_be_bytes_4 b (below b y.small) where
       below : (n : ℕ) → n < 2 ^ 22 → n < 2 ^ 32
       below n small = omega arith
 
 pub one_next : (held : Held) (a b : ℕ) → IsNextNumber held a → IsNextNumber held b → a ≡ b
 one_next held a b x y =
-    sym (from_be_bytes-to_be_bytes_8 a (below a x.small)) ∙ ap (from_be_bytes w64) (some_is (next_bytes a) (next_bytes b) (sym x.here ∙ y.here)) ∙ from_be_bytes-to_be_bytes_8 b (below b y.small) where
+    sym (from_be_bytes-to_be_bytes_8 a (below a x.small)) ∙ ap (from_be_bytes w64) (same_Some (next_bytes a) (next_bytes b) (sym x.here ∙ y.here)) ∙ from_be_bytes-to_be_bytes_8 b (below b y.small) where
       below : (n : ℕ) → n ≤ 2 ^ 48 → n < 2 ^ 64
       below n small = omega arith
 
@@ -79,8 +80,8 @@ no_node_yet path = ap (option_and_then node_of_body) (nothing_held (node_key pat
 only_root_there : (held : Held) (c : Contents) (root : Node) → node_at held root_path ≡ Some root → root.class ≡ Folder → get c.nodes root_path ≡ Some root → ((path : List ℕ) → path ≢ root_path → get c.nodes path ≡ None)
     → (path : List ℕ) (number : ℕ) (id : Id) → IsDomainAt c path number id → ⊥
 only_root_there held c root told class there others path number id e = by_bool (eq_by_cmp text_order path root_path) ⊥
-    (λ same. let c : Folder ≡ Domain number id = sym class ∙ some_is root.class (Domain number id) (sym (ap class_of there) ∙ ap (λ q. class_in c q) (sym (same_key path root_path same)) ∙ e) in cc)
-    (λ other. none_some (Domain number id) (sym (ap class_of (others path (differ path root_path other))) ∙ e))
+    (λ same. let c : Folder ≡ Domain number id = sym class ∙ same_Some root.class (Domain number id) (sym (ap class_of there) ∙ ap (λ q. class_in c q) (sym (same_key path root_path same)) ∙ e) in cc)
+    (λ other. none-some (Domain number id) (sym (ap class_of (others path (differ path root_path other))) ∙ e))
 
 pub walk_begin : (held : Held) (all : List Record) (c : Contents) (roots : Roots) (root : Node) → entries held ≡ all → node_at held root_path ≡ Some root → root.class ≡ Folder
     → get c.nodes root_path ≡ Some root → ((path : List ℕ) → path ≢ root_path → get c.nodes path ≡ None) → len c.nodes ≡ 1 → roots ≡ empty → IsNodeWalk held all c roots
@@ -89,7 +90,7 @@ walk_begin held all c roots root whole told class there others one none = record
   split = whole;
   root = there ∙ sym told;
   nodes = λ path other. others path other ∙ sym (no_node_yet path);
-  rules = λ path body e. absurd (none_some body (sym (nothing_held (node_key path)) ∙ e));
+  rules = λ path body e. absurd (none-some body (sym (nothing_held (node_key path)) ∙ e));
   count = one ∙ ap (λ o. count_nodes [] + one_without o) (sym (nothing_held (node_key root_path)));
   numbers = record {
     there = λ number some. absurd (not_there number some);
@@ -145,7 +146,7 @@ module _ (held : Held) (rest : List Record) (e : Record) (c : Contents) (roots :
     rules_more : IsNodeRecord held path e.1 → (q body : List ℕ) → get after (node_key q) ≡ Some body → IsNodeRecord held q body
     rules_more sound q body is = by_bool (eq_by_cmp text_order (node_key q) e.0) (IsNodeRecord held q body)
         (λ same. let at_key = same_key (node_key q) e.0 same in
-        let one : e.1 ≡ body = some_is e.1 body (sym (said_here held w.front rest e w.split) ∙ ap (get after) (sym at_key) ∙ is) in
+        let one : e.1 ≡ body = same_Some e.1 body (sym (said_here held w.front rest e w.split) ∙ ap (get after) (sym at_key) ∙ is) in
         subst (λ (x : List ℕ). IsNodeRecord held x body) (key_path path q (key ∙ sym at_key)) (subst (λ (x : List ℕ). IsNodeRecord held path x) one sound))
         (λ other. w.rules q body (sym (else_same q (differ (node_key q) e.0 other)) ∙ is))
 
@@ -228,7 +229,7 @@ module _ (held : Held) (rest : List Record) (e : Record) (c : Contents) (roots :
           let body = body_of_node (get (held_by w.front) (node_key q)) told.0 told.1 in
           ap (text_order (node_key q)) key ∙ front_less held w.front rest e w.split (node_key q) body.0 body.1) where
             root_no_domain : q ≡ root_path → ⊥
-            root_no_domain at_root = let c : Folder ≡ Domain number id = some_is Folder (Domain number id) (sym rooted ∙ sym (ap class_of w.root) ∙ ap (class_in c) (sym at_root) ∙ there) in cc
+            root_no_domain at_root = let c : Folder ≡ Domain number id = same_Some Folder (Domain number id) (sym rooted ∙ sym (ap class_of w.root) ∙ ap (class_in c) (sym at_root) ∙ there) in cc
 
       -- ---- its number
 
@@ -296,7 +297,7 @@ module _ (held : Held) (rest : List Record) (e : Record) (c : Contents) (roots :
             ∙ sym (ap (λ n. n + one_without (get after (node_key root_path))) more ∙ ap (λ o. (count_nodes w.front + 1) + one_without o) (else_same root_path (λ same. other (sym (key_path root_path path (same ∙ sym key)))) ∙ root_there.1) ∙ last) where
               one_longer : (o : Option Node) → o ≡ None → cond (is_some o) (len c.nodes) (len c.nodes + 1) ≡ len c.nodes + 1
               one_longer None e = refl
-              one_longer (Some x) e = absurd (none_some x (sym e))
+              one_longer (Some x) e = absurd (none-some x (sym e))
 
               last : (count_nodes w.front + 1) + 0 ≡ len c.nodes + 1
               last = omega (arith, counted_all)
@@ -305,7 +306,7 @@ module _ (held : Held) (rest : List Record) (e : Record) (c : Contents) (roots :
         roots_more class is with = record { there = there class is with; all = all class is with } where
           found : (number : ℕ) → IsSome (get roots (number_id number)) → (q : List ℕ) × (id : Id) × IsDomainAt c' q number id
           found number some = let at = w.numbers.there number some in
-              (at.0, at.1, ap class_of (got_else at.0 (λ same. none_some (Domain number at.1) (sym (ap class_of absent) ∙ ap (class_in c) (sym same) ∙ at.2))) ∙ at.2)
+              (at.0, at.1, ap class_of (got_else at.0 (λ same. none-some (Domain number at.1) (sym (ap class_of absent) ∙ ap (class_in c) (sym same) ∙ at.2))) ∙ at.2)
 
           own : class_in c' path ≡ Some class
           own = ap class_of (got path ∙ ap (λ b. cond b (Some p.node) (get c.nodes path)) (by_bool (eq_by_cmp text_order path path) (eq_by_cmp text_order path path ≡ true) (λ y. y) (λ n. absurd (differ path path n refl)))) ∙ ap (λ x. Some x) is
@@ -324,8 +325,8 @@ module _ (held : Held) (rest : List Record) (e : Record) (c : Contents) (roots :
                 own_class class is q same = ap class_of (got q ∙ ap (λ b. cond b (Some p.node) (get c.nodes q)) same) ∙ ap (λ x. Some x) is
 
                 new : (class : NodeClass) → roots' ≡ with_root roots class → Some class ≡ Some (Domain number id) → IsSome (get roots' (number_id number))
-                new Folder with e = let c : Folder ≡ Domain number id = some_is Folder (Domain number id) e in cc
-                new (Domain n i) with e = subst (λ (o : Option Id). IsSome o) (sym (ap (λ (m : Roots). get m (number_id number)) with ∙ get-insert id_order_total roots (number_id n) i (number_id number) ∙ ap (λ b. cond b (Some i) (get roots (number_id number))) (ap (λ m. eq_by_cmp id_order (number_id m) (number_id n)) (sym (same_own n i number id (some_is (Domain n i) (Domain number id) e))) ∙ itself (number_id n)))) refl
+                new Folder with e = let c : Folder ≡ Domain number id = same_Some Folder (Domain number id) e in cc
+                new (Domain n i) with e = subst (λ (o : Option Id). IsSome o) (sym (ap (λ (m : Roots). get m (number_id number)) with ∙ get-insert id_order_total roots (number_id n) i (number_id number) ∙ ap (λ b. cond b (Some i) (get roots (number_id number))) (ap (λ m. eq_by_cmp id_order (number_id m) (number_id n)) (sym (same_own n i number id (same_Some (Domain n i) (Domain number id) e))) ∙ itself (number_id n)))) refl
 
                 old : (class : NodeClass) → roots' ≡ with_root roots class → IsSome (get roots (number_id number)) → IsSome (get roots' (number_id number))
                 old Folder with some = subst (λ (m : Roots). IsSome (get m (number_id number))) (sym with) some
@@ -345,11 +346,11 @@ module _ (held : Held) (rest : List Record) (e : Record) (c : Contents) (roots :
       -- ---- it isn't put
 
       pub no_put : NoPut run next path e.1 c roots → IsNodeRecord held path e.1 → ⊥
-      no_put (no_node none) r = none_some r.node (sym none ∙ r.reads)
+      no_put (no_node none) r = none-some r.node (sym none ∙ r.reads)
       no_put (no_place never) r = never (record {
         empty = absent;
         parent = class_before (parent_of path) parent_low ∙ r.parent;
         room = subst (λ (n : ℕ). n < most_nodes) (sym counted_all) (r.room w.front rest (w.split ∙ ap (λ k. w.front ++ (k, e.1) ∷ rest) (sym key)));
       })
       no_put (no_number node reads isnt) r =
-          contrary (may_stand run next roots node.class) ⊥ (free_number node.class (subst (λ (n : Node). KeepsNumber held path n.class) (some_is r.node node (sym r.reads ∙ reads)) r.number)) isnt
+          contrary (may_stand run next roots node.class) ⊥ (free_number node.class (subst (λ (n : Node). KeepsNumber held path n.class) (same_Some r.node node (sym r.reads ∙ reads)) r.number)) isnt

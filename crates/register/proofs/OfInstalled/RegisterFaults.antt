@@ -4,6 +4,7 @@ use Rattle.std.proofs.lemmas.Bool.{cases_eq, cases_lt}
 use Rattle.std.specs.Cmp.Lexicographic.{nat_list_cmp_total}
 use Rattle.std.specs.FinMap.{get}
 use Rattle.std.specs.Ordering.{is_lt, ordering_reverse, ordering_then}
+use Rattle.std.proofs.lemmas.Option.{none-some}
 use Rattle.containers.proofs.TextMaps.KeyedMaps.{exact_texts}
 use Rattle.containers.specs.TextMaps.Keyed.{text_order}
 use Rattle.containers.specs.TextMaps.Nexts.{IsNext}
@@ -20,7 +21,7 @@ use Rattle.object_records.specs.InstallFaults.{MatchFault}
 use Rattle.containers.specs.TextMaps.Fronts.{IsLeast, held_by}
 use Rattle.object_records.specs.declared.install_fault.InstallFault.{InstallFault}
 use Rattle.object_records.specs.declared.install_fault.InstallFault.TheVariants.{BadRecord, NoMemory}
-use Rattle.containers.proofs.TextMaps.Fronts.{held_before, held_here, none_some}
+use Rattle.containers.proofs.TextMaps.Fronts.{held_before, held_here}
 use Rattle.register.specs.Installed.Registers.{IsNextNumber, IsNodeRecord, IsRegisterFault, IsRun, bad_node, class_at, no_next, no_root, no_run}
 use Rattle.register.specs.Installed.Walks.{Blames, IsBadNode, IsFirst, IsNodeWalk, Names, Roots}
 use Rattle.register.proofs.OfInstalled.NodeKeys.{never_less, root_first}
@@ -30,7 +31,7 @@ abbrev Least : Held → List ℕ → Type 0
 Least held key = IsLeast (IsRegisterFault held) key
 
 not_rootless : (held : Held) → IsRooted held → get held (node_key root_path) ≡ None → ⊥
-not_rootless held rooted none = none_some Folder (sym (ap (λ o. option_map (λ node. node.class) (option_and_then node_of_body o)) none) ∙ rooted)
+not_rootless held rooted none = none-some Folder (sym (ap (λ o. option_map (λ node. node.class) (option_and_then node_of_body o)) none) ∙ rooted)
 
 pub named : (held : Held) (key : List ℕ) (f : NodeFault) (fault : InstallFault) → Names key f fault → Blames f (Least held key) → MatchFault fault (IsLeast (IsRegisterFault held))
 named held key of_nodes.BadNode (BadRecord k) names least = subst (λ (q : List ℕ). Least held q) (sym names) least
@@ -42,7 +43,7 @@ not_low : (a b : List ℕ) → text_order a b ≡ Greater → text_order a b ≡
 not_low a b high low = let c : Greater ≡ Less = sym high ∙ low in cc
 
 lacks : (held : Held) (q body : List ℕ) → get held q ≡ None → get held q ≡ Some body → ⊥
-lacks held q body none there = none_some body (sym none ∙ there)
+lacks held q body none there = none-some body (sym none ∙ there)
 
 -- ---- no run
 

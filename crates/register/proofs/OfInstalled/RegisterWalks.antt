@@ -6,6 +6,7 @@ use Rattle.std.proofs.lemmas.Bool.{and_parts, eqb-true}
 use Rattle.std.specs.Cmp.Lexicographic.{nat_list_cmp_total}
 use Rattle.std.specs.FinMap.{empty, get, get-empty, get-insert, insert, len, len-empty, len-insert}
 use Rattle.std.specs.Ordering.{eq_by_cmp}
+use Rattle.std.proofs.lemmas.Option.{none-some, same_Some}
 use Rattle.containers.specs.TextMaps.Keyed.{text_order}
 use Rattle.flush_journal.specs.Records.{Held, Record}
 use Rattle.object_ids.specs.IdValues.{Id}
@@ -18,7 +19,7 @@ use Rattle.object_records.specs.Keys.Keys.{node_key}
 use Rattle.domains.specs.Records.Nodes.{node_of_body}
 use Rattle.domains.specs.declared.records.faults.NodeFault.{NodeFault}
 use Rattle.domains.specs.declared.records.faults.NodeFault.TheVariants as of_nodes
-use Rattle.containers.proofs.TextMaps.Fronts.{all_held, differ, none_some, same_key, some_is, unlike}
+use Rattle.containers.proofs.TextMaps.Fronts.{all_held, differ, same_key, unlike}
 use Rattle.containers.proofs.Passing.{by_bool, contrary}
 use Rattle.register.specs.Installed.Registers.{DescribesRegister, IsNextNumber, IsNodeRecord, IsRun, KeepsNumber, class_at, is_node_key, node_at}
 use Rattle.register.specs.Installed.Walks.{AreRoots, Blames, IsNodeWalk, PutsNode, Roots, is_given, may_stand, number_id, with_root}
@@ -53,7 +54,7 @@ module _ (c c' : Contents) (x root : Node) (path : List ℕ) (begins : c ≡ onl
   one_alone = ap (λ (d : Contents). len d.nodes) begins ∙ len-insert nat_list_cmp_total empty root_path x ∙ at (get empty root_path) (get-empty text_order root_path) where
     at : (o : Option Node) → o ≡ None → cond (is_some o) (len {R = text_order} (empty {X = Node})) (len {R = text_order} (empty {X = Node}) + 1) ≡ 1
     at None e = ap (λ n. n + 1) (len-empty text_order Node)
-    at (Some y) e = absurd (none_some y (sym e))
+    at (Some y) e = absurd (none-some y (sym e))
 
   module _ (is_root : path ≡ root_path) (put : c' ≡ with_node c path root) where
     got : (q : List ℕ) → get c'.nodes q ≡ cond (eq_by_cmp text_order q root_path) (Some root) (get c.nodes q)
@@ -73,7 +74,7 @@ module _ (c c' : Contents) (x root : Node) (path : List ℕ) (begins : c ≡ onl
     begun_one = ap (λ (d : Contents). len d.nodes) (put ∙ ap (λ p. with_node c p root) is_root) ∙ len-insert nat_list_cmp_total c.nodes root_path root
         ∙ at (get c.nodes root_path) (alone root_path ∙ ap (λ b. cond b (Some x) None) self_root) where
           at : (o : Option Node) → o ≡ Some x → cond (is_some o) (len c.nodes) (len c.nodes + 1) ≡ 1
-          at None e = absurd (none_some x e)
+          at None e = absurd (none-some x e)
           at (Some y) e = one_alone
 
 -- ---- a node
@@ -99,7 +100,7 @@ puts run next path p body c roots c' roots' node canonical spelled reads place s
   root = root;
 } where
   same : p ≡ path
-  same = some_is p path (sym spelled ∙ canonical)
+  same = same_Some p path (sym spelled ∙ canonical)
 
 -- ---- the end
 
@@ -117,7 +118,7 @@ given_number held c next is_next nodes rules path number id there =
     let told = node_of_class (node_at held path) (Domain number id) (sym (ap class_of (nodes path)) ∙ there) in
     let body = body_of_node (get held (node_key path)) told.0 told.1 in
     let r = rules path body.0 body.1 in
-    let same : r.node ≡ told.0 = some_is r.node told.0 (sym r.reads ∙ body.2) in
+    let same : r.node ≡ told.0 = same_Some r.node told.0 (sym r.reads ∙ body.2) in
     (subst (λ (class : NodeClass). KeepsNumber held path class) (ap (λ (n : Node). n.class) same ∙ told.2) r.number).given next is_next
 
 pub described : (held : Held) (run next : ℕ) (c c' : Contents) → IsRun held run → IsNextNumber held next → ((path : List ℕ) → get c.nodes path ≡ node_at held path) → IsRooted held

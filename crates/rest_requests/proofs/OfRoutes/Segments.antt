@@ -4,7 +4,7 @@ use Rattle.std.specs.Prelude.{cond, if◌then◌else◌, ltb, nat_eq}
 use Rattle.std.specs.List.{list_all}
 use Rattle.std.specs.Cmp.Lexicographic.{pointwise}
 use Rattle.std.specs.Str.{bytes_eq}
-use Rattle.std.proofs.lemmas.Bool.{and_parts}
+use Rattle.std.proofs.lemmas.Bool.{and_parts, not-true}
 use Rattle.std.proofs.lemmas.Bool.Decides.{nat_tests}
 use Rattle.std.proofs.Math.Bool.{and-false}
 use Rattle.std.proofs.lemmas.List.{drop_at, length-append}
@@ -34,10 +34,6 @@ has_good_words (param n ∷ ps) = has_good_words ps
 flip_eq : (a b : ℕ) → (a == b) ≡ false → (b == a) ≡ false
 flip_eq a b e = grind (arith, nat_tests)
 
-not_true : (a : Bool) → not a ≡ true → a ≡ false
-not_true true e = let bad : false ≡ true = e in cc
-not_true false e = refl
-
 append_nil : {X : Type 0} (xs : List X) → xs ++ [] ≡ xs
 append_nil [] = refl
 append_nil (x ∷ xs) = ap (λ l. x ∷ l) (append_nil xs)
@@ -51,7 +47,7 @@ part_byte : (b : ℕ) → is_part_byte b ≡ true → IsPartByte b
 part_byte b e =
     let h = and_parts (not (b == 47)) (not (b == 256) && not (b == 257)) e in
     let k = and_parts (not (b == 256)) (not (b == 257)) h.1 in
-    record { no_slash = not_true _ h.0; no_param = not_true _ k.0; no_rest = not_true _ k.1 }
+    record { no_slash = not-true _ h.0; no_param = not-true _ k.0; no_rest = not-true _ k.1 }
 
 part_cons : (b : ℕ) (s : Text) → is_part (b ∷ s) ≡ true → IsPartByte b × (is_part s ≡ true)
 part_cons b s e = let h = and_parts (is_part_byte b) (is_part s) e in (part_byte b h.0, h.1)

@@ -4,6 +4,7 @@ use Rattle.std.specs.Cmp.{Equal-is}
 use Rattle.std.specs.FinMap.{entries, find, get, get-entries}
 use Rattle.std.specs.List.{AllByRecursion}
 use Rattle.std.specs.Ordering.{eq_by_cmp}
+use Rattle.std.proofs.lemmas.Option.{none-some, same_Some}
 use Rattle.containers.specs.TextMaps.Nexts.{IsKeyStep, left}
 use Rattle.object_ids.specs.IdOrder.{id_order}
 use Rattle.object_ids.specs.IdValues.{Id}
@@ -16,7 +17,6 @@ use Rattle.object_acts.specs.declared.objects.Object.{Object}
 use Rattle.object_records.specs.Objects.{IsKeptBody}
 use Rattle.containers.proofs.Passing.{by_bool}
 use Rattle.chunk_owner.specs.Installs.Records.{IsWholeObject}
-use Rattle.containers.proofs.TextMaps.Fronts.{none_some, some_is}
 use Rattle.chunk_owner.proofs.OfInstalls.Walking.{unmarked_once}
 use Rattle.chunk_owner.specs.Lanes.{Objects}
 use Rattle.service_core.specs.Described.Told.{AreWhole}
@@ -63,10 +63,10 @@ module _ (m : Objects) (last : Option Id) (before : AreWholeTo m last) where
     all = before (subst AreFine (sym step) tt)
 
     found : (q : Id) (o : Object) (es : List (Id × Object)) → AreFine es → find id_order q es ≡ Some o → IsFine (q, o)
-    found q o [] fine is = absurd (none_some o is)
+    found q o [] fine is = absurd (none-some o is)
     found q o (e ∷ es) fine is = by_bool (eq_by_cmp id_order q e.0) (IsFine (q, o))
         (λ same.
-        let value : e.1 ≡ o = some_is e.1 o (sym (ap (λ b. cond b (Some e.1) (find id_order q es)) same) ∙ is) in
+        let value : e.1 ≡ o = same_Some e.1 o (sym (ap (λ b. cond b (Some e.1) (find id_order q es)) same) ∙ is) in
         (subst InRange (sym (id_order_once q e.0 ((Equal-is (id_order q e.0)).0 same))) fine.0.0, subst (λ (x : Object). IsWholeObject (Some x)) value fine.0.1))
         (λ other. found q o es fine.1 (sym (ap (λ b. cond b (Some e.1) (find id_order q es)) other) ∙ is))
 

@@ -4,12 +4,13 @@ use Rattle.std.specs.List.{AllByRecursion}
 use Rattle.std.specs.FinMap.{entries, find, get, get-from_entries}
 use Rattle.std.specs.Cmp.Lexicographic.{nat_list_cmp_total}
 use Rattle.std.specs.Ordering.{eq_by_cmp}
+use Rattle.std.proofs.lemmas.Option.{none-some}
 use Rattle.containers.specs.TextMaps.Keyed.{text_order}
 use Rattle.flush_journal.specs.Records.{Held, Record}
 use Rattle.object_records.specs.Keys.Keys.{IsSubject, Subject, key_of, node_key}
 use Rattle.object_records.specs.Keys.Keys.{the_run, node, object, chunk, next_number}
 use Rattle.containers.specs.TextMaps.Fronts.{IsLeast, held_by}
-use Rattle.containers.proofs.TextMaps.Fronts.{all_held, held_before, held_here, none_some, same_key, split_more}
+use Rattle.containers.proofs.TextMaps.Fronts.{all_held, held_before, held_here, same_key, split_more}
 use Rattle.register.specs.Installed.Registers.{is_node_key}
 use Rattle.service_core.specs.Strays.Strays.{HasNoStrays, IsNumberKey, IsObjectKey, IsStray, IsStrayKey}
 
@@ -51,7 +52,7 @@ all_push [] e h r = (r, tt)
 all_push (x ∷ xs) e h r = (h.0, all_push xs e h.1 r)
 
 no_stray : (front : List Record) → AllByRecursion (λ d. IsStrayKey d.0 → ⊥) front → (q body : List ℕ) → IsStrayKey q → find text_order q front ≡ Some body → ⊥
-no_stray [] h q body s is = none_some body is
+no_stray [] h q body s is = none-some body is
 no_stray (x ∷ xs) h q body s is = at (eq_by_cmp text_order q x.0) refl is (no_stray xs h.1 q body s) where
   at : (b : Bool) → eq_by_cmp text_order q x.0 ≡ b → cond b (Some x.1) (find text_order q xs) ≡ Some body → (find text_order q xs ≡ Some body → ⊥) → ⊥
   at true t e later = h.0 (subst IsStrayKey (same_key q x.0 t) s)

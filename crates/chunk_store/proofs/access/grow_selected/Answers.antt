@@ -1,8 +1,8 @@
 use Rattle.std.proofs.Common.{subst, ◌∙◌}
+use Rattle.std.proofs.lemmas.Result.{on_ok_weaker}
 use Rattle.shapes.specs.Shapes.{dims_of}
 use Rattle.chunk_store.specs.Buffers.{AreThere}
 use Rattle.chunk_store.proofs.AccessLemmas.{some_selected}
-use Rattle.chunk_store.proofs.StretchLemmas.{on_ok}
 use Rattle.chunk_store.proofs.access.grow_selected.Goals as goal
 
 pub grow_slab-requires-clause-rank : goal.grow_slab-requires-clause-rank
@@ -12,4 +12,4 @@ grow_slab-requires-clause-rank c =
 pub returns-clause-there : goal.returns-clause-there
 returns-clause-there c =
     let some = some_selected c.args.slab.now c.args.shape.now c.requires.slab c.requires.inside (λ none. c.if-count-eq0.false (c.count.ensures.product ∙ none)) in
-    on_ok c.grow_slab.result (λ told. subst (AreThere c.grow_slab.new.chunks c.args.frame.now) some.cells (told (dims_of c.args.shape.now) some.fits)) c.grow_slab.ensures.there
+    on_ok_weaker c.grow_slab.result (λ told. subst (AreThere c.grow_slab.new.chunks c.args.frame.now) some.cells (told (dims_of c.args.shape.now) some.fits)) c.grow_slab.ensures.there

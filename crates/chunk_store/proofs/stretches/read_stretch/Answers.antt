@@ -1,8 +1,9 @@
 use Rattle.std.proofs.Common.{◌+◌, ◌++◌, ap, ◌∙◌, arith}
 use Rattle.std.proofs.lemmas.Nat.{mul-le}
+use Rattle.std.proofs.lemmas.Result.{on_ok_weaker}
 use Rattle.shapes.specs.Places.{cell_count}
 use Rattle.chunk_store.proofs.BufferLemmas.{found_full, found_in}
-use Rattle.chunk_store.proofs.StretchLemmas.{on_added, on_ok, stretch_blank, stretch_read}
+use Rattle.chunk_store.proofs.StretchLemmas.{on_added, stretch_blank, stretch_read}
 use Rattle.chunk_store.proofs.stretches.read_stretch.Goals as goal
 
 pub elements-requires-clause-full : goal.elements-requires-clause-full
@@ -22,6 +23,6 @@ returns-in-Some c =
 
 pub returns-in-None : goal.returns-in-None
 returns-in-None c =
-    on_ok c.add_blanks.result
+    on_ok_weaker c.add_blanks.result
     (λ added ats on. added ats on.many ∙ ap (λ l. c.args.out.now.items ++ l) (stretch_blank c.args.chunks.now c.args.frame.now c.args.stretch.now ats on (found_in c.args.chunks.now c.args.stretch.now.index _ c.in-None.ensures.value)))
     c.add_blanks.ensures

@@ -1,9 +1,9 @@
 use Rattle.std.proofs.Common.{◌≢◌, ℕ, ◌≤◌, sym, ap, subst, ◌∙◌}
 use Rattle.std.proofs.lemmas.Slice.Eq.{bytes_eq-Decides}
+use Rattle.std.proofs.lemmas.Result.{on_ok_weaker}
 use Rattle.object_ids.specs.Paths.{root_path}
 use Rattle.domains.specs.Contents.{most_nodes}
 use Rattle.containers.proofs.Passing.{contrary, err_map}
-use Rattle.object_ids.proofs.NamedMaps.{on_ok}
 use Rattle.register.proofs.OfInstalled.NodeWalks.{no_put, walk_put, walk_root, walk_skip}
 use Rattle.register.proofs.OfInstalled.RegisterWalks.{blames, key_of_node}
 use Rattle.register.proofs.installed.nodes.install_record.Goals as goal
@@ -25,7 +25,7 @@ returns-then-eq-clause-done c = λ held rest is_run is_next rooted w.
 pub returns-clause-done : goal.returns-clause-done
 returns-clause-done c =
     let other : c.in-Some.path.now ≢ root_path = λ same. contrary _ ⊥ (c.eq.ensures ∙ (bytes_eq-Decides c.in-Some.path.now root_path).1 same) c.if-eq.false in
-    on_ok c.install_node.result (λ p held rest is_run is_next rooted w.
+    on_ok_weaker c.install_node.result (λ p held rest is_run is_next rooted w.
     walk_put held rest (c.args.key.now, c.args.body.now) c.args.catalogue.now c.args.roots.now w c.in-Some.path.now c.in-Some.ensures.0 c.in-Some.ensures.1 c.args.run c.args.next rooted is_run is_next other
     c.install_node.new.catalogue c.install_node.new.roots p) c.install_node.ensures.ok
 
