@@ -6,12 +6,12 @@ use Rattle.std.specs.FinMap.{entries, entries_sorted, find, from_entries, get as
 use Rattle.std.specs.FinMap.Entries.{below_all}
 use Rattle.containers.specs.TextMaps.Keyed.{text_order}
 use Rattle.containers.proofs.TextMaps.KeyedMaps.{exact_texts}
-use Rattle.containers.proofs.TextMaps.Walks.{halves, less}
 use Rattle.serde_json.specs.Data.{Data, no_members, member, put}
 use Rattle.serde_json.specs.Find.{get, get_member}
 use Rattle.access_lists.specs.declared.rights.Rights.{Rights}
 use Rattle.access_lists.specs.EntryTrees.{entry_in, entry_members, entry_tree, entries_in, list_in, list_tree, put_all}
 use Rattle.access_lists.specs.InForce.{Entries}
+use Rattle.containers.proofs.Plain.{halves, less}
 
 abbrev Row : Type 0
 Row = List ℕ × Rights

@@ -1,16 +1,13 @@
 -- What some entries give, and one entry more.
-use Rattle.std.proofs.Common.{◌≡◌, List, [], ◌∷◌, ◌++◌, Bool, true, false, ◌||◌, Option, Some, None, filter_map, option_map, refl, ap, ◌∙◌, append-nil}
+use Rattle.std.proofs.Common.{◌≡◌, List, [], ◌∷◌, ◌++◌, ◌||◌, Option, Some, None, filter_map, option_map, ap, ◌∙◌, append-nil}
 use Rattle.std.specs.List.{list_any, cons_option}
 use Rattle.std.proofs.lemmas.List.Folds.{list_any-append}
 use Rattle.std.proofs.lemmas.List.Elements.{filter_map-append}
+use Rattle.std.proofs.Math.Bool.{or-false}
 use Rattle.access_lists.specs.declared.right.Right.{Right}
 use Rattle.access_lists.specs.declared.rights.Rights.{Rights}
 use Rattle.access_lists.specs.RightWords.{holds}
 use Rattle.access_lists.specs.InForce.{union_holds, joined}
-
-or-false : (b : Bool) → (b || false) ≡ b
-or-false true = refl
-or-false false = refl
 
 union-one : (right : Right) (es : List Rights) (entry : Option Rights)
     → union_holds right (es ++ cons_option entry []) ≡ joined (option_map (holds right) entry) (union_holds right es)

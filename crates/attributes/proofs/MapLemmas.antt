@@ -8,7 +8,8 @@ use Rattle.std.specs.FinMap.{FinMap, empty, entries, entries_sorted, find, get, 
 use Rattle.std.proofs.lemmas.Cmp.{tied_itself}
 use Rattle.containers.specs.TextMaps.Keyed.{text_order}
 use Rattle.containers.proofs.TextMaps.KeyedMaps.{exact_texts}
-use Rattle.containers.proofs.TextMaps.Walks.{found_above, halves}
+use Rattle.containers.proofs.TextMaps.Walks.{found_above}
+use Rattle.containers.proofs.Plain.{halves}
 
 module _ {X : Type 0} (P : List ℕ → X → Type 0) where
   abbrev pub Each : FinMap text_order X → Type 0

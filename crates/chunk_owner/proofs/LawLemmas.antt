@@ -1,8 +1,8 @@
 -- The laws of all steps.
-use Rattle.std.proofs.Common.{◌≡◌, ◌<◌, ◌⊎◌, inl, inr, ⊎_elim, Bool, true, false, ◌&&◌, ◌||◌, ◌==◌, nat_lt, cond, Option, Some, None, sym, ap, refl, ◌∙◌, eq-eqb, ne_eqb, eqb-true, lt-ltb, ltb-true}
+use Rattle.std.proofs.Common.{◌≡◌, ◌<◌, ◌⊎◌, inl, inr, ⊎_elim, Bool, true, false, ◌&&◌, ◌==◌, nat_lt, cond, Option, Some, None, sym, ap, refl, ◌∙◌, eq-eqb, ne_eqb, eqb-true, lt-ltb, ltb-true}
 use Rattle.std.specs.Ordering.{eq_by_cmp}
 use Rattle.std.specs.FinMap.{get, get-insert, get-remove}
-use Rattle.std.proofs.lemmas.Bool.{or_right, and_from, or_left, and_parts}
+use Rattle.std.proofs.lemmas.Bool.{or_right, and_from, or_left, and_parts, or_cases}
 use Rattle.object_ids.specs.IdOrder.{id_order}
 use Rattle.object_ids.specs.IdValues.{Id}
 use Rattle.object_ids.proofs.IdOrders.{id_order_total}
@@ -16,10 +16,7 @@ use Rattle.chunk_owner.specs.Acts.{is_used, missing, act, on_touched, read_by, c
 use Rattle.chunk_owner.specs.Laws.{GoneWhereGiven, NoObjectElsewhere, OthersAreHidden, OthersStay, WasGiven}
 use Rattle.chunk_owner.proofs.AtIds.{seen_foreign}
 use Rattle.chunk_owner.proofs.Eaches.{same_id}
-
-either_true : (a b : Bool) → (a || b) ≡ true → (a ≡ true) ⊎ (b ≡ true)
-either_true true b e = inl refl
-either_true false b e = inr e
+use Rattle.containers.proofs.Plain.{passed_over}
 
 is_gone : (b : Bool) (id : Id) → cond b (Gone id) (NoObject id) ≡ Gone id → b ≡ true
 is_gone true id e = refl
@@ -29,7 +26,7 @@ used_given : (g : Grant) (id : Id) → is_used g id ≡ true → (id.run < g.run
 used_given g id e = ⊎_elim
     (λ (r : nat_lt id.run g.run ≡ true). inl (ltb-true id.run g.run r))
     (λ (s : (id.run == g.run && nat_lt id.serial g.serial) ≡ true). let p = and_parts (id.run == g.run) (nat_lt id.serial g.serial) s in inr (eqb-true id.run g.run p.0, ltb-true id.serial g.serial p.1))
-    (either_true (nat_lt id.run g.run) (id.run == g.run && nat_lt id.serial g.serial) e)
+    (or_cases (nat_lt id.run g.run) (id.run == g.run && nat_lt id.serial g.serial) e)
 
 given_used : (g : Grant) (id : Id) → ((id.run < g.run) ⊎ ((id.run ≡ g.run) × (id.serial < g.serial))) → is_used g id ≡ true
 given_used g id h = ⊎_elim
@@ -60,10 +57,6 @@ others_are_hidden g id o f h other =
     let none = seen_foreign g id o (ne_eqb id.domain g.number other) in
     let said = no_object_elsewhere g id (λ w. other w.0) in
     (λ i. ((ap (read_by f (missing g id)) none ∙ ap Refused said) i, o), ap (changed_by h (missing g id) o) none ∙ (λ i. (Refused (said i), o)))
-
-passed_over : (b : Bool) (v w : Option Object) → (b ≡ true → ⊥) → cond b v w ≡ w
-passed_over true v w never = absurd (never refl)
-passed_over false v w never = refl
 
 set_other : (m : Objects) (at : Id) (o : Option Object) (id : Id) → (at ≡ id → ⊥) → get (set_at m at o) id ≡ get m id
 set_other m at None id other = get-remove id_order_total m at id ∙ passed_over (eq_by_cmp id_order id at) None (get m id) (λ e. other (sym (same_id id at e)))

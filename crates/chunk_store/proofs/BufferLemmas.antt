@@ -17,7 +17,8 @@ use Rattle.chunk_store.specs.Buffers.{AreFull, IsFrame, IsFull, bytes_at, chunk_
 use Rattle.chunk_store.specs.declared.buffers.Frame.{Frame}
 use Rattle.chunk_store.specs.declared.buffers.Held.{Held}
 use Rattle.chunk_store.proofs.MarkLemmas.{note_new}
-use Rattle.chunk_store.proofs.KeyLemmas.{find-get, none_from, put_cases, put_here, put_through}
+use Rattle.chunk_store.proofs.KeyLemmas.{find-get, put_cases, put_here, put_through}
+use Rattle.containers.proofs.Plain.{none_of}
 
 abbrev pub Chunks : Type 0
 Chunks = BTreeMap (List ℕ) Held
@@ -100,12 +101,12 @@ module _ (m n : Chunks) (k : List ℕ) (h : Held) (each : (i : List ℕ) → fin
       → (q : List ℕ) → length q ≡ length f.layout.chunk → bytes_at n f q ≡ bytes_at m f q
   added_bytes f frame none blanks q rank =
       let blank = λ (e : quotients q f.layout.chunk ≡ k). (put_bytes f q e ∙ blanks (offset_of q f.layout.chunk) (offset_below q f.layout.chunk frame.chunk.dims rank)
-      ∙ sym (found_bytes m f q k None (sym e) (none_from (find_in m k) none))) in
+      ∙ sym (found_bytes m f q k None (sym e) (none_of (find_in m k) none))) in
       same_or (quotients q f.layout.chunk) k (bytes_at n f q ≡ bytes_at m f q) blank (kept_bytes f q)
 
   pub added_flag : has m k ≡ false → h.dirty ≡ false → (i : List ℕ) → (flag_at n i ≡ flag_at m i) ⊎ ((k ≡ i) × (flag_at m i ≡ None) × (flag_at n i ≡ Some false))
   added_flag none clean i =
-      let gone : flag_at m k ≡ None = ap (option_map (λ g. g.dirty)) (none_from (find_in m k) none) in
+      let gone : flag_at m k ≡ None = ap (option_map (λ g. g.dirty)) (none_of (find_in m k) none) in
       note_new (flag_at m) (flag_at n) k gone (λ j. put_flag j ∙ ap (λ b. put (flag_at m) k (Some b) j) clean) i
 
 -- ---- the same chunks

@@ -1,5 +1,5 @@
 -- Chunks of an array, and the map that keeps its cells.
-use Rattle.std.proofs.Common.{◌≡◌, ℕ, zero, suc, ◌+◌, ◌*◌, ◌-◌, ◌/◌, ◌%◌, mod-lt, suc-mul, mul_comm, ◌<◌, ◌≤◌, ◌&&◌, ◌↔◌, Bool, IsTrue, true, false, cond, nat_eq, nat_lt, bytes_eq, eqb-true, eq-eqb, List, [], ◌∷◌, length, drop, get_or, All, Option, Result, Ok, Err, IfOk, not, refl, sym, ap, subst, ◌∙◌, ◌⊎◌, inl, inr, arith}
+use Rattle.std.proofs.Common.{◌≡◌, ℕ, zero, suc, ◌+◌, ◌*◌, ◌-◌, ◌/◌, ◌%◌, mod-lt, suc-mul, mul_comm, ◌<◌, ◌≤◌, ◌&&◌, ◌↔◌, Bool, IsTrue, true, false, cond, nat_eq, nat_lt, bytes_eq, eqb-true, eq-eqb, List, [], ◌∷◌, length, drop, get_or, All, Option, Result, Ok, Err, IfOk, refl, sym, ap, subst, ◌∙◌, ◌⊎◌, inl, inr, arith}
 use Rattle.std.specs.List.{flat_map}
 use Rattle.std.specs.BTreeMap.{BTreeMap}
 use Rattle.std.specs.Cmp.{both_ways}
@@ -44,8 +44,6 @@ use Rattle.chunk_store.proofs.InstallLemmas.{cell_there}
 
 abbrev Cells : Type 0
 Cells = BTreeMap (List ℕ) (Vec ℕ Global)
-
--- ---- the number of a chunk's cells
 
 -- ---- which chunks there are
 
@@ -320,10 +318,6 @@ chunk_test h w i bytes b r same g enc test =
     )
 
 -- ---- at what the code has found
-
-pub not_false : (b : Bool) → not b ≡ false → b ≡ true
-not_false true h = refl
-not_false false h = absurd (let both : true ≡ false = h in cc)
 
 pub kept_ok : {E : Type 0} {xs ys : List ℕ} (r : Result (Vec ℕ Global) E) → xs ≡ ys → IfOk r (λ v. v.items ≡ xs) → IfOk r (λ v. v.items ≡ ys)
 kept_ok (Ok v) same h = h ∙ same

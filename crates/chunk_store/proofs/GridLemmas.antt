@@ -1,5 +1,5 @@
 -- Arrays as functions of the cell.
-use Rattle.std.proofs.Common.{◌≡◌, ℕ, ◌<◌, List, [], ◌∷◌, ◌++◌, map, length, Option, Result, Ok, Err, OnErr, refl, ap, ◌∙◌}
+use Rattle.std.proofs.Common.{◌≡◌, ℕ, ◌<◌, List, [], ◌∷◌, ◌++◌, map, length, Option, refl, ap, ◌∙◌}
 use Rattle.std.specs.List.{AllByRecursion, flat_map}
 use Rattle.std.proofs.lemmas.List.{get_or-map}
 use Rattle.hdf_types.specs.Elems.{Elem}
@@ -27,7 +27,3 @@ reads_same P f g h (x ∷ xs) each = ap (λ y. y ++ flat_map f xs) (h x each.0) 
 -- two functions that agree on the cells give one array
 pub tabulated_same : (e : Elem) (s : Shape) (c : List ℕ) (fill : Option (List ℕ)) (f g : List ℕ → List ℕ) → ((at : List ℕ) → LiesIn at s → f at ≡ g at) → tabulated e s c fill f ≡ tabulated e s c fill g
 tabulated_same e s c fill f g h = ap (λ vs. record { kind = e; shape = s; chunk = c; fill = fill; values = vs }) (map_same (λ at. LiesIn at s) f g h (cells_of s) (cells_inside s))
-
-pub on_err : {T E P : Type 0} (r : Result T E) → P → OnErr r P
-on_err (Ok x) p = tt
-on_err (Err e) p = p

@@ -12,6 +12,7 @@ use Rattle.std.proofs.lemmas.Bool.{cases_Bool}
 use Rattle.containers.specs.ShortLists.Order.{list_order}
 use Rattle.containers.specs.ShortLists.OrderLaws.{equal_where_tied}
 use Rattle.chunk_store.specs.Cells.{find_in, value_in, has, put}
+use Rattle.containers.proofs.Plain.{none_of}
 
 -- the order of keys ties equal lists alone
 pub agree : (x y : List ℕ) → is_eq (list_order x y) ≡ bytes_eq x y
@@ -54,10 +55,6 @@ put_same f k v e q = elim (put_cases f k v q) [
   | inr other ↦ other
 ]
 
-pub none_from : {A : Type 0} (o : Option A) → is_some o ≡ false → o ≡ None
-none_from None h = refl
-none_from (Some x) h = absurd (let e : true ≡ false = h in cc)
-
 pub some_from : {A : Type 0} (o : Option A) (x : A) → o ≡ Some x → is_some o ≡ true
 some_from o x e = ap is_some e
 
@@ -67,7 +64,7 @@ module _ (m n : BTreeMap (List ℕ) (Vec ℕ Global)) (k : List ℕ) (v : Vec �
   pub added_same : (blank : List ℕ) → v.items ≡ blank → has m k ≡ false → (q : List ℕ) → value_in n blank q ≡ value_in m blank q
   added_same blank e none q =
       let items = λ (o : Option (Vec ℕ Global)). option_map_or (λ w. w.items) o blank in
-      ap items (h q) ∙ put_through items (find_in m) k (Some v) q ∙ put_same (λ p. items (find_in m p)) k v.items (ap items (none_from (find_in m k) none) ∙ sym e) q
+      ap items (h q) ∙ put_through items (find_in m) k (Some v) q ∙ put_same (λ p. items (find_in m p)) k v.items (ap items (none_of (find_in m k) none) ∙ sym e) q
 
   pub added_there : has n k ≡ true
   added_there = ap is_some (h k ∙ put_here (find_in m) k (Some v))

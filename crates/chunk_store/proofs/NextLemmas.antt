@@ -2,7 +2,7 @@
 use Rattle.std.proofs.Common.{◌≡◌, ◌≢◌, ℕ, ◌||◌, Bool, true, false, cond, length, IsSome, IfSome, bytes_eq, List, [], ◌∷◌, Option, Some, None, Ordering, Less, Equal, Greater, nat_cmp, is_eq, refl, sym, ap, subst, ◌∙◌, ◌⊎◌, inl, inr}
 use Rattle.std.specs.List.{list_any}
 use Rattle.std.specs.Cmp.Lexicographic.{slice_cmp}
-use Rattle.std.proofs.lemmas.Bool.{cases_Bool, or_right, or_left, and_parts}
+use Rattle.std.proofs.lemmas.Bool.{cases_Bool, or_right, or_left, and_parts, false_from_ne_true}
 use Rattle.std.proofs.lemmas.Map.Text.{is_eq-slice_cmp}
 use Rattle.std.proofs.lemmas.Slice.Eq.{bytes_eq-Decides}
 use Rattle.std.specs.List.{AllByRecursion, filter}
@@ -18,6 +18,7 @@ use Rattle.chunk_store.specs.Cells.{put}
 use Rattle.chunk_store.specs.Grids.{Grid}
 use Rattle.chunk_store.specs.Indexes.{IsIndex}
 use Rattle.chunk_store.specs.Marks.{Stored, state, is_dirty, body_of, cut, AreIndexes, ComesAfter, IsNext, Covers, recorded, first_key, is_after, is_later}
+use Rattle.containers.proofs.Passing.{lt_less}
 
 by_order : (i j : List ℕ) (o : Ordering) → slice_cmp nat_cmp i j ≡ o → (o ≡ Greater → ⊥) → (bytes_eq i j ≡ true) ⊎ (slice_cmp nat_cmp i j ≡ Less)
 by_order i j Less e h = inr e
@@ -75,14 +76,9 @@ recorded_cut kept s is all q = recorded_is kept s.grid is q ∙ ap (λ b. cond b
 
 -- ---- the first chunk of the map that is meant
 
-less_from : (o : Ordering) → is_lt o ≡ true → o ≡ Less
-less_from Less h = refl
-less_from Equal h = absurd (let both : false ≡ true = h in cc)
-less_from Greater h = absurd (let both : false ≡ true = h in cc)
-
 after_told : (after : Option (List ℕ)) (i : List ℕ) → is_after after i ≡ true → ComesAfter after i
 after_told None i h = tt
-after_told (Some a) i h = less_from (slice_cmp nat_cmp a i) h
+after_told (Some a) i h = lt_less (slice_cmp nat_cmp a i) h
 
 pub after_read : (after : Option (List ℕ)) (i : List ℕ) → ComesAfter after i → is_after after i ≡ true
 after_read None i h = refl
@@ -99,10 +95,6 @@ less_apart i j h = elim (cases_Bool (bytes_eq j i)) [
   | inl y ↦ absurd (let both : false ≡ true = sym (ap is_eq h) ∙ ap is_eq (same_tied i j (sym ((bytes_eq-Decides j i).0 y))) in cc)
   | inr n ↦ n
 ]
-
-is_false : (b : Bool) → (b ≡ true → ⊥) → b ≡ false
-is_false true h = absurd (h refl)
-is_false false h = refl
 
 -- lists of one length are ordered by their numbers alone
 pub same_order : (i j : List ℕ) → length i ≡ length j → list_order i j ≡ slice_cmp nat_cmp i j
@@ -153,7 +145,7 @@ module _ (test : Option Bool → Bool) (none : test None ≡ false) where
 
   first_behind : (e : List ℕ × Bool) (es : List (List ℕ × Bool)) (after : Option (List ℕ)) → AllByRecursion (λ k. list_order e.0 k ≡ Less) (keys_of es) → (r : Option (List ℕ)) → is_later test after e ≡ false → IsFirstLater es after r → IsFirstLater (e ∷ es) after r
   first_behind e es after low None h on = λ i later. elim (cases_Bool (bytes_eq i e.0)) [
-    | inl same ↦ told_here e es i same ∙ is_false (test (Some e.1)) (not_here e after i h later same)
+    | inl same ↦ told_here e es i same ∙ false_from_ne_true (test (Some e.1)) (not_here e after i h later same)
     | inr other ↦ told_behind e es i other ∙ on i later
   ]
   first_behind e es after low (Some i) h on =

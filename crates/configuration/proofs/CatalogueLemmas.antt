@@ -1,5 +1,5 @@
 -- Configured folders and domains that make a tree can be put into the catalogue, one after another.
-use Rattle.std.proofs.Common.{Ordering, Less, Equal, Greater, ◌≡◌, ◌≢◌, ◌⊎◌, inl, inr, ⊎_elim, ℕ, zero, suc, ◌+◌, ◌<◌, ◌≤◌, Bool, true, false, not, ◌&&◌, ◌||◌, cond, List, [], ◌∷◌, length, take, map, get_or, Some, None, option_map, is_some, nat_le, refl, sym, ap, subst, ◌∙◌, arith}
+use Rattle.std.proofs.Common.{Ordering, Less, Greater, ◌≡◌, ◌≢◌, ◌⊎◌, inl, inr, ⊎_elim, ℕ, zero, suc, ◌+◌, ◌<◌, ◌≤◌, Bool, true, false, not, ◌&&◌, ◌||◌, cond, List, [], ◌∷◌, length, take, map, get_or, Some, None, option_map, is_some, nat_le, refl, sym, ap, subst, ◌∙◌, arith}
 use Rattle.std.proofs.Math.Dec.{T}
 use Rattle.std.specs.List.{list_all, list_any}
 use Rattle.std.specs.Str.{bytes_eq}
@@ -22,6 +22,8 @@ use Rattle.configuration.specs.Catalogues.{ArePaths, CanBePut, domain_node, doma
 use Rattle.configuration.specs.declared.limits.TheConstants.{MAX_BELOW_ROOT}
 use Rattle.configuration.specs.declared.setting.Setting.{Setting}
 use Rattle.configuration.proofs.TableLemmas.{len-insert-le}
+use Rattle.containers.proofs.Plain.{halves, less}
+use Rattle.containers.proofs.TextMaps.TextOrders.{not_itself}
 
 abbrev pub PathSettings : Type 0
 PathSettings = List (List ℕ × Setting)
@@ -67,33 +69,15 @@ abbrev pub Rising : PathSettings → Type 0
 Rising [] = Unit {0}
 Rising (e ∷ es) = Each (λ q. text_order e.0 q ≡ Less) es × Rising es
 
-is_less : (o : Ordering) → T (is_lt o) → o ≡ Less
-is_less Less h = refl
-is_less Equal h = absurd h
-is_less Greater h = absurd h
-
-T_left : (a b : Bool) → T (a && b) → T a
-T_left true b h = tt
-T_left false b h = h
-
-T_right : (a b : Bool) → T (a && b) → T b
-T_right true b h = h
-T_right false b h = absurd h
-
 below_each : (x : List ℕ) (es : PathSettings) → T (below_all text_order x es) → Each (λ q. text_order x q ≡ Less) es
 below_each x [] h = tt
 below_each x (e ∷ es) h =
-    (is_less (text_order x e.0) (T_left (is_lt (text_order x e.0)) (below_all text_order x es) h), below_each x es (T_right (is_lt (text_order x e.0)) (below_all text_order x es) h))
+    (less (text_order x e.0) (halves (is_lt (text_order x e.0)) (below_all text_order x es) h).0, below_each x es (halves (is_lt (text_order x e.0)) (below_all text_order x es) h).1)
 
 pub rising : (es : PathSettings) → T (is_sorted text_order es) → Rising es
 rising [] h = tt
 rising (e ∷ es) h =
-    (below_each e.0 es (T_left (below_all text_order e.0 es) (is_sorted text_order es) h), rising es (T_right (below_all text_order e.0 es) (is_sorted text_order es) h))
-
-pub not_itself : (x q : List ℕ) → text_order x q ≡ Less → q ≢ x
-not_itself x q less same =
-    let e : Less ≡ Equal = sym less ∙ ap (text_order x) same ∙ tied_itself nat_list_cmp_total x in
-    cc
+    (below_each e.0 es (halves (below_all text_order e.0 es) (is_sorted text_order es) h).0, rising es (halves (below_all text_order e.0 es) (is_sorted text_order es) h).1)
 
 not_both : (x y : List ℕ) → text_order x y ≡ Less → text_order y x ≡ Less → ⊥
 not_both x y less more =

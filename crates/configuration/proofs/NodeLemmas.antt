@@ -26,15 +26,13 @@ use Rattle.configuration.specs.Catalogues.{catalogue_of, default_setting, domain
 use Rattle.configuration.specs.declared.limits.TheConstants.{MAX_BELOW_ROOT}
 use Rattle.configuration.specs.declared.setting.Setting.{Setting}
 use Rattle.configuration.proofs.SettingLemmas.{next-folders, raised-next}
-use Rattle.configuration.proofs.CatalogueLemmas.{Among, Each, PathSettings, Rising, any_from_among, each_at, folders_other, has_among, node_here, node_other, not_among, nothing_at, not_itself, removed, rising, same_or_other, tree_facts}
+use Rattle.configuration.proofs.CatalogueLemmas.{Among, Each, PathSettings, Rising, any_from_among, each_at, folders_other, has_among, node_here, node_other, not_among, nothing_at, removed, rising, same_or_other, tree_facts}
+use Rattle.containers.proofs.Plain.{none_of}
+use Rattle.containers.proofs.TextMaps.TextOrders.{not_itself}
 
 some_or_none : {A : Type 0} (o : Option A) → ((a : A) × (o ≡ Some a)) ⊎ (o ≡ None)
 some_or_none None = inr refl
 some_or_none (Some a) = inl (a, refl)
-
-none_of : {A : Type 0} (o : Option A) → is_some o ≡ false → o ≡ None
-none_of None h = refl
-none_of (Some a) h = absurd (true≢false h)
 
 -- what is found in some entries, and what is put for it
 found_cases : (q : List ℕ) (e : List ℕ × Setting) (es : PathSettings) (setting : Setting)

@@ -11,7 +11,7 @@ use Rattle.std.proofs.lemmas.Cmp.{tied_itself}
 use Rattle.std.proofs.lemmas.List.Sums.{sum_by-cons}
 use Rattle.containers.specs.TextMaps.Keyed.{text_order}
 use Rattle.containers.proofs.TextMaps.KeyedMaps.{exact_texts}
-use Rattle.containers.proofs.TextMaps.Walks.{found_above, halves}
+use Rattle.containers.proofs.TextMaps.Walks.{found_above}
 use Rattle.object_ids.specs.IdValues.{Id}
 use Rattle.domains.specs.Changes.{domain_count, is_folder_node}
 use Rattle.domains.specs.Contents.{Contents}
@@ -21,6 +21,7 @@ use Rattle.domains.specs.declared.classes.NodeClass.TheVariants.{Domain, Folder}
 use Rattle.configuration.specs.Catalogues.{catalogue_of}
 use Rattle.configuration.specs.ConfiguredNodes.{HasConfigured, HasFirstSerials, Settings, rank_of, ranked_domain}
 use Rattle.configuration.proofs.NodeLemmas.{class_configured, configured_told}
+use Rattle.containers.proofs.Plain.{halves}
 
 -- ---- ranks
 

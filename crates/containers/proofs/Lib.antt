@@ -1,3 +1,4 @@
 pub mod Passing
+pub mod Plain
 pub mod ShortLists
 pub mod TextMaps

@@ -1,5 +1,5 @@
 -- Tests, and how many entries pass them.
-use Rattle.std.proofs.Common.{◌≡◌, ◌<◌, ◌≤◌, ◌||◌, Bool, true, false, cond, length, IsSome, is_some, List, [], ◌∷◌, Some, Result, Ok, Err, OnErr, IfErr, Ordering, Less, Equal, Greater, refl, sym, ap, ◌∙◌, arith}
+use Rattle.std.proofs.Common.{◌≡◌, ◌<◌, ◌≤◌, ◌||◌, Bool, true, false, cond, length, IsSome, is_some, List, [], ◌∷◌, Some, Result, Ok, Err, IfErr, Ordering, Less, Equal, Greater, refl, sym, ap, ◌∙◌, arith}
 use Rattle.std.specs.FinMap.{find}
 use Rattle.std.specs.List.{filter, list_any}
 use Rattle.std.specs.Map.{lookup}
@@ -27,9 +27,6 @@ or_more false b c f e = f e
 pub or_either : (a b : Bool) (P : Type 0) → (a ≡ true → P) → (b ≡ true → P) → (a || b) ≡ true → P
 or_either true b P f g e = f refl
 or_either false b P f g e = g e
-
-pub neither_or : (a b : Bool) → a ≡ false → b ≡ false → (a || b) ≡ false
-neither_or a b e f = ap (λ x. x || b) e ∙ f
 
 -- ---- entries that pass a test
 
@@ -79,10 +76,6 @@ found_find {K} {V} R k [] e = contrary false (list_any {X = K × V} (λ d. eq_by
 found_find R k (e ∷ es) there = by_bool (eq_by_cmp R k e.0) (list_any (λ d. eq_by_cmp R k d.0) (e ∷ es) ≡ true)
     (λ y. or_left (eq_by_cmp R k e.0) (list_any (λ d. eq_by_cmp R k d.0) es) y)
     (λ n. or_right (eq_by_cmp R k e.0) (list_any (λ d. eq_by_cmp R k d.0) es) (found_find R k es (ap (λ b. is_some (cond b (Some e.1) (find R k es))) (sym n) ∙ there)))
-
-pub on_error : {A E : Type 0} (r : Result A E) (P : Type 0) → P → OnErr r P
-on_error (Ok x) P h = tt
-on_error (Err e) P h = h
 
 -- a weaker property of the error
 pub err_map : {A E : Type 0} (r : Result A E) (P Q : E → Type 0) → ((x : E) → P x → Q x) → IfErr r P → IfErr r Q

@@ -4,3 +4,4 @@ pub mod ValueMaps
 pub mod Walks
 pub mod Fronts
 pub mod Lending
+pub mod TextOrders

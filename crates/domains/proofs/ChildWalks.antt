@@ -1,6 +1,6 @@
 -- The nodes right below a path stand in a row, behind the path.
 use Rattle.std.proofs.Common.{◌≡◌, ◌≢◌, ◌⊎◌, inl, inr, ℕ, suc, ◌<◌, T, Bool, true, false, not, ◌&&◌, ◌||◌, cond, option_map, map, List, [], ◌∷◌, ◌++◌, drop, get_or, nat_eq, Option, Some, None, IsSome, is_some, Ordering, Less, Equal, Greater, is_eq, nat_cmp, refl, sym, ap, subst, ◌∙◌, arith}
-use Rattle.std.specs.Cmp.{Equal-is, ranks, nat_cmp_total}
+use Rattle.std.specs.Cmp.{Equal-is, ranks}
 use Rattle.std.specs.Cmp.Lexicographic.{nat_list_cmp_total}
 use Rattle.std.specs.FinMap.{FinMap, empty, entries, entries-insert, find, get, get-entries, len-empty, len-entries, put}
 use Rattle.std.specs.List.{filter, list_any, starts_with}
@@ -15,7 +15,6 @@ use Rattle.std.proofs.lemmas.List.{nil_from_length}
 use Rattle.containers.specs.TextMaps.Keyed.{text_order}
 use Rattle.containers.specs.TextMaps.Nexts.{first, left}
 use Rattle.containers.proofs.TextMaps.KeyedMaps.{exact_texts}
-use Rattle.containers.proofs.TextMaps.Walks.{less}
 use Rattle.object_ids.specs.Paths.{parent_of, path_of, root_path, starts_with_slash}
 use Rattle.object_ids.proofs.PathLemmas.{IsLongPath, has_last_slash, is_path-from_path_of, parent_of-at, parent_of-none, path_cases}
 use Rattle.domains.specs.declared.classes.Node.{Node}
@@ -25,6 +24,8 @@ use Rattle.domains.specs.NodeTrees.{child_tree}
 use Rattle.serde_json.specs.View.{view}
 use Rattle.serde_json.specs.declared.value.Value.{Value}
 use Rattle.domains.specs.ChildSteps.{AreCanonical, IsChildStep, IsFrom}
+use Rattle.containers.proofs.Plain.{less}
+use Rattle.containers.proofs.TextMaps.TextOrders.{not_itself, behind_prefix}
 
 abbrev pub Row : Type 0
 Row = List ℕ × Node
@@ -47,10 +48,6 @@ prefix_between (p ∷ ps) (k ∷ ks) rest a b =
     let both = both_less p k (nat_cmp p k) (nat_cmp k p) (text_order ps ks) (text_order ks (ps ++ rest)) (ranks p k) (ranks k p) a b in
     let more = prefix_between ps ks rest both.1 both.2 in
     (more.0, λ i. sym both.0 i ∷ more.1 i)
-
-behind_prefix : (path : List ℕ) (b : ℕ) (rest : List ℕ) → text_order path (path ++ b ∷ rest) ≡ Less
-behind_prefix [] b rest = refl
-behind_prefix (p ∷ ps) b rest = ap (λ o. ordering_then o (text_order ps (ps ++ b ∷ rest))) (tied_itself nat_cmp_total p) ∙ behind_prefix ps b rest
 
 -- a path begins with a folder's, and goes on
 abbrev Below : List ℕ → List ℕ → Type 0
@@ -160,10 +157,6 @@ none_past folder key (e ∷ es) all behind leaves =
 pub from_next : (folder last path : List ℕ) → IsFrom folder last → is_lt (text_order last path) ≡ true → text_order folder path ≡ Less
 from_next folder last path (inl same) lt = subst (λ (f : List ℕ). text_order f path ≡ Less) (sym same) (less _ (subst T (sym lt) tt))
 from_next folder last path (inr behind) lt = nat_list_cmp_total.trans folder last path behind (less _ (subst T (sym lt) tt))
-
-not_itself : (folder path : List ℕ) → text_order folder path ≡ Less → path ≢ folder
-not_itself folder path behind same =
-    let both : Less ≡ Equal = sym behind ∙ ap (text_order folder) same ∙ tied_itself nat_list_cmp_total folder in cc
 
 -- one path more is looked at
 module _ (nodes : FinMap text_order Node) (folder last path : List ℕ) (node : Node) (from : IsFrom folder last) (behind : is_lt (text_order last path) ≡ true)

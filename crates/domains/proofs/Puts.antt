@@ -15,12 +15,10 @@ use Rattle.domains.specs.declared.classes.Node.{Node}
 use Rattle.domains.specs.declared.classes.NodeClass.{NodeClass}
 use Rattle.domains.specs.declared.classes.NodeClass.TheVariants.{Folder, Domain}
 use Rattle.domains.specs.Contents.{most_nodes, Contents, IsCatalogue, IsFolderAt, IsDomainAt, IsGroupOf, HasChildren, HasRoot, IsFree, IsNumberFree, IsPlace, MayStandAt, NumberFits, class_at, only_root, raised, with_node}
+use Rattle.containers.proofs.TextMaps.TextOrders.{itself}
 
 unfoldable pub IsOther : List ℕ → List ℕ → Type 0
 IsOther q path = eq_by_cmp text_order q path ≡ false
-
-pub same_text : (path : List ℕ) → eq_by_cmp text_order path path ≡ true
-same_text path = is_eq-slice_cmp path path ∙ (bytes_eq-Decides path path).1 refl
 
 -- a text is another or the same
 pub same_or_other : (q path : List ℕ) → (q ≡ path) ⊎ IsOther q path
@@ -35,11 +33,11 @@ pub other_differs : (q path : List ℕ) → IsOther q path → q ≢ path
 unfolding IsOther
 other_differs q path far e =
     let Same : List ℕ → Type 0 = λ r. eq_by_cmp text_order r path ≡ true in
-    true≢false (sym (subst Same (sym e) (same_text path)) ∙ far)
+    true≢false (sym (subst Same (sym e) (itself path)) ∙ far)
 
 module _ (m : FinMap text_order Node) (path : List ℕ) (node : Node) where
   pub get_here : get (insert m path node) path ≡ Some node
-  get_here = get-insert nat_list_cmp_total m path node path ∙ ap (λ b. cond b (Some node) (get m path)) (same_text path)
+  get_here = get-insert nat_list_cmp_total m path node path ∙ ap (λ b. cond b (Some node) (get m path)) (itself path)
 
   pub get_elsewhere : (q : List ℕ) → IsOther q path → get (insert m path node) q ≡ get m q
   unfolding IsOther

@@ -13,7 +13,8 @@ use Rattle.domains.specs.declared.classes.NodeClass.{NodeClass}
 use Rattle.domains.specs.declared.faults.CatFault.{CatFault}
 use Rattle.domains.specs.Contents.{Contents, HasChildren, IsCatalogue, IsDomainAt, class_at, most_nodes}
 use Rattle.domains.specs.Changes.{entry_put, node_with, without_node}
-use Rattle.domains.proofs.Puts.{IsOther, class_elsewhere, class_here, get_elsewhere, get_here, other_differs, same_or_other, same_text}
+use Rattle.domains.proofs.Puts.{IsOther, class_elsewhere, class_here, get_elsewhere, get_here, other_differs, same_or_other}
+use Rattle.containers.proofs.TextMaps.TextOrders.{itself}
 
 -- catalogues whose nodes have the same classes
 alike : (c d : Contents) → ((q : List ℕ) → class_at d q ≡ class_at c q) → len d.nodes ≤ most_nodes → d.next ≡ c.next → IsCatalogue c → IsCatalogue d
@@ -80,7 +81,7 @@ module _ (c : Contents) (path : List ℕ) where
   gone_here : (q : List ℕ) → q ≡ path → class_at (without_node c path) q ≡ None
   gone_here q same =
       ap (class_at (without_node c path)) same
-      ∙ ap (option_map (λ n. n.class)) (get-remove nat_list_cmp_total c.nodes path path ∙ ap (λ b. cond b None (get c.nodes path)) (same_text path))
+      ∙ ap (option_map (λ n. n.class)) (get-remove nat_list_cmp_total c.nodes path path ∙ ap (λ b. cond b None (get c.nodes path)) (itself path))
 
   left_elsewhere : (q : List ℕ) → IsOther q path → class_at (without_node c path) q ≡ class_at c q
   unfolding IsOther

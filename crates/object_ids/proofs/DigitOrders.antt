@@ -7,7 +7,8 @@ use Rattle.std.specs.Ordering.{nat_cmp, ordering_then}
 use Rattle.std.specs.Cmp.Lexicographic.{slice_cmp}
 use Rattle.std.specs.Int.{byte_at, bytes_high_first}
 use Rattle.uuid.specs.Text.{hyphenated_text, hex_digit, by_index}
-use Rattle.object_ids.proofs.NumberOrders.{cmp_less, cmp_same, cmp_more, cmp_parts, cmp_at, byte_small}
+use Rattle.object_ids.proofs.NumberOrders.{cmp_same, cmp_more, cmp_parts, cmp_at, byte_small}
+use Rattle.containers.specs.ShortLists.OrderLaws.{cmp_less}
 
 abbrev pub digits : ℕ → List ℕ → List ℕ
 digits x rest = hex_digit 97 (x / 16 % 16) ∷ hex_digit 97 (x % 16) ∷ rest

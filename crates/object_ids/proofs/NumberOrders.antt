@@ -1,14 +1,12 @@
 -- The order of numbers, part by part.
-use Rattle.std.proofs.Common.{◌≡◌, ℕ, zero, suc, ◌+◌, ◌*◌, ◌^◌, ◌/◌, ◌%◌, ◌<◌, ◌≤◌, Less, Equal, Greater, refl, sym, ap, ◌∙◌, arith}
+use Rattle.std.proofs.Common.{◌≡◌, ℕ, zero, suc, ◌+◌, ◌*◌, ◌^◌, ◌/◌, ◌%◌, ◌<◌, ◌≤◌, Equal, Greater, refl, sym, ap, ◌∙◌, arith}
 use Rattle.std.proofs.Math.Nat.{mod-lt, mul-le-mul_right, add-mul, one-le-pow, pow-succ', div-one}
 use Rattle.std.proofs.Math.Arith.{mod-mul}
 use Rattle.std.proofs.lemmas.Cmp.{ranked, by_ranked}
 use Rattle.std.specs.Ordering.{nat_cmp, ordering_then}
 use Rattle.std.specs.Int.{byte_at, bytes_high_first}
 use Rattle.std.specs.Cmp.Lexicographic.{slice_cmp}
-
-pub cmp_less : (x y : ℕ) → x < y → nat_cmp x y ≡ Less
-cmp_less x y h = by_ranked _ _ _ (nat_cmp x y) (ranked x y _ refl) (λ e _. e) (λ e p. absurd (omega arith)) (λ e p. absurd (omega arith))
+use Rattle.containers.specs.ShortLists.OrderLaws.{cmp_less}
 
 pub cmp_same : (x y : ℕ) → x ≡ y → nat_cmp x y ≡ Equal
 cmp_same x y h = by_ranked _ _ _ (nat_cmp x y) (ranked x y _ refl) (λ e p. absurd (omega arith)) (λ e _. e) (λ e p. absurd (omega arith))

@@ -13,9 +13,9 @@ use Rattle.object_ids.specs.declared.puts.PutFault.TheVariants.{Taken, Limit}
 use Rattle.object_ids.proofs.PutLemmas.{insert_most}
 use Rattle.containers.specs.TextMaps.Keyed.{text_order}
 use Rattle.containers.proofs.TextMaps.KeyedMaps.{exact_texts}
-use Rattle.containers.proofs.TextMaps.Walks.{halves, less}
-use Rattle.containers.proofs.TextMaps.Fronts.{greater}
 use Rattle.object_records.specs.Lists.{listed, put_in}
+use Rattle.containers.proofs.Plain.{halves, less}
+use Rattle.containers.proofs.TextMaps.TextOrders.{greater}
 
 module _ {X : Type 0} where
   -- no key of the second list is one of the first

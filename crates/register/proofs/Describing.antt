@@ -8,10 +8,8 @@ use Rattle.std.specs.FinMap.{FinMap, contains_key, entries, entries_sorted, find
 use Rattle.std.specs.FinMap.Entries.{below_all}
 use Rattle.std.specs.Ordering.{eq_by_cmp, is_lt}
 use Rattle.std.specs.Prelude.{option_and_then}
-use Rattle.containers.proofs.TextMaps.Fronts.{itself}
 use Rattle.containers.specs.TextMaps.Keyed.{text_order}
 use Rattle.containers.proofs.TextMaps.KeyedMaps.{exact_texts}
-use Rattle.containers.proofs.TextMaps.Walks.{halves}
 use Rattle.flush_journal.specs.Records.{Held, Record}
 use Rattle.flush_journal.proofs.PutLemmas.{tied}
 use Rattle.object_ids.specs.Paths.{parent_of, root_path}
@@ -29,6 +27,8 @@ use Rattle.register.specs.Kept.{AreTexts, IsHeldNode, RegisterSays, is_marked, i
 use Rattle.register.specs.Cutting.{IsAmong}
 use Rattle.register.proofs.Installing.{one_run}
 use Rattle.containers.proofs.Passing.{by_bool, contrary}
+use Rattle.containers.proofs.Plain.{halves}
+use Rattle.containers.proofs.TextMaps.TextOrders.{itself}
 
 -- ---- how many records of nodes stand before one
 

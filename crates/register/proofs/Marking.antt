@@ -1,6 +1,5 @@
 -- Marks of paths.
 use Rattle.std.proofs.Common.{◌≡◌, ℕ, Bool, true, false, not, cond, is_some, List, Option, Some, None, refl, sym, ap, subst, ◌∙◌}
-use Rattle.std.specs.Cmp.{Equal-is}
 use Rattle.std.specs.Cmp.Lexicographic.{nat_list_cmp_total}
 use Rattle.std.specs.FinMap.{FinMap, contains_key, empty, get, insert, remove, get-empty, get-insert, get-remove, same_map}
 use Rattle.std.specs.Ordering.{eq_by_cmp}
@@ -8,15 +7,13 @@ use Rattle.containers.specs.TextMaps.Keyed.{text_order}
 use Rattle.containers.proofs.TextMaps.KeyedMaps.{exact_texts}
 use Rattle.object_ids.specs.Paths.{path_of}
 use Rattle.register.specs.Marks.{ArePaths, Marked, taken_back}
+use Rattle.containers.proofs.TextMaps.TextOrders.{same_key}
 
 some_is : (a b : Bool) → Some a ≡ Some b → b ≡ a
 some_is a b e = cc
 
 none_is : {P : Type 0} (a : Bool) → None ≡ Some a → P
 none_is a e = absurd (cc)
-
-tied : (q path : List ℕ) → eq_by_cmp text_order q path ≡ true → q ≡ path
-tied q path t = exact_texts q path ((Equal-is (text_order q path)).0 t)
 
 pub none_marked : (paths : FinMap text_order Bool) → paths ≡ empty → ArePaths paths
 none_marked paths e path mark at = none_is mark (sym (get-empty text_order path) ∙ ap (λ (m : FinMap text_order Bool). get m path) (sym e) ∙ at)
@@ -28,7 +25,7 @@ module _ (paths : FinMap text_order Bool) (path : List ℕ) (all : ArePaths path
     found b t = ap (λ x. cond x (Some true) (get paths q)) (sym t) ∙ sym (get-insert nat_list_cmp_total paths path true q) ∙ ap (λ (m : FinMap text_order Bool). get m q) (sym e) ∙ at
 
     by : (b : Bool) → eq_by_cmp text_order q path ≡ b → (mark ≡ true) × (path_of q ≡ Some q)
-    by true t = (some_is true mark (found true t), subst (λ (x : List ℕ). path_of x ≡ Some x) (sym (tied q path t)) is)
+    by true t = (some_is true mark (found true t), subst (λ (x : List ℕ). path_of x ≡ Some x) (sym (same_key q path t)) is)
     by false t = all q mark (found false t)
 
   pub one_less : (new : FinMap text_order Bool) → new ≡ remove paths path → ArePaths new
@@ -45,7 +42,7 @@ module _ (paths : FinMap text_order Bool) (path : List ℕ) (all : ArePaths path
   mark_again None there some = absurd (cc)
   mark_again (Some mark) there some = same_map nat_list_cmp_total exact_texts _ _ (λ q. get-insert nat_list_cmp_total paths path true q ∙ at q (eq_by_cmp text_order q path) refl) where
     at : (q : List ℕ) (b : Bool) → eq_by_cmp text_order q path ≡ b → cond b (Some true) (get paths q) ≡ get paths q
-    at q true t = ap (λ x. Some x) (sym (all path mark there).0) ∙ sym there ∙ ap (get paths) (sym (tied q path t))
+    at q true t = ap (λ x. Some x) (sym (all path mark there).0) ∙ sym there ∙ ap (get paths) (sym (same_key q path t))
     at q false t = refl
 
   none_there : (o : Option Bool) → is_some o ≡ false → o ≡ None
@@ -57,7 +54,7 @@ module _ (paths : FinMap text_order Bool) (path : List ℕ) (all : ArePaths path
   mark_undone none = same_map nat_list_cmp_total exact_texts _ _ (λ q. get-remove nat_list_cmp_total (insert paths path true) path q
       ∙ ap (λ o. cond (eq_by_cmp text_order q path) None o) (get-insert nat_list_cmp_total paths path true q) ∙ at q (eq_by_cmp text_order q path) refl) where
         at : (q : List ℕ) (b : Bool) → eq_by_cmp text_order q path ≡ b → cond b None (cond b (Some true) (get paths q)) ≡ get paths q
-        at q true t = sym (ap (get paths) (tied q path t) ∙ none_there (get paths path) none)
+        at q true t = sym (ap (get paths) (same_key q path t) ∙ none_there (get paths path) none)
         at q false t = refl
 
 -- what is marked can be taken back

@@ -1,5 +1,5 @@
 -- Parts of a cut in turn.
-use Rattle.std.proofs.Common.{◌≡◌, ◌≢◌, inl, inr, ℕ, List, [], ◌∷◌, ◌++◌, Bool, true, false, Result, Ok, Err, OnErr, refl, sym, ap, subst, ◌∙◌, append_assoc, append-nil}
+use Rattle.std.proofs.Common.{◌≡◌, ◌≢◌, inl, inr, ℕ, List, [], ◌∷◌, ◌++◌, Bool, true, false, refl, sym, ap, subst, ◌∙◌, append_assoc, append-nil}
 use Rattle.std.specs.List.{AllByRecursion}
 use Rattle.flush_journal.specs.Records.{Record}
 use Rattle.flush_journal.specs.Cuts.Cuts.{AddsRecord, AreOnce}
@@ -67,10 +67,6 @@ module _ (due : Bool) (key body : List ℕ) (old new : List Record) where
   none_added e = ([], record { right = tt; once = tt; all = λ w k d. contrary false (IsAmong k []) w refl }, e ∙ sym (append-nil old))
 
 -- ---- what a call says
-
-pub on_error : {A E P : Type 0} (r : Result A E) → P → OnErr r P
-on_error (Ok x) h = tt
-on_error (Err e) h = h
 
 pub one_as : {due is : Bool} {key k body b : List ℕ} (whole : Bool) (old new : List Record) → due ≡ is → key ≡ k → body ≡ b → AddsOne due key body whole old new → AddsOne is k b whole old new
 one_as whole old new e f g h =

@@ -12,8 +12,9 @@ use Rattle.domains.specs.declared.classes.NodeClass.{NodeClass}
 use Rattle.domains.specs.declared.classes.NodeClass.TheVariants.{Folder, Domain}
 use Rattle.domains.specs.Changes.{entry_put, new_domain, new_node, node_with, root_of, with_entry, without_node}
 use Rattle.domains.specs.Contents.{Contents, IsDomainAt, class_at, only_root, with_node}
-use Rattle.domains.proofs.Puts.{IsOther, class_elsewhere, class_here, same_or_other, same_text}
+use Rattle.domains.proofs.Puts.{IsOther, class_elsewhere, class_here, same_or_other}
 use Rattle.register.specs.Decided.{AreGivenOut, IsGivenOut}
+use Rattle.containers.proofs.TextMaps.TextOrders.{itself}
 
 -- ---- a serial more
 
@@ -55,7 +56,7 @@ unfolding IsOther
 was_class c path q class at =
     ⊎_elim
     (λ same. absurd (true≢false (sym (ap is_some at) ∙ ap is_some (ap (class_at (without_node c path)) same
-    ∙ ap (option_map (λ n. n.class)) (get-remove nat_list_cmp_total c.nodes path path ∙ ap (λ b. cond b None (get c.nodes path)) (same_text path))))))
+    ∙ ap (option_map (λ n. n.class)) (get-remove nat_list_cmp_total c.nodes path path ∙ ap (λ b. cond b None (get c.nodes path)) (itself path))))))
     (λ far. sym (ap (option_map (λ n. n.class)) (get-remove nat_list_cmp_total c.nodes path q ∙ ap (λ b. cond b None (get c.nodes q)) far)) ∙ at)
     (same_or_other q path)
 

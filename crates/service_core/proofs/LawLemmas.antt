@@ -46,6 +46,7 @@ use Rattle.service_core.proofs.ForgetLemmas.{get-without}
 use Rattle.service_core.proofs.TurnLemmas.{run_by_steps, run_steps}
 use Rattle.service_core.proofs.DecideLemmas.{no_id}
 use Rattle.chunk_owner.proofs.OfOwners.WholeLemmas.{get-set_at}
+use Rattle.containers.proofs.Plain.{passed_over}
 
 -- ---- places
 
@@ -115,10 +116,6 @@ module _ (issues : GrantsAreIssues) (w : World) (caller : Caller) (request : Req
   named_gives id names =
       subst (λ (p : Reply × Objects). Gives w caller request p) (at_named id names)
       (by_steps (Some Only ∷ []) (object_served request.op issue w.objects id names) (only_of (length w.door.issued) request.op issue.left id names steps_of))
-
-passed_over : (b : Bool) (v o : Option Object) → (b ≡ true → ⊥) → cond b v o ≡ o
-passed_over true v o never = absurd (never refl)
-passed_over false v o never = refl
 
 done_at : (w : World) (caller : Caller) (request : Request) (id : Id) (f : Option Object → Reply × Option Object) → Gives w caller request (at_id id f w.objects)
     → IsDoneAt w caller request id (f (get w.objects id))

@@ -11,6 +11,7 @@ use Rattle.chunk_owner.specs.Lanes.{Lane, Objects}
 use Rattle.chunk_owner.specs.Owners.Joined.{whole}
 use Rattle.service_core.specs.Worlds.{lesser}
 use Rattle.chunk_owner.proofs.OfOwners.WholeLemmas.{get-push, or_else}
+use Rattle.containers.proofs.Passing.{lt_less}
 
 module _ (m one other : Objects) (is : (q : Id) → get m q ≡ or_else (get one q) (get other q)) (after : Option Id) where
   none_in : (q : Id) → get one q ≡ None → get other q ≡ None → get m q ≡ None
@@ -31,15 +32,10 @@ module _ (m one other : Objects) (is : (q : Id) → get m q ≡ or_else (get one
   before q a b lt Equal e far = ap (id_order q) (id_order_once b a e) ∙ lt
   before q a b lt Greater e far = id_order_total.trans q a b lt (id_order_total.antisymm a b ∙ ap ordering_reverse e)
 
-  less_is : (r : Ordering) → is_lt r ≡ true → r ≡ Less
-  less_is Less e = refl
-  less_is Equal e = absurd (let both : false ≡ true = e in cc)
-  less_is Greater e = absurd (let both : false ≡ true = e in cc)
-
   -- of two ids that are each the least of their objects, the lesser is the least of all
   lesser_or : (a b : Id) (t : Bool) → is_lt (id_order b a) ≡ t → IsNext one after (Some a) → IsNext other after (Some b) → IsNext m after (cond t (Some b) (Some a))
   lesser_or a b true e x y =
-      let lt = less_is (id_order b a) e in
+      let lt = lt_less (id_order b a) e in
       (y.0, in_other b (x.2 b y.0 lt) y.1, λ q behind below. none_in q (x.2 q behind (id_order_total.trans q b a below lt)) (y.2 q behind below))
   lesser_or a b false e x y =
       (x.0, in_one a x.1, λ q behind below. none_in q (x.2 q behind below) (y.2 q behind (before q a b below (id_order b a) refl e)))

@@ -35,11 +35,10 @@ use Rattle.object_records.specs.declared.install_fault.InstallFault.{InstallFaul
 use Rattle.object_records.specs.declared.install_fault.InstallFault.TheVariants as of_installs
 use Rattle.chunk_owner.specs.declared.installs.faults.RecordFault.{RecordFault}
 use Rattle.chunk_owner.specs.declared.installs.faults.RecordFault.TheVariants.{BadRecord, NoMemory}
-use Rattle.containers.proofs.TextMaps.Fronts.{all_held, held_before, held_here, new_key, nothing_held, said_else, differ, said_here, same_key, split_more}
+use Rattle.containers.proofs.TextMaps.Fronts.{all_held, held_before, held_here, new_key, nothing_held, said_else, said_here, split_more}
 use Rattle.chunk_owner.proofs.OfInstalls.LaneKeys.{by_id, chunk_more, chunk_of_other, chunks_else, object_first, of_no_lane, said_again}
 use Rattle.chunk_owner.proofs.OfInstalls.Taking.{chunk_told, chunk_untold, chunks_said, grid_told, installed_taken, record_taken}
-
--- ---- outcomes
+use Rattle.containers.proofs.TextMaps.TextOrders.{same_key, differ}
 
 -- ---- nothing was walked over
 

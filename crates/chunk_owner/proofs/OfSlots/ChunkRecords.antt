@@ -5,6 +5,7 @@ use Rattle.std.specs.List.{AllByRecursion}
 use Rattle.std.specs.Option.{option_map_or}
 use Rattle.std.proofs.lemmas.Slice.Eq.{bytes_eq-Decides}
 use Rattle.std.proofs.lemmas.Bool.{or_right}
+use Rattle.std.proofs.lemmas.List.{map_push}
 use Rattle.chunk_layout.proofs.DefaultLemmas.{few_dims}
 use Rattle.object_ids.specs.IdValues.{Id}
 use Rattle.object_ids.specs.Ids.{InRange}
@@ -112,10 +113,6 @@ all_last : (P : List ℕ → Type 0) (is : List (List ℕ)) (i : List ℕ) → A
 all_last P [] i h g = (g, tt)
 all_last P (k ∷ is) i h g = (h.0, all_last P is i h.1 g)
 
-map_last : {A B : Type 0} (f : A → B) (xs : List A) (x : A) → map f (xs ++ x ∷ []) ≡ map f xs ++ f x ∷ []
-map_last f [] x = refl
-map_last f (y ∷ xs) x = ap (λ zs. f y ∷ zs) (map_last f xs x)
-
 module _ (id : Id) (mark : Mark) (s : Stored) (old mid : List Record) (after : Option (List ℕ)) (c : IsCutting id mark s old mid after) where
   pub cutting_more : (new : List Record) (i : List ℕ) → IsNext (is_meant mark s) after (Some i) → is_index i ≡ true → AddsRecord (chunk_record id mark s.grid i) mid new → IsCutting id mark s old new (Some i)
   cutting_more new i next index adds = record {
@@ -123,7 +120,7 @@ module _ (id : Id) (mark : Mark) (s : Stored) (old mid : List Record) (after : O
     walk = walk_more (is_meant mark s) c.done after c.walk i next;
     meant = all_last (λ j. (is_meant mark s j ≡ true) × (is_index j ≡ true)) c.done i c.meant (next.0, index);
     added = adds ∙ ap (λ (rs : List Record). rs ++ chunk_record id mark s.grid i ∷ []) c.added ∙ append_assoc old (map (chunk_record id mark s.grid) c.done) (chunk_record id mark s.grid i ∷ [])
-        ∙ ap (λ (rs : List Record). old ++ rs) (sym (map_last (chunk_record id mark s.grid) c.done i));
+        ∙ ap (λ (rs : List Record). old ++ rs) (sym (map_push (chunk_record id mark s.grid) c.done i));
   }
 
   pub cutting_end : IsNext (is_meant mark s) after None → AddsChunks id mark s true old mid

@@ -7,11 +7,11 @@ use Rattle.std.specs.Cmp.Lexicographic.{slice_cmp, nat_list_cmp_total}
 use Rattle.std.proofs.lemmas.Cmp.{tied_itself}
 use Rattle.std.proofs.lemmas.Map.Text.{is_eq-slice_cmp}
 use Rattle.std.proofs.lemmas.Slice.Eq.{bytes_eq-Decides}
-use Rattle.std.proofs.lemmas.Bool.{or_right, or_parts, or_left}
+use Rattle.std.proofs.lemmas.Bool.{or_right, or_parts, or_left, or_from}
 use Rattle.chunk_store.specs.Marks.{ComesAfter, IsNext, is_after}
 use Rattle.chunk_store.proofs.NextLemmas.{after_read}
 use Rattle.chunk_owner.specs.Slots.Cutting.{AreDistinct, is_among}
-use Rattle.containers.proofs.Passing.{by_bool, contrary, lt_less, or_more, or_either, neither_or, fewer_there, found_lookup}
+use Rattle.containers.proofs.Passing.{by_bool, contrary, lt_less, or_more, or_either, fewer_there, found_lookup}
 
 -- ---- chunks among others
 
@@ -37,9 +37,9 @@ among_either (k ∷ is) i j P there same e = or_either (bytes_eq j k) (is_among 
     (λ rest. among_either is i j P (λ h. there (or_right (bytes_eq j k) (is_among is j) h)) same rest) e
 
 among_neither : (is : List (List ℕ)) (i j : List ℕ) → is_among is j ≡ false → bytes_eq j i ≡ false → is_among (is ++ i ∷ []) j ≡ false
-among_neither [] i j e n = neither_or (bytes_eq j i) false n refl
+among_neither [] i j e n = or_from (bytes_eq j i) false n refl
 among_neither (k ∷ is) i j e n = let both = or_parts (bytes_eq j k) (is_among is j) e in
-    neither_or (bytes_eq j k) (is_among (is ++ i ∷ []) j) both.0 (among_neither is i j both.1 n)
+    or_from (bytes_eq j k) (is_among (is ++ i ∷ []) j) both.0 (among_neither is i j both.1 n)
 
 distinct_more : (is : List (List ℕ)) (i : List ℕ) → AreDistinct is → is_among is i ≡ false → AreDistinct (is ++ i ∷ [])
 distinct_more [] i h n = (refl, tt)

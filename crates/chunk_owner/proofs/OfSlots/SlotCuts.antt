@@ -30,11 +30,7 @@ use Rattle.chunk_owner.specs.Slots.Settled.{ArraySettles, BodySettles, Settles, 
 use Rattle.containers.proofs.Passing.{by_bool, contrary, or_either}
 use Rattle.chunk_owner.proofs.OfSlots.ChunkRecords.{chunks_written, chunks_once, object_outside}
 use Rattle.chunk_owner.proofs.OfSlots.KeyFacts.{object_no_chunk}
-
-same_bool : (a b : Bool) → (a ≡ true → b ≡ true) → (b ≡ true → a ≡ true) → a ≡ b
-same_bool true b f g = sym (f refl)
-same_bool false true f g = contrary false (false ≡ true) (g refl) refl
-same_bool false false f g = refl
+use Rattle.containers.specs.ShortLists.OrderLaws.{by_both}
 
 -- ---- some chunks were written
 
@@ -58,7 +54,7 @@ module _ (mark : Mark) (s : Stored) (whole : Bool) (done : List (List ℕ)) (m :
     all_second (i ∷ is) h = (h.0.1, all_second is h.1)
 
   pub all_among : whole ≡ true → (i : List ℕ) → is_among done i ≡ is_meant mark s i
-  all_among e i = same_bool (is_among done i) (is_meant mark s i) (meant_among i) (m.all e i)
+  all_among e i = by_both (is_among done i) (is_meant mark s i) (meant_among i) (m.all e i)
 
 -- bodies at chunks, before and after
 module _ (s : Stored) (done : List (List ℕ)) (f g : List ℕ → List ℕ) where

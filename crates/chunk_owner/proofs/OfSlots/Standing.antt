@@ -6,7 +6,7 @@ use Rattle.std.specs.FinMap.Entries.{below_all}
 use Rattle.std.specs.Ordering.{eq_by_cmp}
 use Rattle.std.proofs.lemmas.Cmp.{tied_itself}
 use Rattle.containers.specs.TextMaps.Nexts.{is_behind, left, IsNext}
-use Rattle.containers.proofs.TextMaps.Walks.{found_above, halves}
+use Rattle.containers.proofs.TextMaps.Walks.{found_above}
 use Rattle.object_ids.specs.IdOrder.{id_order}
 use Rattle.object_ids.specs.IdValues.{Id}
 use Rattle.object_ids.proofs.IdOrders.{id_order_once, id_order_total}
@@ -17,6 +17,7 @@ use Rattle.chunk_owner.specs.Slots.Marking.{AddsMarks, IsToDrop, IsToForget}
 use Rattle.chunk_owner.specs.Slots.Slots.{AreOfKind, HasSameIds, IsMarked, IsNextHeld, Says, Slots, object_of, objects_of, standing, with_standing}
 use Rattle.containers.proofs.Passing.{by_bool, contrary, fewer_there, found_find}
 use Rattle.chunk_owner.proofs.OfSlots.LaneCuts.{by_place, itself_not, weaker_behind}
+use Rattle.containers.proofs.Plain.{halves}
 
 -- ---- what a look-up finds
 

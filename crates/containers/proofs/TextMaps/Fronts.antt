@@ -1,72 +1,40 @@
 -- Records in the order of their keys: those in front of one, and what they say.
-use Rattle.std.proofs.Common.{◌≡◌, ◌≢◌, ℕ, T, Bool, true, false, cond, ◌&&◌, List, [], ◌∷◌, ◌++◌, Some, None, Ordering, Less, Equal, Greater, is_eq, refl, sym, ap, subst, ◌∙◌, append_assoc, append-nil}
-use Rattle.std.specs.Cmp.{Equal-is}
+use Rattle.std.proofs.Common.{◌≡◌, ◌≢◌, ℕ, T, Bool, true, false, cond, List, [], ◌∷◌, ◌++◌, Some, None, Less, is_eq, refl, sym, ap, subst, ◌∙◌, append_assoc, append-nil}
 use Rattle.std.specs.Cmp.Lexicographic.{nat_list_cmp_total}
 use Rattle.std.specs.FinMap.{FinMap, entries, entries_sorted, find, get, get-entries, get-from_entries, is_sorted, same_map}
 use Rattle.std.specs.FinMap.Entries.{below_all, find-append}
-use Rattle.std.specs.Ordering.{eq_by_cmp, is_lt, ordering_reverse}
-use Rattle.std.proofs.lemmas.Cmp.{tied_itself}
+use Rattle.std.specs.Ordering.{eq_by_cmp, is_lt}
 use Rattle.std.proofs.lemmas.Option.{none-some}
 use Rattle.containers.specs.TextMaps.Keyed.{text_order}
 use Rattle.containers.proofs.TextMaps.KeyedMaps.{exact_texts}
 use Rattle.containers.specs.TextMaps.Fronts.{held_by}
-use Rattle.containers.proofs.Passing.{by_bool, contrary}
+use Rattle.containers.proofs.Plain.{less, halves}
+use Rattle.containers.proofs.TextMaps.TextOrders.{greater, unlike, itself}
 
 abbrev Record : Type 0
 Record = List ℕ × List ℕ
 
--- ---- keys
-
--- a greater key isn't tied with a lesser one
-pub greater : (x y : List ℕ) → text_order x y ≡ Less → eq_by_cmp text_order y x ≡ false
-greater x y e = ap is_eq (nat_list_cmp_total.antisymm y x ∙ ap ordering_reverse e)
-
-pub same_key : (q k : List ℕ) → eq_by_cmp text_order q k ≡ true → q ≡ k
-same_key q k e = exact_texts q k ((Equal-is (text_order q k)).0 e)
-
-pub unlike : (q k : List ℕ) → q ≢ k → eq_by_cmp text_order q k ≡ false
-unlike q k other = by_bool (eq_by_cmp text_order q k) (eq_by_cmp text_order q k ≡ false) (λ y. absurd (other (same_key q k y))) (λ n. n)
-
-pub itself : (q : List ℕ) → eq_by_cmp text_order q q ≡ true
-itself q = ap is_eq (tied_itself nat_list_cmp_total q)
-
-pub differ : (q k : List ℕ) → eq_by_cmp text_order q k ≡ false → q ≢ k
-differ q k other same = contrary (eq_by_cmp text_order q k) ⊥ (ap (λ (x : List ℕ). eq_by_cmp text_order x k) same ∙ itself k) other
-
 -- ---- sorted records
 
-pub first : (a b : Bool) → T (a && b) → T a
-first true b p = tt
-first false b p = p
-
-pub second : (a b : Bool) → T (a && b) → T b
-second true b p = p
-second false b p = absurd p
-
-less : (o : Ordering) → T (is_lt o) → o ≡ Less
-less Less p = refl
-less Equal p = absurd p
-less Greater p = absurd p
-
 pub below_part : (q : List ℕ) (xs : List Record) (e : Record) (ys : List Record) → T (below_all text_order q (xs ++ e ∷ ys)) → text_order q e.0 ≡ Less
-below_part q [] e ys h = less _ (first _ _ h)
-below_part q (x ∷ xs) e ys h = below_part q xs e ys (second (is_lt (text_order q x.0)) _ h)
+below_part q [] e ys h = less _ (halves _ _ h).0
+below_part q (x ∷ xs) e ys h = below_part q xs e ys (halves (is_lt (text_order q x.0)) _ h).1
 
 -- no record in front has the key of a later one
 fresh : (front : List Record) (e : Record) (rest : List Record) → T (is_sorted text_order (front ++ e ∷ rest)) → find text_order e.0 front ≡ None
 fresh [] e rest h = refl
 fresh (x ∷ xs) e rest h =
-    ap (λ b. cond b (Some x.1) (find text_order e.0 xs)) (greater x.0 e.0 (below_part x.0 xs e rest (first _ _ h))) ∙ fresh xs e rest (second (below_all text_order x.0 (xs ++ e ∷ rest)) _ h)
+    ap (λ b. cond b (Some x.1) (find text_order e.0 xs)) (greater x.0 e.0 (below_part x.0 xs e rest (halves _ _ h).0)) ∙ fresh xs e rest (halves (below_all text_order x.0 (xs ++ e ∷ rest)) _ h).1
 
 sorted_back : (front rest : List Record) → T (is_sorted text_order (front ++ rest)) → T (is_sorted text_order rest)
 sorted_back [] rest h = h
-sorted_back (x ∷ xs) rest h = sorted_back xs rest (second (below_all text_order x.0 (xs ++ rest)) _ h)
+sorted_back (x ∷ xs) rest h = sorted_back xs rest (halves (below_all text_order x.0 (xs ++ rest)) _ h).1
 
 missed : (q k : List ℕ) (rest : List Record) → text_order q k ≡ Less → T (below_all text_order k rest) → find text_order q rest ≡ None
 missed q k [] e h = refl
 missed q k (x ∷ xs) e h =
-    let low : text_order q x.0 ≡ Less = nat_list_cmp_total.trans q k x.0 e (less _ (first _ _ h)) in
-    ap (λ o. cond (is_eq o) (Some x.1) (find text_order q xs)) low ∙ missed q k xs e (second (is_lt (text_order k x.0)) _ h)
+    let low : text_order q x.0 ≡ Less = nat_list_cmp_total.trans q k x.0 e (less _ (halves _ _ h).0) in
+    ap (λ o. cond (is_eq o) (Some x.1) (find text_order q xs)) low ∙ missed q k xs e (halves (is_lt (text_order k x.0)) _ h).1
 
 -- what is found, and not behind, is found in front
 in_front : (q : List ℕ) (front rest : List Record) → find text_order q rest ≡ None → find text_order q (front ++ rest) ≡ find text_order q front
@@ -106,7 +74,7 @@ module _ (held : FinMap text_order (List ℕ)) (front rest : List Record) (e : R
   pub held_before : (q : List ℕ) → text_order q e.0 ≡ Less → get held q ≡ get (held_by front) q
   held_before q low = there q ∙ in_front q front (e ∷ rest) skipped ∙ sym (get-from_entries nat_list_cmp_total front q) where
     skipped : find text_order q (e ∷ rest) ≡ None
-    skipped = ap (λ o. cond (is_eq o) (Some e.1) (find text_order q rest)) low ∙ missed q e.0 rest low (first _ _ (sorted_back front (e ∷ rest) sorted))
+    skipped = ap (λ o. cond (is_eq o) (Some e.1) (find text_order q rest)) low ∙ missed q e.0 rest low (halves _ _ (sorted_back front (e ∷ rest) sorted)).0
 
   said : (q : List ℕ) → get (held_by (front ++ e ∷ [])) q ≡ cond (eq_by_cmp text_order q e.0) (Some e.1) (get (held_by front) q)
   said q = get-from_entries nat_list_cmp_total (front ++ e ∷ []) q ∙ find-append text_order nat_list_cmp_total front e.0 e.1 q none

@@ -1,7 +1,7 @@
 -- A sorted map, whose keys compare by their bytes, is the finite map from those bytes.
 -- `bytes` gives the bytes of a key.
 use Rattle.std.specs.List.{filter}
-use Rattle.std.proofs.Common.{option_map, ◌≡◌, ℕ, suc, Bool, true, false, cond, List, [], ◌∷◌, map, length, Option, Some, None, Ordering, Less, Equal, is_eq, bytes_eq, refl, sym, ap, subst, ◌∙◌, ⊎_elim, Result, Ok, Err, OnErr}
+use Rattle.std.proofs.Common.{option_map, ◌≡◌, ℕ, suc, Bool, true, false, cond, List, [], ◌∷◌, map, length, Option, Some, None, Ordering, Less, Equal, is_eq, bytes_eq, refl, sym, ap, subst, ◌∙◌, ⊎_elim}
 use Rattle.std.specs.BTreeMap.{BTreeMap, UpdatesBy, is_at}
 use Rattle.std.specs.Map.{lookup, IsKeyTest, AreApart, KeepsOthers}
 use Rattle.std.specs.Cmp.{eq_by_cmp_equiv}
@@ -20,11 +20,6 @@ use Rattle.containers.specs.TextMaps.Nexts.{first}
 -- only equal texts tie
 pub exact_texts : (x y : List ℕ) → text_order x y ≡ Equal → x ≡ y
 exact_texts = slice_cmp-IsAntisymmetric nat_cmp-IsAntisymmetric
-
--- a fact that holds in any case holds on an error
-pub on_err : {T E P : Type 0} (r : Result T E) → P → OnErr r P
-on_err (Ok x) p = tt
-on_err (Err e) p = p
 
 -- the test that finds the key with these bytes
 abbrev pub is_keyed : {K : Type 0} → (K → List ℕ) → List ℕ → K → Bool

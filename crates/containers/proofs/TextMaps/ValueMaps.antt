@@ -9,7 +9,8 @@ use Rattle.std.proofs.lemmas.Cmp.{tied_itself}
 use Rattle.std.proofs.lemmas.List.{nil_from_length}
 use Rattle.containers.specs.TextMaps.Keyed.{keyed, with_values}
 use Rattle.containers.specs.TextMaps.Nexts.{is_behind, left, IsNext, IsKeyStep}
-use Rattle.containers.proofs.TextMaps.Walks.{found_above, halves, less}
+use Rattle.containers.proofs.TextMaps.Walks.{found_above}
+use Rattle.containers.proofs.Plain.{halves, less}
 
 module _ {K X Y : Type 0} {R : K → K → Ordering} (o : IsTotalOrder R) (h : X → Y) where
   abbrev on_value : K × X → K × Y

@@ -1,5 +1,5 @@
 -- What the first entry behind a key is to a walk over a map. R is the order of the keys.
-use Rattle.std.proofs.Common.{Bor, ℕ, map, ◌≡◌, Bool, true, false, ◌&&◌, cond, T, List, [], ◌∷◌, Option, Some, None, Ordering, Less, Equal, Greater, is_eq, refl, sym, ap, subst, ◌∙◌, ⊎_elim, option_map, IfSome, IsSome}
+use Rattle.std.proofs.Common.{Bor, ℕ, map, ◌≡◌, Bool, true, false, cond, T, List, [], ◌∷◌, Option, Some, None, Ordering, Less, Equal, Greater, is_eq, refl, sym, ap, subst, ◌∙◌, ⊎_elim, option_map, IfSome, IsSome}
 use Rattle.std.specs.List.{filter}
 use Rattle.std.specs.List.Sorted.{IsStrictlySortedBy}
 use Rattle.std.specs.Option.{option_copied}
@@ -13,16 +13,7 @@ use Rattle.std.specs.FinMap.Entries.{below_all}
 use Rattle.containers.specs.TextMaps.Keyed.{text_order, keyed}
 use Rattle.containers.proofs.TextMaps.KeyedMaps.{order_by, entries-keyed, first-keyed}
 use Rattle.containers.specs.TextMaps.Nexts.{first, is_behind, left, IsNext, IsStep, IsKeyStep}
-
-pub halves : (a b : Bool) → T (a && b) → T a × T b
-halves true true h = (tt, tt)
-halves true false h = absurd h
-halves false b h = absurd h
-
-pub less : (o : Ordering) → T (is_lt o) → o ≡ Less
-less Less h = refl
-less Equal h = absurd h
-less Greater h = absurd h
+use Rattle.containers.proofs.Plain.{halves, less}
 
 module _ {K : Type 0} {R : K → K → Ordering} (o : IsTotalOrder R) where
   still_behind : (after : Option K) (x y : K) → is_behind R after x ≡ true → R x y ≡ Less → is_behind R after y ≡ true

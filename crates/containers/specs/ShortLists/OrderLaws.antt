@@ -10,8 +10,8 @@ use Rattle.std.proofs.lemmas.Slice.Eq.{bytes_eq-Decides}
 use Rattle.std.proofs.lemmas.List.{length-append}
 use Rattle.containers.specs.ShortLists.Order.{list_order}
 
-below : (m n : ℕ) → m < n → nat_cmp m n ≡ Less
-below m n h = sym (nat_cmp_is m n Less h)
+pub cmp_less : (m n : ℕ) → m < n → nat_cmp m n ≡ Less
+cmp_less m n h = sym (nat_cmp_is m n Less h)
 
 same : (n : ℕ) → nat_cmp n n ≡ Equal
 same n = tied_itself nat_cmp_total n
@@ -32,7 +32,7 @@ tied_same xs ys e =
 pub same_tied : (xs ys : List ℕ) → xs ≡ ys → list_order xs ys ≡ Equal
 same_tied xs ys e = ap (list_order xs) (sym e) ∙ tied_itself order_total xs
 
-by_both : (a b : Bool) → (a ≡ true → b ≡ true) → (b ≡ true → a ≡ true) → a ≡ b
+pub by_both : (a b : Bool) → (a ≡ true → b ≡ true) → (b ≡ true → a ≡ true) → a ≡ b
 by_both true b h k = sym (h refl)
 by_both false true h k = k refl
 by_both false false h k = refl
@@ -43,10 +43,10 @@ equal_where_tied xs ys =
     (λ e. (bytes_eq-Decides xs ys).1 (tied_same xs ys ((Equal-is (list_order xs ys)).0 e)))
 
 pub shorter_first : (xs ys : List ℕ) → length xs < length ys → list_order xs ys ≡ Less
-shorter_first xs ys h = ap (λ r. ordering_then r (slice_cmp nat_cmp xs ys)) (below (length xs) (length ys) h)
+shorter_first xs ys h = ap (λ r. ordering_then r (slice_cmp nat_cmp xs ys)) (cmp_less (length xs) (length ys) h)
 
 numbers_first : (front xs ys : List ℕ) (m n : ℕ) → m < n → slice_cmp nat_cmp (front ++ m ∷ xs) (front ++ n ∷ ys) ≡ Less
-numbers_first [] xs ys m n h = ap (λ r. ordering_then r (slice_cmp nat_cmp xs ys)) (below m n h)
+numbers_first [] xs ys m n h = ap (λ r. ordering_then r (slice_cmp nat_cmp xs ys)) (cmp_less m n h)
 numbers_first (k ∷ front) xs ys m n h = ap (λ r. ordering_then r (slice_cmp nat_cmp (front ++ m ∷ xs) (front ++ n ∷ ys))) (same k) ∙ numbers_first front xs ys m n h
 
 pub first_decides : (front xs ys : List ℕ) (m n : ℕ) → length xs ≡ length ys → m < n → list_order (front ++ m ∷ xs) (front ++ n ∷ ys) ≡ Less

@@ -13,7 +13,7 @@ use Rattle.serde_json.specs.Find.{get_member}
 use Rattle.serde_json.proofs.Views.{get_member-put, get_member-put_other}
 use Rattle.containers.specs.TextMaps.Keyed.{text_order}
 use Rattle.containers.proofs.TextMaps.KeyedMaps.{exact_texts}
-use Rattle.containers.proofs.TextMaps.Walks.{found_above, halves}
+use Rattle.containers.proofs.TextMaps.Walks.{found_above}
 use Rattle.object_ids.specs.IdOrder.{id_order}
 use Rattle.object_ids.specs.IdValues.{Id}
 use Rattle.object_ids.specs.Ids.{InRange, text_of_id}
@@ -21,14 +21,13 @@ use Rattle.object_ids.proofs.IdOrders.{id_order_once, id_order_total}
 use Rattle.object_ids.proofs.IdTexts.{same_id}
 use Rattle.documents.specs.Domains.Documents.{put_entries, put_entry}
 use Rattle.documents.specs.Domains.Laws.{keys_of}
+use Rattle.containers.proofs.Plain.{halves}
+use Rattle.containers.proofs.TextMaps.TextOrders.{turned}
 
 -- ---- keys in order
 
 abbrev Below : List ℕ → Members → Type 0
 Below x ms = AllByRecursion (λ y. text_order x y ≡ Less) (keys_of ms)
-
-turned : (k l : List ℕ) → text_order k l ≡ Greater → text_order l k ≡ Less
-turned k l e = nat_list_cmp_total.antisymm l k ∙ ap ordering_reverse e
 
 below_less : (k l : List ℕ) (ms : Members) → text_order k l ≡ Less → Below l ms → Below k ms
 below_less k l no_members lt h = tt

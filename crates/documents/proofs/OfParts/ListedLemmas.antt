@@ -12,9 +12,7 @@ use Rattle.documents.specs.Parts.Faults.{Fault, fault}
 use Rattle.documents.specs.Parts.Items.{each_item, items_at, listed_at}
 use Rattle.documents.specs.Parts.Spelled.{AreListedAt, AreListedIn, AreNew, put_pairs}
 use Rattle.documents.specs.declared.parts.faults.DocCause.TheVariants.{NotADocument, Limit}
-
-pub ok_same : {A E : Type 0} (x y : A) → ◌≡◌ {A = Result A E} (Ok x) (Ok y) → x ≡ y
-ok_same x y e = cc
+use Rattle.containers.proofs.Plain.{ok_same}
 
 pub not_ok : {A : Type 0} (f : Fault) (x : A) → Err f ≡ Ok x → ⊥
 not_ok f x e = cc

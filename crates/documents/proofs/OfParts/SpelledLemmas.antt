@@ -49,7 +49,8 @@ use Rattle.documents.specs.Parts.Types.{kind_at, typed}
 use Rattle.documents.specs.declared.parts.faults.DocCause.TheVariants.{NotADocument, BadType, BadShape, BadName, BadLink}
 use Rattle.documents.specs.declared.parts.targets.Target.{Target}
 use Rattle.documents.specs.declared.parts.targets.Target.TheVariants.{Hard, Soft, External}
-use Rattle.documents.proofs.OfParts.ListedLemmas.{bind_at, listed_complete, listed_sound, not_ok, ok_same}
+use Rattle.documents.proofs.OfParts.ListedLemmas.{bind_at, listed_complete, listed_sound, not_ok}
+use Rattle.containers.proofs.Plain.{ok_same}
 
 -- what has a text at a key is an object
 object_of_text : (k : List ℕ) (d : Data) (t : List ℕ) → text_at k d ≡ Some t → (ms : Members) × (as_object d ≡ Some ms)

@@ -1,5 +1,5 @@
 -- Collections that are read member by member: what is read is what they spell, and the other way.
-use Rattle.std.proofs.Common.{◌≡◌, ℕ, List, [], ◌∷◌, true, false, Option, Some, None, IsSome, is_some, Result, Ok, refl, sym, ap, subst, ◌∙◌}
+use Rattle.std.proofs.Common.{◌≡◌, ℕ, List, [], ◌∷◌, Option, Some, None, IsSome, is_some, Result, Ok, refl, sym, ap, subst, ◌∙◌}
 use Rattle.std.specs.List.{AllZip}
 use Rattle.std.specs.FinMap.{FinMap, empty, insert}
 use Rattle.std.specs.Option.{ok_or}
@@ -12,9 +12,10 @@ use Rattle.documents.specs.Parts.Faults.{Fault, fault}
 use Rattle.documents.specs.Parts.Items.{members_at}
 use Rattle.documents.specs.Parts.Spelled.{put_pairs}
 use Rattle.documents.specs.declared.parts.faults.DocCause.TheVariants.{NotADocument}
-use Rattle.documents.proofs.OfParts.ListedLemmas.{bind_at, not_ok, ok_same}
+use Rattle.documents.proofs.OfParts.ListedLemmas.{bind_at, not_ok}
 use Rattle.documents.specs.Reader.Collections.{each_member, needed_at, part_at}
 use Rattle.documents.specs.Reader.Loads.{IsCollection, IsMember, IsNeeded, IsPart, pairs_of}
+use Rattle.containers.proofs.Plain.{some_value, ok_same}
 
 pub members_sound : (path : List ℕ) (d : Data) (ms : Members) → members_at path d ≡ Ok ms → as_object d ≡ Some ms
 members_sound path d ms e = ok_or_ok (as_object d) (fault path NotADocument) ms e
@@ -22,16 +23,10 @@ members_sound path d ms e = ok_or_ok (as_object d) (fault path NotADocument) ms 
 pub is_some_of : {A : Type 0} (o : Option A) (x : A) → o ≡ Some x → IsSome o
 is_some_of o x e = ap is_some e
 
-pub some_is : {A : Type 0} (o : Option A) → IsSome o → (x : A) × (o ≡ Some x)
-some_is None h = absurd (apart h) where
-  apart : false ≡ true → ⊥
-  apart e = cc
-some_is (Some x) h = (x, refl)
-
 -- the members of what is an object
 pub members_there : (path : List ℕ) (d : Data) → IsSome (as_object d) → (ms : Members) × (members_at path d ≡ Ok ms)
 members_there path d h =
-    let o = some_is (as_object d) h in
+    let o = some_value (as_object d) h in
     (o.0, ap (λ (q : Option Members). ok_or q (fault path NotADocument)) o.1)
 
 module _ {X : Type 0} (R : List ℕ → Data → X → Type 0) (step : List ℕ → FinMap text_order X → Data → Result (FinMap text_order X) Fault) where

@@ -16,7 +16,7 @@ use Rattle.documents.specs.Parts.Faults.{Answers, Fault, fault}
 use Rattle.documents.specs.Parts.Items.{members_at}
 use Rattle.documents.specs.declared.parts.faults.DocCause.TheVariants.{BadJson, NotADocument, TooLong}
 use Rattle.documents.specs.declared.parts.faults.DocFault.{DocFault}
-use Rattle.documents.proofs.OfParts.ListedLemmas.{bind_at, not_ok, ok_same}
+use Rattle.documents.proofs.OfParts.ListedLemmas.{bind_at, not_ok}
 use Rattle.documents.specs.Reader.Collections.{dataset_step, datasets_at, datatype_step, datatypes_at, group_step, groups_at}
 use Rattle.documents.specs.Reader.Documents.{doc_of, root_at, tree_doc, version_at}
 use Rattle.documents.specs.Reader.Loads.{IsDataset, IsDatatype, IsGroup, IsNeeded, IsPart, IsVersion, Loads, LoadsText}
@@ -26,6 +26,7 @@ use Rattle.documents.specs.declared.reader.loaded.Loaded.{Loaded}
 use Rattle.documents.proofs.OfReader.CollectionLemmas.{is_some_of, members_sound, members_there, needed_complete, needed_sound, part_complete, part_sound}
 use Rattle.documents.proofs.OfReader.ParseLemmas.{json_gone, json_read}
 use Rattle.documents.proofs.OfReader.ObjectLemmas.{dataset_complete, dataset_sound, datatype_complete, datatype_sound, group_complete, group_sound}
+use Rattle.containers.proofs.Plain.{ok_same}
 
 -- ---- parts
 

@@ -12,7 +12,7 @@ use Rattle.documents.specs.Parts.Items.{members_at}
 use Rattle.documents.specs.Parts.Paths.{under}
 use Rattle.documents.specs.Parts.Types.{kind_at}
 use Rattle.documents.specs.declared.parts.faults.DocCause.TheVariants.{NotADocument}
-use Rattle.documents.proofs.OfParts.ListedLemmas.{bind_at, ok_same}
+use Rattle.documents.proofs.OfParts.ListedLemmas.{bind_at}
 use Rattle.documents.proofs.OfParts.SpelledLemmas.{array_complete, array_sound, attributes_complete, attributes_sound, kind_complete, kind_sound, links_complete, links_sound}
 use Rattle.documents.specs.Reader.Collections.{dataset_step, datatype_step, group_step}
 use Rattle.documents.specs.Reader.Loads.{IsDataset, IsDatatype, IsGroup}
@@ -21,6 +21,7 @@ use Rattle.documents.specs.declared.reader.loaded.Dataset.{Dataset}
 use Rattle.documents.specs.declared.reader.loaded.Datatype.{Datatype}
 use Rattle.documents.specs.declared.reader.loaded.Group.{Group}
 use Rattle.documents.proofs.OfReader.CollectionLemmas.{is_some_of, members_sound, members_there}
+use Rattle.containers.proofs.Plain.{ok_same}
 
 new_type : (id : List ℕ) (document : Data) → is_new_type id document ≡ true → (is_length id ≡ true) × (has_id (codes "datasets") id document ≡ false)
 new_type id document h =

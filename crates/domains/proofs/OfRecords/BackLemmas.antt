@@ -1,7 +1,7 @@
 -- The members that an access list is printed as read as the list.
-use Rattle.std.proofs.Common.{◌≡◌, ℕ, suc, ◌≤◌, List, [], ◌∷◌, ◌++◌, length, T, Bool, true, false, cond, ◌&&◌, nat_le, Option, Some, None, option_map, option_and_then, Ordering, Less, is_eq, is_lt, refl, sym, ap, subst, arith, append_assoc, append-nil, ◌∙◌}
+use Rattle.std.proofs.Common.{◌≡◌, ℕ, suc, ◌≤◌, List, [], ◌∷◌, ◌++◌, length, T, Bool, true, false, cond, ◌&&◌, nat_le, Option, Some, None, option_map, option_and_then, Ordering, is_eq, is_lt, refl, sym, ap, subst, arith, append_assoc, append-nil, ◌∙◌}
 use Rattle.std.specs.Cmp.{Equal-is}
-use Rattle.std.specs.Ordering.{eq_by_cmp, ordering_reverse}
+use Rattle.std.specs.Ordering.{eq_by_cmp}
 use Rattle.std.specs.FinMap.{entries, entries_sorted, find, from_entries, from_entries_push, from_sorted, entries-from_sorted, get-entries, get-from_entries, get-from_sorted, is_sorted, len-entries, same_map}
 use Rattle.std.specs.FinMap.Entries.{below_all, find-append}
 use Rattle.std.specs.List.{AllByRecursion}
@@ -11,7 +11,7 @@ use Rattle.serde_json.specs.Data.{depth, members_depth}
 use Rattle.json_trees.specs.Trees.{all_in}
 use Rattle.containers.specs.TextMaps.Keyed.{text_order}
 use Rattle.containers.proofs.TextMaps.KeyedMaps.{exact_texts}
-use Rattle.containers.proofs.TextMaps.Walks.{found_above, halves, less}
+use Rattle.containers.proofs.TextMaps.Walks.{found_above}
 use Rattle.object_ids.specs.Names.{is_name}
 use Rattle.access_lists.specs.EntryTrees.{entry_members, entry_tree, list_tree}
 use Rattle.access_lists.specs.InForce.{Entries}
@@ -19,12 +19,11 @@ use Rattle.access_lists.specs.Lists.{IsList}
 use Rattle.access_lists.specs.declared.rights.Rights.{Rights}
 use Rattle.domains.proofs.OfRecords.TidyLemmas.{Above, IsRising}
 use Rattle.domains.specs.Records.Lists.{entry_in, entry_of, list_in, map_of, only_if, pairs_of, with_entries}
+use Rattle.containers.proofs.Plain.{halves, less}
+use Rattle.containers.proofs.TextMaps.TextOrders.{greater}
 
 abbrev pub Row : Type 0
 Row = List ℕ × Rights
-
-unlike : (x y : List ℕ) → text_order x y ≡ Less → eq_by_cmp text_order y x ≡ false
-unlike x y e = ap is_eq (nat_list_cmp_total.antisymm y x ∙ ap ordering_reverse e)
 
 -- ---- entries put in their order make the map
 
@@ -43,7 +42,7 @@ unfolding Apart
 apart_push done e [] none low apart = tt
 apart_push done e (f ∷ fs) none low apart =
     let more : find text_order f.0 (done ++ e ∷ []) ≡ cond (eq_by_cmp text_order f.0 e.0) (Some e.1) (find text_order f.0 done) = find-append text_order nat_list_cmp_total done e.0 e.1 f.0 none in (
-      more ∙ ap (λ b. cond b (Some e.1) (find text_order f.0 done)) (unlike e.0 f.0 (less _ (halves _ _ low).0)) ∙ apart.0,
+      more ∙ ap (λ b. cond b (Some e.1) (find text_order f.0 done)) (greater e.0 f.0 (less _ (halves _ _ low).0)) ∙ apart.0,
       apart_push done e fs none (halves _ _ low).1 apart.1,
     )
 
@@ -69,7 +68,7 @@ each_found : (es : List Row) → T (is_sorted text_order es) → ((k : List ℕ)
 each_found [] rising held = tt
 each_found (e ∷ es) rising held = (
   held e.0 e.1 (ap (λ r. cond (is_eq r) (Some e.1) (find text_order e.0 es)) (tied_itself nat_list_cmp_total e.0)),
-  each_found es (halves _ _ rising).1 (λ k v f. held k v (ap (λ b. cond b (Some e.1) (find text_order k es)) (unlike e.0 k (found_above nat_list_cmp_total e.0 k es v (halves _ _ rising).0 f)) ∙ f)),
+  each_found es (halves _ _ rising).1 (λ k v f. held k v (ap (λ b. cond b (Some e.1) (find text_order k es)) (greater e.0 k (found_above nat_list_cmp_total e.0 k es v (halves _ _ rising).0 f)) ∙ f)),
 )
 
 row_back : (e : Row) → is_name (length e.0) e.0 ≡ true → entry_of (e.0, entry_tree e.1) ≡ Some e

@@ -6,7 +6,8 @@ use Rattle.serde_json.specs.Find.{get_member}
 use Rattle.containers.specs.TextMaps.Keyed.{text_order}
 use Rattle.containers.proofs.TextMaps.KeyedMaps.{exact_texts}
 use Rattle.domains.specs.Records.Lists.{pairs_of}
-use Rattle.domains.proofs.OfRecords.TidyLemmas.{Above, IsRising, above_weaker, turned, turned_back}
+use Rattle.domains.proofs.OfRecords.TidyLemmas.{Above, IsRising, above_weaker}
+use Rattle.containers.proofs.TextMaps.TextOrders.{turned, turned_back}
 
 abbrev pub count : Members → ℕ
 count no_members = 0

@@ -1,6 +1,6 @@
 -- An object that is read has each key once, in byte order.
-use Rattle.std.proofs.Common.{◌≡◌, ℕ, List, Option, Some, None, option_map, option_and_then, IfSome, Ordering, Less, Equal, Greater, refl, ap, subst, ◌∙◌}
-use Rattle.std.specs.Ordering.{match_ordering, ordering_reverse}
+use Rattle.std.proofs.Common.{◌≡◌, ℕ, List, Option, Some, None, option_map, option_and_then, IfSome, Ordering, Less, Equal, Greater, refl, subst}
+use Rattle.std.specs.Ordering.{match_ordering}
 use Rattle.std.proofs.lemmas.Cmp.{nat_list_cmp_total}
 use Rattle.json.specs.Json as json
 use Rattle.json.specs.Lex.{tokens}
@@ -8,6 +8,7 @@ use Rattle.serde_json.specs.Data.{Data, null, boolean, number, string, array, ob
 use Rattle.serde_json.specs.Find.{get_member}
 use Rattle.serde_json.specs.Read.{max_depth, number_of, of_items, of_json, of_members, read}
 use Rattle.containers.specs.TextMaps.Keyed.{text_order}
+use Rattle.containers.proofs.TextMaps.TextOrders.{turned}
 
 -- a key stands before each of some members
 abbrev pub Above : List ℕ → Members → Type 0
@@ -47,12 +48,6 @@ from_if Q (Some y) x h e = subst Q (let same : y ≡ x = cc in same) h
 pub above_weaker : (k l : List ℕ) (ms : Members) → text_order k l ≡ Less → Above l ms → Above k ms
 above_weaker k l no_members lt h = tt
 above_weaker k l (member m d ms) lt h = (nat_list_cmp_total.trans k l m lt h.0, above_weaker k l ms lt h.1)
-
-pub turned : (k l : List ℕ) → text_order k l ≡ Greater → text_order l k ≡ Less
-turned k l e = nat_list_cmp_total.antisymm l k ∙ ap ordering_reverse e
-
-pub turned_back : (k l : List ℕ) → text_order k l ≡ Less → text_order l k ≡ Greater
-turned_back k l e = nat_list_cmp_total.antisymm l k ∙ ap ordering_reverse e
 
 -- ---- what is put keeps the order
 

@@ -1,5 +1,5 @@
 -- Objects at the serials that are next.
-use Rattle.std.proofs.Common.{◌≡◌, ℕ, suc, ◌+◌, List, [], ◌∷◌, length, Bool, true, false, cond, nat_lt, Option, Some, None, Result, Ok, Err, OnOk, refl, sym, ap, ◌∙◌, arith}
+use Rattle.std.proofs.Common.{◌≡◌, ℕ, suc, ◌+◌, List, [], ◌∷◌, length, Bool, true, false, cond, nat_lt, Option, Some, None, refl, sym, ap, ◌∙◌, arith}
 use Rattle.std.specs.FinMap.{insert}
 use Rattle.object_ids.specs.IdValues.{Id}
 use Rattle.object_ids.specs.declared.ids.Kind.{Kind}
@@ -12,11 +12,6 @@ use Rattle.json_import.specs.Fresh.Names.{behind, with_each}
 use Rattle.json_import.specs.Fresh.Renamed.{numbered}
 use Rattle.json_import.specs.Adoption.Adopted.{drawn}
 use Rattle.json_import.specs.Adoption.Placing.{next_id, placed, placed_each}
-
--- a fact of what was done says another
-pub on_ok : {T E : Type 0} {P Q : Type 0} (r : Result T E) → (P → Q) → OnOk r P → OnOk r Q
-on_ok (Ok x) f p = f p
-on_ok (Err e) f p = tt
 
 -- ---- one object
 

@@ -49,8 +49,8 @@ use Rattle.object_records.specs.Entries.{Entry, Kept, Names}
 use Rattle.object_records.specs.Lists.{attribute_in, attributes_in, listed, name_at, no_fault, put_in}
 use Rattle.object_records.specs.Objects.{kept_in, object_in, object_of_body, spelled_in}
 use Rattle.chunk_owner.specs.Slots.Slots.{IsRecordOf}
-use Rattle.documents.proofs.OfParts.ListedLemmas.{ok_same}
 use Rattle.json_import.proofs.OfAdoption.TextLemmas.{HasTexts, IfFound, ItemsHaveTexts, find_texts, found_map, found_then, texts_read}
+use Rattle.containers.proofs.Plain.{ok_same}
 
 -- ---- one attribute
 

@@ -1,16 +1,14 @@
 -- Which ids the members of a list have, and what is held at them.
-use Rattle.std.proofs.Common.{◌≡◌, ℕ, suc, ◌+◌, ◌<◌, ◌≤◌, ◌⊎◌, inl, inr, List, [], ◌∷◌, ◌++◌, T, Less, Equal, Bool, true, false, map, cond, length, Some, None, IsSome, is_some, unwrap_or, refl, sym, ap, subst, ◌∙◌, arith}
+use Rattle.std.proofs.Common.{◌≡◌, ℕ, suc, ◌+◌, ◌<◌, ◌≤◌, ◌⊎◌, inl, inr, List, [], ◌∷◌, ◌++◌, T, Less, Bool, true, false, map, cond, length, Some, None, IsSome, is_some, unwrap_or, refl, sym, ap, subst, ◌∙◌, arith}
 use Rattle.std.specs.Cmp.{Equal-is}
 use Rattle.std.specs.Cmp.Lexicographic.{nat_list_cmp_total}
 use Rattle.std.specs.List.{AllByRecursion, range_with_len}
 use Rattle.std.specs.Ordering.{eq_by_cmp}
 use Rattle.std.specs.FinMap.{FinMap, entries, find, get, get-entries, get-insert, insert, is_sorted}
 use Rattle.std.specs.FinMap.Entries.{below_all}
-use Rattle.std.proofs.lemmas.Cmp.{tied_itself}
 use Rattle.std.proofs.lemmas.Option.{same_Some}
 use Rattle.containers.specs.TextMaps.Keyed.{text_order}
 use Rattle.containers.proofs.TextMaps.KeyedMaps.{exact_texts}
-use Rattle.containers.proofs.TextMaps.Walks.{halves, less}
 use Rattle.object_ids.specs.IdOrder.{id_order}
 use Rattle.object_ids.specs.IdValues.{Id}
 use Rattle.object_ids.specs.declared.ids.Kind.{Kind}
@@ -18,6 +16,8 @@ use Rattle.object_ids.proofs.IdOrders.{id_order_once, id_order_total}
 use Rattle.json_import.specs.Fresh.Names.{behind, id_in, name_next, numbered_by, with_each}
 use Rattle.json_import.specs.declared.fresh.names.Naming.{Naming}
 use Rattle.json_import.proofs.OfFresh.StandingLemmas.{AreOnce, id_put, name_all, name_kept, object_kept, text_put}
+use Rattle.containers.proofs.Plain.{halves, less}
+use Rattle.containers.proofs.TextMaps.TextOrders.{never_less}
 
 -- the id is one of so many behind another
 pub record IsBehind (last : Id) (many : ℕ) (k : Kind) (id : Id) : Type 0 where
@@ -236,16 +236,13 @@ module _ {X : Type 0} (kind_of : X → Kind) where
   text_below k t (e ∷ es) low (inl same) = ap (text_order k) same ∙ less (text_order k e.0) (halves _ _ low).0
   text_below k t (e ∷ es) low (inr later) = text_below k t es (halves _ _ low).1 later
 
-  not_less : (k : List ℕ) → text_order k k ≡ Less → ⊥
-  not_less k e = let both : Equal ≡ Less = sym (tied_itself nat_list_cmp_total k) ∙ e in absurd (cc)
-
   -- of two texts in order the lesser stands before the other
   pub before_sorted : (es : List (List ℕ × X)) (s t : List ℕ) → T (is_sorted text_order es) → IsText s es → IsText t es
       → text_order s t ≡ Less → IsBefore s t es
   before_sorted [] s t sorted one two below = absurd one
-  before_sorted (e ∷ es) s t sorted (inl first) (inl second) below = absurd (not_less s (ap (text_order s) (first ∙ sym second) ∙ below))
+  before_sorted (e ∷ es) s t sorted (inl first) (inl second) below = absurd (never_less s (ap (text_order s) (first ∙ sym second) ∙ below))
   before_sorted (e ∷ es) s t sorted (inl first) (inr there) below = inl (first, there)
   before_sorted (e ∷ es) s t sorted (inr there) (inl second) below =
       let above : text_order t s ≡ Less = ap (λ k. text_order k s) second ∙ text_below e.0 s es (halves _ _ sorted).0 there in
-      absurd (not_less s (nat_list_cmp_total.trans s t s below above))
+      absurd (never_less s (nat_list_cmp_total.trans s t s below above))
   before_sorted (e ∷ es) s t sorted (inr one) (inr two) below = inr (before_sorted es s t (halves _ _ sorted).1 one two below)

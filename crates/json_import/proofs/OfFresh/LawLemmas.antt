@@ -30,6 +30,7 @@ use Rattle.json_import.proofs.OfFresh.FreshLemmas.{rising as rising_serials}
 use Rattle.json_import.proofs.OfFresh.FreshLemmas.{IsBefore, IsHeldIn, IsNamedBehind, IsText, all_behind, apart, before_behind, before_front, before_sorted, before_texts, entry_text, held_told, name_told, serials_follow, text_above, text_behind, text_front, text_named}
 use Rattle.json_import.proofs.OfFresh.ObjectLemmas.{under_count}
 use Rattle.json_import.proofs.OfFresh.StandingLemmas.{AreOnce, IsAbsent, Stands, absent_joined, all_stand, each_of, id_other, id_put, name_all, name_joined, name_kept, name_kind, object_kept, once_entries, once_joined, text_put}
+use Rattle.containers.proofs.Plain.{some_value}
 
 -- ---- a map that is seen otherwise
 
@@ -392,10 +393,6 @@ module _ (l : Loaded) (root : Id) (m : FinMap id_order Object) where
         (λ i. map (λ text. (id_in (sym named_listed i).names root text).serial) (sym texts_listed i))
         ∙ serials_follow kind_of root listed start listed_once
         ∙ ap (range_with_len (root.serial + 1)) listed_count
-
-    some_value : {X : Type 0} (found : Option X) → IsSome found → (x : X) × (found ≡ Some x)
-    some_value None there = absurd (let both : false ≡ true = there in cc)
-    some_value (Some x) there = (x, refl)
 
     seen_text : {X : Type 0} (h : X → Object) (c : FinMap text_order X) (text : List ℕ) → IsSome (get c text) → IsText kind_of text (entries (with_values h c))
     seen_text h c text there = let x = some_value (get c text) there in entry_text kind_of (with_values h c) text (h x.0) (seen_at h c text x.0 x.1)

@@ -9,10 +9,10 @@ use Rattle.containers.specs.TextMaps.Keyed.{text_order, with_values}
 use Rattle.containers.specs.TextMaps.Nexts.{IsKeyStep, left}
 use Rattle.containers.proofs.TextMaps.KeyedMaps.{exact_texts}
 use Rattle.containers.proofs.TextMaps.ValueMaps.{entries-values}
-use Rattle.containers.proofs.TextMaps.Walks.{halves}
 use Rattle.documents.specs.Parts.Spelled.{put_pairs}
 use Rattle.json_import.specs.Fresh.Taking.{put_at}
 use Rattle.json_import.proofs.OfFresh.TakingLemmas.{left_all, none_again}
+use Rattle.containers.proofs.Plain.{halves}
 
 module _ {Y : Type 0} where
   last_of : (f : Option Y) (y : Y) → None ≡ f → option_or f (Some y) ≡ Some y

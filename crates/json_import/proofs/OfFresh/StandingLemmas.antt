@@ -9,13 +9,13 @@ use Rattle.std.specs.FinMap.Entries.{below_all}
 use Rattle.std.proofs.lemmas.Cmp.{tied_itself}
 use Rattle.containers.specs.TextMaps.Keyed.{text_order}
 use Rattle.containers.proofs.TextMaps.KeyedMaps.{exact_texts}
-use Rattle.containers.proofs.TextMaps.Walks.{halves, less}
 use Rattle.object_ids.specs.IdOrder.{id_order}
 use Rattle.object_ids.specs.IdValues.{Id}
 use Rattle.object_ids.specs.declared.ids.Kind.{Kind}
 use Rattle.object_ids.proofs.IdOrders.{id_order_once, id_order_total}
 use Rattle.json_import.specs.Fresh.Names.{Names, behind, name_each, name_next, numbered_by, with_each}
 use Rattle.json_import.specs.declared.fresh.names.Naming.{Naming}
+use Rattle.containers.proofs.Plain.{halves, less}
 
 -- ---- one entry of a map
 

@@ -8,8 +8,9 @@ use Rattle.std.proofs.lemmas.Cmp.{tied_itself}
 use Rattle.containers.specs.TextMaps.Keyed.{text_order}
 use Rattle.containers.specs.TextMaps.Nexts.{IsStep, left}
 use Rattle.containers.proofs.TextMaps.KeyedMaps.{exact_texts}
-use Rattle.containers.proofs.TextMaps.Walks.{found_above, halves}
+use Rattle.containers.proofs.TextMaps.Walks.{found_above}
 use Rattle.json_import.specs.Fresh.Taking.{Takes}
+use Rattle.containers.proofs.Plain.{halves}
 
 module _ {X : Type 0} where
   -- what is behind nothing is all

@@ -1,6 +1,6 @@
 -- The document of a new domain holds what was read, under the texts of the fresh ids.
 use Rattle.std.proofs.Common.{◌≡◌, ◌≢◌, ◌↔◌, ℕ, ◌*◌, All, true, false, ◌⊎◌, inl, inr, List, ◌∷◌, length, Option, Some, None, IsSome, is_some, option_map, Ok, codes, refl, sym, ap, subst, ◌∙◌, arith}
-use Rattle.std.proofs.lemmas.Bool.{eq-eqb, or_left}
+use Rattle.std.proofs.lemmas.Bool.{eq-eqb, or_left, and_from, or_right}
 use Rattle.std.specs.FinMap.{FinMap, contains_key, entries, get}
 use Rattle.serde_json.specs.Data.{Data, Members, no_members}
 use Rattle.serde_json.specs.Find.{get as find}
@@ -46,10 +46,11 @@ use Rattle.json_import.proofs.OfFresh.LoadedLemmas.{needed_found, part_found, st
 use Rattle.json_import.specs.RoundTrips.Laws.{HasRoom, IsAlone, home_of}
 use Rattle.json_import.specs.RoundTrips.Renamed.{at_texts, renamed, renamed_group, text_in}
 use Rattle.json_import.proofs.RoundTrips.EntryLemmas.{attributes_again, links_again}
-use Rattle.json_import.proofs.RoundTrips.HomeLemmas.{both, behind, held_elem, held_told, id_length, member_is, member_told, no_member, other_rank}
+use Rattle.json_import.proofs.RoundTrips.HomeLemmas.{held_elem, held_told, id_length, member_is, member_told, no_member, other_rank}
 use Rattle.json_import.proofs.RoundTrips.ListLemmas.{are_members, moved_found, moved_there}
 use Rattle.json_import.proofs.RoundTrips.OrderLemmas.{fresh_range}
 use Rattle.json_import.proofs.RoundTrips.PartLemmas.{array_again, kind_again}
+use Rattle.containers.proofs.Plain.{some_value}
 
 -- ---- a new domain
 
@@ -135,24 +136,20 @@ module _
     -- ---- the links of its groups
 
     link_there : (text : List ℕ) → is_there objects home (id_at text) ≡ true
-    link_there text = let at = id_held text in both _ _ (eq-eqb (id_at text).domain root.domain at.0) (or_left _ _ at.1)
-
-    some_of : (found : Option Object) → IsSome found → (o : Object) × (found ≡ Some o)
-    some_of None there = let never : false ≡ true = there in absurd (cc)
-    some_of (Some o) there = (o, refl)
+    link_there text = let at = id_held text in and_from _ _ (eq-eqb (id_at text).domain root.domain at.0) (or_left _ _ at.1)
 
     known_id : (id : Id) (o : Object) → InRange id → id.domain ≡ root.domain → get objects id ≡ Some o
         → is_id (text_of_id id) printed ≡ true
     known_id id o range number is = at id.kind refl where
       at : (k : Kind) → id.kind ≡ k → is_id (text_of_id id) printed ≡ true
-      at kind.Group kinds = behind _ _ (ap is_some (member_there kind.Group id o range kinds number is))
+      at kind.Group kinds = or_right _ _ (ap is_some (member_there kind.Group id o range kinds number is))
       at kind.Dataset kinds = or_left _ _ (or_left _ _ (ap is_some (member_there kind.Dataset id o range kinds number is)))
-      at kind.Datatype kinds = or_left _ _ (behind _ _ (ap is_some (member_there kind.Datatype id o range kinds number is)))
+      at kind.Datatype kinds = or_left _ _ (or_right _ _ (ap is_some (member_there kind.Datatype id o range kinds number is)))
 
     link_known : (text : List ℕ) → is_id (text_at_id text) printed ≡ true
     link_known text =
         let at = id_held text in
-        let found = some_of (get objects (id_at text)) at.1 in
+        let found = some_value (get objects (id_at text)) at.1 in
         known_id (id_at text) found.0 (held_range (id_at text) found.0 found.1 at.0) at.0 found.1
 
     -- ---- its collections

@@ -1,9 +1,9 @@
 -- The document of a domain is loaded as what the domain holds.
-use Rattle.std.proofs.Common.{◌≡◌, ◌≢◌, ◌↔◌, ◌≤◌, ◌<◌, ◌*◌, ◌==◌, ℕ, suc, All, Bool, true, false, ◌&&◌, ◌||◌, inl, inr, T, cond, List, [], ◌∷◌, length, map, slice_index_or, Option, Some, None, IsSome, is_some, is_eq, option_map, Ok, refl, sym, ap, subst, ◌∙◌, arith}
+use Rattle.std.proofs.Common.{◌≡◌, ◌≢◌, ◌↔◌, ◌≤◌, ◌<◌, ◌*◌, ◌==◌, ℕ, suc, All, Bool, true, false, ◌||◌, inl, inr, T, cond, List, [], ◌∷◌, length, map, slice_index_or, Option, Some, None, IsSome, is_some, is_eq, option_map, Ok, refl, sym, ap, subst, ◌∙◌, arith}
 use Rattle.std.specs.Cmp.{Equal-is}
 use Rattle.std.specs.List.{AllByRecursion, filter}
 use Rattle.std.specs.Ordering.{eq_by_cmp}
-use Rattle.std.proofs.lemmas.Bool.{and_parts, eq-eqb, eqb-true, or_left}
+use Rattle.std.proofs.lemmas.Bool.{and_parts, eq-eqb, eqb-true, or_left, and_from, or_right}
 use Rattle.std.proofs.lemmas.Cmp.{tied_itself}
 use Rattle.std.proofs.lemmas.List.{length-map}
 use Rattle.std.specs.FinMap.{FinMap, contains_key, empty, entries, entries_sorted, find as finite_find, get, get-empty, get-entries, get-insert, insert, is_sorted, len, len-empty, len-entries}
@@ -13,7 +13,6 @@ use Rattle.serde_json.specs.Data.{Data, Members, no_members}
 use Rattle.serde_json.specs.Find.{get as find}
 use Rattle.serde_json.specs.Find.{get_member}
 use Rattle.containers.specs.TextMaps.Keyed.{text_order}
-use Rattle.containers.proofs.TextMaps.Walks.{halves}
 use Rattle.object_ids.specs.IdOrder.{id_eq, id_order, kind_rank}
 use Rattle.object_ids.specs.IdValues.{Id}
 use Rattle.object_ids.specs.Ids.{InRange, text_of_id}
@@ -69,9 +68,10 @@ use Rattle.documents.specs.declared.reader.loaded.Datatype.{Datatype}
 use Rattle.documents.specs.declared.reader.loaded.Group.{Group}
 use Rattle.json_import.specs.RoundTrips.Held.{AreSound, IsSoundAt, collection_in, dataset_of, datatype_of, group_of, held_in, held_pairs, pair_before, target_of, targets_in, whole}
 use Rattle.json_import.proofs.RoundTrips.EntryLemmas.{titled_at, values_same}
-use Rattle.json_import.proofs.RoundTrips.HomeLemmas.{behind, both, id_length, member_is, member_told, no_member, other_rank, rank_same, same_id}
+use Rattle.json_import.proofs.RoundTrips.HomeLemmas.{id_length, member_is, member_told, no_member, other_rank, rank_same, same_id}
 use Rattle.json_import.proofs.RoundTrips.ListLemmas.{IsIn, all_free, are_members, listed_of, put_in, put_there, sorted_new, zip_all}
 use Rattle.json_import.proofs.RoundTrips.PartLemmas.{array_held}
+use Rattle.containers.proofs.Plain.{halves, both_tests, some_value}
 
 -- ---- attributes
 
@@ -110,10 +110,6 @@ module _ {X Y : Type 0} (test : X → Bool) (h : X → Y) where
 
   abbrev seen : List (List ℕ × X) → List (List ℕ × Y)
   seen es = map (λ e. (e.0, h e.1)) (kept es)
-
-  both_tests : (a b : Bool) → T a → T b → T (a && b)
-  both_tests true b p q = q
-  both_tests false b p q = absurd p
 
   kept_below : (k : List ℕ) (es : List (List ℕ × X)) → T (below_all text_order k es) → T (below_all text_order k (seen es))
   kept_below k [] low = tt
@@ -184,7 +180,7 @@ no_links = record {
 
 itself : (x : Id) → id_eq x x ≡ true
 itself x =
-    both _ _ (eq-eqb (kind_rank x.kind) (kind_rank x.kind) refl) (both _ _ (eq-eqb x.domain x.domain refl) (both _ _ (eq-eqb x.run x.run refl) (eq-eqb x.serial x.serial refl)))
+    and_from _ _ (eq-eqb (kind_rank x.kind) (kind_rank x.kind) refl) (and_from _ _ (eq-eqb x.domain x.domain refl) (and_from _ _ (eq-eqb x.run x.run refl) (eq-eqb x.serial x.serial refl)))
 
 tied : (x y : Id) → eq_by_cmp id_order x y ≡ true → x ≡ y
 tied x y e = id_order_once x y ((Equal-is (id_order x y)).0 e)
@@ -308,15 +304,11 @@ module _
 
     -- ---- its links
 
-    some_of : (found : Option Object) → IsSome found → (o : Object) × (found ≡ Some o)
-    some_of None there = absurd (let never : false ≡ true = there in cc)
-    some_of (Some o) there = (o, refl)
-
     known_kind : (id : Id) (o : Object) (k : Kind) → kind_of_body o.body ≡ k
         → find (text_of_id id) (collection_tree m h k) ≡ Some (entry_tree m h o) → is_id (text_of_id id) printed ≡ true
-    known_kind id o kind.Group kinds is = behind _ _ (ap is_some is)
+    known_kind id o kind.Group kinds is = or_right _ _ (ap is_some is)
     known_kind id o kind.Dataset kinds is = or_left _ _ (or_left _ _ (ap is_some is))
-    known_kind id o kind.Datatype kinds is = or_left _ _ (behind _ _ (ap is_some is))
+    known_kind id o kind.Datatype kinds is = or_left _ _ (or_right _ _ (ap is_some is))
 
     there_or_root : (id : Id) (found : Option Object) → (is_some found || id_eq id h.root) ≡ true → IsSome (held_or_root h id found)
     there_or_root id (Some o) is = refl
@@ -325,7 +317,7 @@ module _
     known : (id : Id) → is_there m h id ≡ true → is_id (text_of_id id) printed ≡ true
     known id is =
         let parts = and_parts (id.domain == h.number) _ is in
-        let found = some_of (held_or_root h id (get m id)) (there_or_root id (get m id) parts.1) in
+        let found = some_value (held_or_root h id (get m id)) (there_or_root id (get m id) parts.1) in
         let held = held_of id found.0 (whole_is m h id ∙ found.1) (eqb-true id.domain h.number parts.0) in
         known_kind id found.0 (kind_of_body found.0.body) refl (tree_there id found.0 held)
 
@@ -443,7 +435,7 @@ module _
 
     root_there : contains_key (held_in m h).groups (text_of_id h.root) ≡ true
     root_there =
-        let found = some_of (held_or_root h h.root (get m h.root)) (there_or_root h.root (get m h.root) (behind (is_some (get m h.root)) _ (itself h.root))) in
+        let found = some_value (held_or_root h h.root (get m h.root)) (there_or_root h.root (get m h.root) (or_right (is_some (get m h.root)) _ (itself h.root))) in
         let there : get (whole m h) h.root ≡ Some found.0 = whole_is m h h.root ∙ found.1 in
         let held = held_of h.root found.0 there are.number in
         let seen = group_shown found.0.attributes found.0.body (sym held.sound.kinds ∙ are.group) in

@@ -1,6 +1,6 @@
 -- Ids and their texts, kinds, and the members of a domain's document.
-use Rattle.std.proofs.Common.{◌≡◌, ◌≢◌, ◌==◌, Bool, true, false, ◌&&◌, ◌||◌, cond, length, nat_le, nat_lt, Option, Some, None, IsSome, is_some, refl, sym, ap, subst, ◌∙◌, arith}
-use Rattle.std.proofs.lemmas.Bool.{and_parts, eq-eqb, eqb-true, ne_eqb}
+use Rattle.std.proofs.Common.{◌≡◌, ◌≢◌, ◌==◌, Bool, true, false, ◌&&◌, cond, length, nat_le, nat_lt, Option, Some, None, IsSome, is_some, refl, sym, ap, subst, ◌∙◌, arith}
+use Rattle.std.proofs.lemmas.Bool.{and_parts, eq-eqb, eqb-true, ne_eqb, and_from}
 use Rattle.std.proofs.lemmas.List.{length-append}
 use Rattle.std.specs.FinMap.{get}
 use Rattle.uuid.proofs.TextLemmas.{by_index_length}
@@ -56,15 +56,6 @@ held_elem (elems.int t) = refl
 held_elem (elems.text t) = refl
 held_elem (elems.compound fs) = refl
 
-pub both : (a b : Bool) → a ≡ true → b ≡ true → (a && b) ≡ true
-both true true p q = refl
-both true false p q = q
-both false b p q = p
-
-pub behind : (a b : Bool) → b ≡ true → (a || b) ≡ true
-behind true b p = refl
-behind false b p = p
-
 -- ---- the members of a domain
 
 module _ (m : Objects) (h : Home) where
@@ -72,7 +63,7 @@ module _ (m : Objects) (h : Home) where
       → member_at m h k id ≡ Some o
   member_is k id o kinds numbers there =
       let number = eq-eqb id.domain h.number numbers in
-      ap (λ b. cond b (object_at m h id) None) (both _ _ (eq-eqb (kind_rank id.kind) (kind_rank k) (ap kind_rank kinds)) number)
+      ap (λ b. cond b (object_at m h id) None) (and_from _ _ (eq-eqb (kind_rank id.kind) (kind_rank k) (ap kind_rank kinds)) number)
       ∙ ap (λ b. cond b (held_or_root h id (get m id)) None) number ∙ there
 
   pub no_member : (k : Kind) (id : Id) → kind_rank id.kind ≢ kind_rank k → member_at m h k id ≡ None

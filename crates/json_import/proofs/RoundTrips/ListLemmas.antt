@@ -1,5 +1,5 @@
 -- Maps that lists of entries make, put one after another.
-use Rattle.std.proofs.Common.{◌≡◌, ℕ, suc, ◌+◌, ◌≤◌, ◌⊎◌, inl, inr, List, [], ◌∷◌, ◌&&◌, Bool, true, false, T, cond, map, length, Option, Some, None, IsSome, is_some, is_eq, Ordering, Less, Equal, Greater, refl, sym, ap, subst, ◌∙◌, arith}
+use Rattle.std.proofs.Common.{◌≡◌, ℕ, suc, ◌+◌, ◌≤◌, ◌⊎◌, inl, inr, List, [], ◌∷◌, Bool, true, false, T, cond, map, length, Option, Some, None, IsSome, is_some, is_eq, Ordering, Less, Equal, Greater, refl, sym, ap, subst, ◌∙◌, arith}
 use Rattle.std.specs.Cmp.{Equal-is}
 use Rattle.std.specs.Cmp.Lexicographic.{nat_list_cmp_total}
 use Rattle.std.specs.List.{AllByRecursion, AllZip, filter}
@@ -18,7 +18,6 @@ use Rattle.json_trees.proofs.TreeLemmas.{length-AllZip}
 use Rattle.containers.specs.TextMaps.Keyed.{text_order, with_values}
 use Rattle.containers.proofs.TextMaps.KeyedMaps.{exact_texts}
 use Rattle.containers.proofs.TextMaps.ValueMaps.{entries-values}
-use Rattle.containers.proofs.TextMaps.Walks.{halves, less}
 use Rattle.object_ids.proofs.PutLemmas.{insert_most}
 use Rattle.attributes.proofs.MapLemmas.{each_entry}
 use Rattle.documents.specs.Domains.Laws.{keys_of}
@@ -26,10 +25,8 @@ use Rattle.documents.specs.Parts.Spelled.{AreListed, AreListedAt, AreListedIn, A
 use Rattle.json_import.proofs.OfFresh.PutLemmas.{get-put, or_none}
 use Rattle.documents.specs.Reader.Loads.{AreMembers, IsMember, pairs_of}
 use Rattle.json_import.specs.RoundTrips.Renamed.{at_texts}
-
--- a greater key isn't tied with a lesser one
-greater : (x y : List ℕ) → text_order x y ≡ Less → eq_by_cmp text_order y x ≡ false
-greater x y e = ap is_eq (nat_list_cmp_total.antisymm y x ∙ ap ordering_reverse e)
+use Rattle.containers.proofs.Plain.{halves, less, both_tests}
+use Rattle.containers.proofs.TextMaps.TextOrders.{greater}
 
 module _ {X : Type 0} where
   -- the entry stands in the list
@@ -306,10 +303,6 @@ module _ {X Y : Type 0} (text : List ℕ → List ℕ) (h : X → Y) where
 
   IsMoved : FinMap text_order X → Type 0
   IsMoved m = (s t : List ℕ) → IsSome (get m s) → IsSome (get m t) → text_order s t ≡ Less → text_order (text s) (text t) ≡ Less
-
-  both_tests : (a b : Bool) → T a → T b → T (a && b)
-  both_tests true b p q = q
-  both_tests false b p q = absurd p
 
   is_less : (o : Ordering) → o ≡ Less → T (is_lt o)
   is_less Less e = tt

@@ -1,5 +1,5 @@
 -- The texts of fresh ids stand in the order of the texts that they replace.
-use Rattle.std.proofs.Common.{◌≡◌, ◌<◌, ◌^◌, ℕ, true, false, inl, inr, List, ◌∷◌, map, Less, Option, Some, None, IsSome, refl, sym, ap, subst, ◌∙◌, arith}
+use Rattle.std.proofs.Common.{◌≡◌, ◌<◌, ◌^◌, ℕ, inl, inr, List, ◌∷◌, map, Less, IsSome, refl, sym, ap, subst, ◌∙◌, arith}
 use Rattle.std.specs.FinMap.{get, keys}
 use Rattle.std.specs.Ordering.{nat_cmp, ordering_then}
 use Rattle.serde_json.specs.Data.{Data}
@@ -10,7 +10,7 @@ use Rattle.object_ids.specs.Ids.{InRange, text_of_id}
 use Rattle.object_ids.specs.declared.ids.Kind.{Kind}
 use Rattle.object_ids.specs.declared.ids.Kind.TheVariants as kind
 use Rattle.object_ids.proofs.IdTexts.{same_order}
-use Rattle.object_ids.proofs.NumberOrders.{cmp_less, cmp_same}
+use Rattle.object_ids.proofs.NumberOrders.{cmp_same}
 use Rattle.object_acts.specs.declared.objects.Object.{Object}
 use Rattle.documents.specs.Reader.Loads.{Loads}
 use Rattle.documents.specs.declared.reader.loaded.Loaded.{Loaded}
@@ -22,6 +22,8 @@ use Rattle.json_import.proofs.OfFresh.LoadedLemmas.{stand_for_one}
 use Rattle.json_import.specs.RoundTrips.Laws.{AreInOrder, HasRoom}
 use Rattle.json_import.specs.RoundTrips.Renamed.{renamed_group, text_in}
 use Rattle.json_import.proofs.RoundTrips.ListLemmas.{keys_behind, keys_moved}
+use Rattle.containers.proofs.Plain.{some_value}
+use Rattle.containers.specs.ShortLists.OrderLaws.{cmp_less}
 
 -- of two ids of a kind, a domain and a run the one with the lesser serial comes first
 lesser_first : (a b : Id) → a.kind ≡ b.kind → a.domain ≡ b.domain → a.run ≡ b.run → a.serial < b.serial → id_order a b ≡ Less
@@ -61,22 +63,18 @@ module _ (tree : Data) (l : Loaded) (root : Id) (loads : Loads tree l) (room : H
   has_fresh : (text : List ℕ) (o : Object) → HasObject l root text o → FreshAt (kind_of o) text
   has_fresh text o has = ids_fresh l root room.group one text o has
 
-  some_of : {X : Type 0} (found : Option X) → IsSome found → (x : X) × (found ≡ Some x)
-  some_of None there = absurd (let never : false ≡ true = there in cc)
-  some_of (Some x) there = (x, refl)
-
   dataset_fresh : (text : List ℕ) → IsSome (get l.datasets text) → FreshAt kind.Dataset text
-  dataset_fresh text there = let x = some_of (get l.datasets text) there in has_fresh text (dataset_object x.0) (inr (inl (x.0, x.1, refl)))
+  dataset_fresh text there = let x = some_value (get l.datasets text) there in has_fresh text (dataset_object x.0) (inr (inl (x.0, x.1, refl)))
 
   datatype_fresh : (text : List ℕ) → IsSome (get l.datatypes text) → FreshAt kind.Datatype text
-  datatype_fresh text there = let x = some_of (get l.datatypes text) there in has_fresh text (datatype_object x.0) (inr (inr (x.0, x.1, refl)))
+  datatype_fresh text there = let x = some_value (get l.datatypes text) there in has_fresh text (datatype_object x.0) (inr (inr (x.0, x.1, refl)))
 
   group_fresh : (text : List ℕ) → IsSome (get l.groups text) → FreshAt kind.Group text
-  group_fresh text there = let x = some_of (get l.groups text) there in has_fresh text (group_object names root x.0) (inl (x.0, x.1, refl))
+  group_fresh text there = let x = some_value (get l.groups text) there in has_fresh text (group_object names root x.0) (inl (x.0, x.1, refl))
 
   other_fresh : (text : List ℕ) → IsSome (get (others l) text) → FreshAt kind.Group text
   other_fresh text there =
-      let x = some_of (get (others l) text) there in
+      let x = some_value (get (others l) text) there in
       has_fresh text (group_object names root x.0) (inl (x.0, other_is l.groups l.root text x.0 x.1, refl))
 
   root_is : id_at l.root ≡ root
@@ -84,7 +82,7 @@ module _ (tree : Data) (l : Loaded) (root : Id) (loads : Loads tree l) (room : H
 
   pub in_order : AreInOrder l root
   in_order =
-      let top = some_of (get l.groups l.root) one.root in
+      let top = some_value (get l.groups l.root) one.root in
       record {
         groups = keys_behind (text_in names root) (renamed_group names root) l.groups l.root top.0 top.1
             (λ s t first second below. texts_rise kind.Group s t (other_fresh s first) (other_fresh t second) (serials_rise l root one s t (inl (first, second)) below))

@@ -50,9 +50,7 @@ use Rattle.object_acts.specs.Arrays.Creation.{creation_tree, fill_members, layou
 use Rattle.documents.specs.Parts.Arrays.{blank, with_bytes}
 use Rattle.documents.specs.Parts.Spelled.{HasCells, IsArray}
 use Rattle.json_import.proofs.RoundTrips.ValueLemmas.{IsAgain, element_again, fit_again, repeated, repeated_again, repeated_flat, value_again}
-
-ok_same : {A E : Type 0} (x y : A) → ◌≡◌ {A = Result A E} (Ok x) (Ok y) → x ≡ y
-ok_same x y e = cc
+use Rattle.containers.proofs.Plain.{ok_same}
 
 -- ---- types and shapes
 

@@ -1,14 +1,12 @@
 -- The keys of nodes, in the order of bytes, and the records in front of one.
-use Rattle.std.proofs.Common.{◌≡◌, ◌≢◌, ◌⊎◌, inl, inr, ℕ, suc, ◌+◌, ◌==◌, T, Bool, true, false, cond, ◌&&◌, List, [], ◌∷◌, ◌++◌, drop, get_or, take, Option, Some, None, IsSome, is_some, Ordering, Less, Equal, Greater, is_eq, nat_cmp, count_by, refl, sym, ap, ap₂, subst, ◌∙◌, arith}
+use Rattle.std.proofs.Common.{◌≡◌, ◌≢◌, ◌⊎◌, inl, inr, ℕ, suc, ◌+◌, ◌==◌, T, Bool, true, false, cond, ◌&&◌, List, [], ◌∷◌, ◌++◌, drop, get_or, take, Option, Some, None, IsSome, is_some, Ordering, Less, Greater, is_eq, nat_cmp, count_by, refl, sym, ap, ap₂, subst, ◌∙◌, arith}
 use Rattle.std.proofs.lemmas.Bool.{cases_eq, cond-false, cond-true, eq-eqb, eqb-true, ne_eqb}
 use Rattle.std.proofs.Math.Seq.{split_at}
-use Rattle.std.specs.Cmp.{nat_cmp_total}
 use Rattle.std.proofs.lemmas.List.Sums.{sum_by-cons}
 use Rattle.std.specs.Cmp.Lexicographic.{nat_list_cmp_total}
 use Rattle.std.specs.FinMap.{entries, entries_sorted, find, get, get-from_entries, is_sorted}
 use Rattle.std.specs.FinMap.Entries.{below_all}
 use Rattle.std.specs.Ordering.{eq_by_cmp, ordering_then}
-use Rattle.std.proofs.lemmas.Cmp.{tied_itself}
 use Rattle.std.proofs.lemmas.Option.{none-some}
 use Rattle.containers.specs.TextMaps.Keyed.{text_order}
 use Rattle.flush_journal.specs.Records.{Held, Record}
@@ -16,18 +14,17 @@ use Rattle.object_ids.specs.Paths.{is_slash, path_of, parent_of, root_path, star
 use Rattle.object_ids.proofs.PathLemmas.{IsLongPath, has_last_slash, is_path-from_path_of, parent_of-at, parent_of-none, path_cases}
 use Rattle.object_records.specs.Keys.Keys.{node_key}
 use Rattle.containers.specs.TextMaps.Fronts.{held_by}
-use Rattle.containers.proofs.TextMaps.Fronts.{below_part, first, same_key, second}
+use Rattle.containers.proofs.TextMaps.Fronts.{below_part}
 use Rattle.containers.proofs.Passing.{by_bool, contrary}
 use Rattle.register.specs.Installed.Registers.{count_nodes, is_node_key}
+use Rattle.containers.proofs.Plain.{halves}
+use Rattle.containers.proofs.TextMaps.TextOrders.{same_key, never_less, behind_prefix}
 
 pub key_path : (a b : List ℕ) → node_key a ≡ node_key b → a ≡ b
 key_path a b e = cc
 
 pub key_order : (a b : List ℕ) → text_order (node_key a) (node_key b) ≡ text_order a b
 key_order a b = refl
-
-pub never_less : (q : List ℕ) → text_order q q ≡ Less → ⊥
-never_less q e = let c : Equal ≡ Less = sym (tied_itself nat_list_cmp_total q) ∙ e in cc
 
 heads : (x y : Record) (xs ys : List Record) → x ∷ xs ≡ y ∷ ys → x ≡ y
 heads x y xs ys e = cc
@@ -76,10 +73,6 @@ root_before path canonical other = at path (path_cases path (is_path-from_path_o
   at path (inl root) isnt = absurd (isnt root)
   at path (inr l) isnt = long path l.begins isnt
 
-behind_front : (front : List ℕ) (b : ℕ) (rest : List ℕ) → text_order front (front ++ b ∷ rest) ≡ Less
-behind_front [] b rest = refl
-behind_front (p ∷ ps) b rest = ap (λ o. ordering_then o (text_order ps (ps ++ b ∷ rest))) (tied_itself nat_cmp_total p) ∙ behind_front ps b rest
-
 -- a path stands behind its parent
 pub parent_before : (path : List ℕ) → path_of path ≡ Some path → path ≢ root_path → text_order (parent_of path) path ≡ Less
 parent_before path canonical other = elim (has_last_slash path) [
@@ -88,7 +81,7 @@ parent_before path canonical other = elim (has_last_slash path) [
     | inl first ↦ at_root (parent_of-at path found.0 found.1 ∙ cond-true _ _ _ (eq-eqb found.0 0 first))
     | inr later ↦
         let e = parent_of-at path found.0 found.1 ∙ cond-false _ _ _ (ne_eqb found.0 0 later) in
-        ap (λ q. text_order q path) e ∙ ap (text_order (take found.0 path)) (split_at path found.0 0 found.1.within) ∙ behind_front (take found.0 path) (get_or path found.0 0) (drop (suc found.0) path)
+        ap (λ q. text_order q path) e ∙ ap (text_order (take found.0 path)) (split_at path found.0 0 found.1.within) ∙ behind_prefix (take found.0 path) (get_or path found.0 0) (drop (suc found.0) path)
   ]
 ] where
   at_root : parent_of path ≡ root_path → text_order (parent_of path) path ≡ Less
@@ -119,8 +112,8 @@ module _ (held : Held) (front rest : List Record) (e : Record) (split : entries 
     at : (xs : List Record) → T (is_sorted text_order (xs ++ e ∷ rest)) → find text_order q xs ≡ Some body → text_order q e.0 ≡ Less
     at [] s f = absurd (none-some body f)
     at (x ∷ xs) s f = by_bool (eq_by_cmp text_order q x.0) (text_order q e.0 ≡ Less)
-        (λ same. ap (λ k. text_order k e.0) (same_key q x.0 same) ∙ below_part x.0 xs e rest (first _ _ s))
-        (λ other. at xs (second (below_all text_order x.0 (xs ++ e ∷ rest)) _ s) (sym (ap (λ b. cond b (Some x.1) (find text_order q xs)) other) ∙ f))
+        (λ same. ap (λ k. text_order k e.0) (same_key q x.0 same) ∙ below_part x.0 xs e rest (halves _ _ s).0)
+        (λ other. at xs (halves (below_all text_order x.0 (xs ++ e ∷ rest)) _ s).1 (sym (ap (λ b. cond b (Some x.1) (find text_order q xs)) other) ∙ f))
 
 -- the records of a map are split at a key in one way
 pub one_split : (xs ys us vs : List Record) (k a b : List ℕ) → T (is_sorted text_order (xs ++ (k, a) ∷ us)) → xs ++ (k, a) ∷ us ≡ ys ++ (k, b) ∷ vs → xs ≡ ys
@@ -128,9 +121,9 @@ one_split [] [] us vs k a b s e = refl
 one_split [] (y ∷ ys) us vs k a b s e =
     let same : (k, a) ≡ y = heads (k, a) y us (ys ++ (k, b) ∷ vs) e in
     let sorted : T (is_sorted text_order ((y ∷ ys) ++ (k, b) ∷ vs)) = subst (λ (zs : List Record). T (is_sorted text_order zs)) e s in
-    absurd (never_less k (ap (λ (r : Record). text_order r.0 k) same ∙ below_part y.0 ys (k, b) vs (first _ _ sorted)))
+    absurd (never_less k (ap (λ (r : Record). text_order r.0 k) same ∙ below_part y.0 ys (k, b) vs (halves _ _ sorted).0))
 one_split (x ∷ xs) [] us vs k a b s e =
     let same : x ≡ (k, b) = heads x (k, b) (xs ++ (k, a) ∷ us) vs e in
-    absurd (never_less k (ap (λ (r : Record). text_order r.0 k) (sym same) ∙ below_part x.0 xs (k, a) us (first _ _ s)))
+    absurd (never_less k (ap (λ (r : Record). text_order r.0 k) (sym same) ∙ below_part x.0 xs (k, a) us (halves _ _ s).0))
 one_split (x ∷ xs) (y ∷ ys) us vs k a b s e =
-    ap₂ (λ (z : Record) zs. z ∷ zs) (heads x y _ _ e) (one_split xs ys us vs k a b (second (below_all text_order x.0 (xs ++ (k, a) ∷ us)) _ s) (tails x y _ _ e))
+    ap₂ (λ (z : Record) zs. z ∷ zs) (heads x y _ _ e) (one_split xs ys us vs k a b (halves (below_all text_order x.0 (xs ++ (k, a) ∷ us)) _ s).1 (tails x y _ _ e))

@@ -22,11 +22,12 @@ use Rattle.object_records.specs.Keys.Keys.{IsPath, node_key}
 use Rattle.object_records.specs.Keys.Numbers.{next_bytes, run_bytes}
 use Rattle.domains.specs.Records.Nodes.{node_of_body}
 use Rattle.containers.specs.TextMaps.Fronts.{held_by}
-use Rattle.containers.proofs.TextMaps.Fronts.{all_held, differ, held_before, held_here, new_key, nothing_held, said_else, said_here, same_key, split_more, unlike}
+use Rattle.containers.proofs.TextMaps.Fronts.{all_held, held_before, held_here, new_key, nothing_held, said_else, said_here, split_more}
 use Rattle.containers.proofs.Passing.{by_bool, contrary}
 use Rattle.register.specs.Installed.Registers.{IsDomainOf, IsNextNumber, IsNodeRecord, IsRun, KeepsNumber, class_at, count_nodes, is_node_key, node_at}
 use Rattle.register.specs.Installed.Walks.{AreRoots, IsNextOf, IsNodeWalk, NoPut, no_node, no_place, no_number, PutsNode, Roots, is_given, may_stand, number_id, one_without, with_root}
 use Rattle.register.proofs.OfInstalled.NodeKeys.{count_more, front_less, key_path, one_split, other_kind, parent_before, root_before}
+use Rattle.containers.proofs.TextMaps.TextOrders.{same_key, unlike, differ}
 
 abbrev pub class_of : Option Node → Option NodeClass
 class_of o = option_map (λ node. node.class) o

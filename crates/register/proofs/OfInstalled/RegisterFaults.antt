@@ -24,8 +24,10 @@ use Rattle.object_records.specs.declared.install_fault.InstallFault.TheVariants.
 use Rattle.containers.proofs.TextMaps.Fronts.{held_before, held_here}
 use Rattle.register.specs.Installed.Registers.{IsNextNumber, IsNodeRecord, IsRegisterFault, IsRun, bad_node, class_at, no_next, no_root, no_run}
 use Rattle.register.specs.Installed.Walks.{Blames, IsBadNode, IsFirst, IsNodeWalk, Names, Roots}
-use Rattle.register.proofs.OfInstalled.NodeKeys.{never_less, root_first}
+use Rattle.register.proofs.OfInstalled.NodeKeys.{root_first}
 use Rattle.register.proofs.OfInstalled.NodeWalks.{IsRooted, never_some}
+use Rattle.containers.proofs.Passing.{lt_less}
+use Rattle.containers.proofs.TextMaps.TextOrders.{never_less}
 
 abbrev Least : Held → List ℕ → Type 0
 Least held key = IsLeast (IsRegisterFault held) key
@@ -123,15 +125,10 @@ behind_alone (b ∷ bs) = inr refl
 pub lt_true : (o : Ordering) → o ≡ Less → is_lt o ≡ true
 lt_true o e = ap is_lt e
 
-pub true_less : (o : Ordering) → is_lt o ≡ true → o ≡ Less
-true_less Less e = refl
-true_less Equal e = cc
-true_less Greater e = cc
-
 pub first_between : (held : Held) (key : List ℕ) → get held (2 ∷ []) ≡ None → IsNext held (Some (2 ∷ [])) (Some key) → text_order key (node_key root_path) ≡ Less → IsFirst held key
 first_between held key none next low = record { path = between.0; is = between.1; up_to = inr (next.1, low); none = λ other less. at other (behind_alone other) less } where
   between : (path : List ℕ) × (key ≡ node_key path)
-  between = node_between key (true_less _ next.0) low
+  between = node_between key (lt_less _ next.0) low
 
   at : (other : List ℕ) → (node_key other ≡ 2 ∷ []) ⊎ (text_order (2 ∷ []) (node_key other) ≡ Less) → text_order (node_key other) key ≡ Less → get held (node_key other) ≡ None
   at other (inl same) less = ap (get held) same ∙ none

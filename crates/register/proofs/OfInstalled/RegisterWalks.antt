@@ -19,11 +19,12 @@ use Rattle.object_records.specs.Keys.Keys.{node_key}
 use Rattle.domains.specs.Records.Nodes.{node_of_body}
 use Rattle.domains.specs.declared.records.faults.NodeFault.{NodeFault}
 use Rattle.domains.specs.declared.records.faults.NodeFault.TheVariants as of_nodes
-use Rattle.containers.proofs.TextMaps.Fronts.{all_held, differ, same_key, unlike}
+use Rattle.containers.proofs.TextMaps.Fronts.{all_held}
 use Rattle.containers.proofs.Passing.{by_bool, contrary}
 use Rattle.register.specs.Installed.Registers.{DescribesRegister, IsNextNumber, IsNodeRecord, IsRun, KeepsNumber, class_at, is_node_key, node_at}
 use Rattle.register.specs.Installed.Walks.{AreRoots, Blames, IsNodeWalk, PutsNode, Roots, is_given, may_stand, number_id, with_root}
 use Rattle.register.proofs.OfInstalled.NodeWalks.{IsRooted, body_of_node, class_of, never_some, node_of_class}
+use Rattle.containers.proofs.TextMaps.TextOrders.{same_key, unlike, differ}
 
 pub copied_some : {A : Type 0} (o : Option (Bor A)) (p : Option A) → option_copied o ≡ p → is_some o ≡ true → IsSome p
 copied_some None p e s = cc

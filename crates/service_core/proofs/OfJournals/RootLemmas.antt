@@ -10,10 +10,11 @@ use Rattle.std.specs.Cmp.Lexicographic.{nat_list_cmp_total}
 use Rattle.std.proofs.lemmas.Cmp.{tied_itself}
 use Rattle.containers.specs.TextMaps.Keyed.{keyed, text_order}
 use Rattle.containers.proofs.TextMaps.KeyedMaps.{exact_texts}
-use Rattle.containers.proofs.TextMaps.Walks.{found_above, halves}
+use Rattle.containers.proofs.TextMaps.Walks.{found_above}
 use Rattle.object_ids.specs.IdValues.{Id}
 use Rattle.domains.specs.declared.classes.Node.{Node}
 use Rattle.service_core.specs.Journals.Groups.{root_in, roots_in}
+use Rattle.containers.proofs.Plain.{halves}
 
 -- the order of keys doesn't matter
 pub roots-keyed : {K : Type 0} (bytes : K → List ℕ) (nodes : List (K × Node)) → roots_in (keyed bytes nodes) ≡ roots_in nodes

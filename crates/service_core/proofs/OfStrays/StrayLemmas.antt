@@ -10,9 +10,10 @@ use Rattle.flush_journal.specs.Records.{Held, Record}
 use Rattle.object_records.specs.Keys.Keys.{IsSubject, Subject, key_of, node_key}
 use Rattle.object_records.specs.Keys.Keys.{the_run, node, object, chunk, next_number}
 use Rattle.containers.specs.TextMaps.Fronts.{IsLeast, held_by}
-use Rattle.containers.proofs.TextMaps.Fronts.{all_held, held_before, held_here, same_key, split_more}
+use Rattle.containers.proofs.TextMaps.Fronts.{all_held, held_before, held_here, split_more}
 use Rattle.register.specs.Installed.Registers.{is_node_key}
 use Rattle.service_core.specs.Strays.Strays.{HasNoStrays, IsNumberKey, IsObjectKey, IsStray, IsStrayKey}
+use Rattle.containers.proofs.TextMaps.TextOrders.{same_key}
 
 -- ---- keys
 

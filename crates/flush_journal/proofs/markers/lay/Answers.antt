@@ -1,9 +1,10 @@
 use Rattle.std.proofs.Common.{sym, ◌∙◌, subst}
+use Rattle.std.proofs.lemmas.Result.{on_ok_weaker}
 use Rattle.edge_traits.specs.Disks.{Only}
 use Rattle.flush_journal.specs.Markers.{Shut, IsLaid, OnlyHas}
 use Rattle.flush_journal.proofs.MarkerLemmas.{torn_behind, written_behind, laid_shut, images_behind}
 use Rattle.flush_journal.proofs.Moments.{one_call, joined}
-use Rattle.flush_journal.proofs.Results.{on_ok, if_ok}
+use Rattle.flush_journal.proofs.Results.{if_ok}
 use Rattle.flush_journal.proofs.markers.lay.Goals as goal
 
 pub returns-in_err-write_at-clause-kept : goal.returns-in_err-write_at-clause-kept
@@ -39,8 +40,8 @@ returns-clause-moments g c = λ h front place has.
 pub returns-clause-ok : goal.returns-clause-ok
 returns-clause-ok g c = λ h front place has.
     let laid = written_behind front c.args.end place _ _ _ has.now (c.in_ok-write_at.ensures.ok h) in
-    on_ok c.sync.result (Only (g.D.Disk.reads c.write_at.new.self) (g.D.Disk.images c.sync.new.self))
-    (OnlyHas (IsLaid front c.args.frame.now) (g.D.Disk.reads c.sync.new.self) (g.D.Disk.images c.sync.new.self))
+    on_ok_weaker {P = Only (g.D.Disk.reads c.write_at.new.self) (g.D.Disk.images c.sync.new.self)}
+    {Q = OnlyHas (IsLaid front c.args.frame.now) (g.D.Disk.reads c.sync.new.self) (g.D.Disk.images c.sync.new.self)} c.sync.result
     (λ (only : Only (g.D.Disk.reads c.write_at.new.self) (g.D.Disk.images c.sync.new.self)). record {
       now = subst (IsLaid front c.args.frame.now) (sym (c.sync.ensures.reads h)) laid;
       only = λ i left. only i left ∙ sym (c.sync.ensures.reads h);

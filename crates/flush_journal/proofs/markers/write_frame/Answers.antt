@@ -1,8 +1,8 @@
 use Rattle.std.proofs.Common.{◌+◌, length, take, inl}
+use Rattle.std.proofs.lemmas.Result.{on_ok_weaker}
 use Rattle.flush_journal.specs.Markers.{Shut, Opened, Either, MarkerStands}
 use Rattle.flush_journal.proofs.EndMarkers.{shut_of_stands, shut_long, stands_of_either, stands_of_opened}
 use Rattle.flush_journal.proofs.Moments.{joined, weaker}
-use Rattle.flush_journal.proofs.Results.{on_ok}
 use Rattle.flush_journal.proofs.markers.write_frame.Goals as goal
 
 pub returns-in_err-lay-clause-stands : goal.returns-in_err-lay-clause-stands
@@ -33,6 +33,7 @@ pub returns-clause-moved : goal.returns-clause-moved
 returns-clause-moved g c = λ h ends.
     let at = shut_of_stands c.args.end (g.D.Disk.reads c.args.disk.now) (c.requires.stands h) in
     let front = take c.args.end (g.D.Disk.reads c.args.disk.now) in
-    on_ok c.open_marker.result (Opened front c.args.frame.now (g.D.Disk.reads c.open_marker.new.disk)) (MarkerStands (c.args.end + length c.args.frame.now) 0 (g.D.Disk.reads c.open_marker.new.disk))
+    on_ok_weaker {P = Opened front c.args.frame.now (g.D.Disk.reads c.open_marker.new.disk)}
+    {Q = MarkerStands (c.args.end + length c.args.frame.now) 0 (g.D.Disk.reads c.open_marker.new.disk)} c.open_marker.result
     (stands_of_opened front c.args.frame.now _ c.args.end at.0 ends)
     (c.open_marker.ensures.opened h front c.args.frame.now at.0 (c.in_ok-lay.ensures.laid h front at.0 at.1))

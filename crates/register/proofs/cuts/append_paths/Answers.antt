@@ -1,12 +1,12 @@
 use Rattle.std.specs.Option.{option_copied}
 use Rattle.flush_journal.specs.Batches.{records}
-use Rattle.register.proofs.Parts.{on_error}
 use Rattle.register.proofs.PathWalks.{walk_end, walk_fails, walk_more}
 use Rattle.register.proofs.cuts.append_paths.Goals as goal
+use Rattle.containers.proofs.Plain.{on_err}
 
 pub returns-in_err-append_wanted-clause-err : goal.returns-in_err-append_wanted-clause-err
 returns-in_err-append_wanted-clause-err g c =
-    on_error c.from_residual.result
+    on_err c.from_residual.result
     (walk_fails c.args.catalogue.now c.args.keys.now c.args.missing (records c.args.into.now) (records c.loop-path.into) (records c.append_wanted.new.into) (option_copied c.loop-path.last)
     c.in_err-append_wanted.ensures.err c.loop-path.invariant)
 

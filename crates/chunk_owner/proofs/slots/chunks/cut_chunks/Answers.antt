@@ -4,17 +4,17 @@ use Rattle.chunk_store.specs.Marks.{IsNext}
 use Rattle.chunk_owner.specs.Slots.Slots.{is_meant}
 use Rattle.chunk_owner.specs.Slots.Cutting.{AddsChunks}
 use Rattle.std.proofs.Common.{false}
-use Rattle.containers.proofs.Passing.{on_error}
 use Rattle.chunk_owner.proofs.OfSlots.ChunkWalks.{walk_smaller}
 use Rattle.chunk_owner.proofs.OfSlots.ChunkRecords.{cutting_begin, cutting_more, cutting_end, cutting_front, index_there}
 use Rattle.chunk_owner.proofs.slots.chunks.cut_chunks.Goals as goal
+use Rattle.containers.proofs.Plain.{on_err}
 
 pub loop-index-init : goal.loop-index-init
 loop-index-init c = cutting_begin c.args.id.now c.args.mark c.args.array.now (records c.args.into.now)
 
 pub returns-in_err-cut_chunk-clause-err : goal.returns-in_err-cut_chunk-clause-err
 returns-in_err-cut_chunk-clause-err c =
-    on_error c.from_residual.result (AddsChunks c.args.id.now c.args.mark c.args.array.now false (records c.args.into.now) (records c.cut_chunk.new.into))
+    on_err {P = AddsChunks c.args.id.now c.args.mark c.args.array.now false (records c.args.into.now) (records c.cut_chunk.new.into)} c.from_residual.result
     (cutting_front c.args.id.now c.args.mark c.args.array.now (records c.args.into.now) (records c.loop-index.into) c.loop-index.last c.loop-index.invariant (records c.cut_chunk.new.into) c.in_err-cut_chunk.ensures.err)
 
 pub loop-index-smaller : goal.loop-index-smaller

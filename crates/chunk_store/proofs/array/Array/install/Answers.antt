@@ -2,8 +2,8 @@ use Rattle.std.proofs.Common.{List, ℕ, subst}
 use Rattle.hdf_types.specs.Views.{elem as kind_of}
 use Rattle.chunk_store.specs.Marks.{IsChunkOf}
 use Rattle.chunk_store.proofs.PartLemmas.{chunk_back, installs_from, kept_put, kept_same, same_grid, same_marks}
-use Rattle.chunk_store.proofs.GridLemmas.{on_err}
 use Rattle.chunk_store.proofs.array.Array.install.Goals as goal
+use Rattle.containers.proofs.Plain.{on_err}
 
 pub invariant_of-self : goal.invariant_of-self
 invariant_of-self c =

@@ -4,9 +4,9 @@ use Rattle.hdf_values.specs.Nested.{AreEncoded}
 use Rattle.chunk_store.specs.Marks.{Stored}
 use Rattle.chunk_store.specs.Picked.{picked, PicksIn}
 use Rattle.chunk_store.proofs.PartLemmas.{begins_from, frame_sound, kept_grown, kept_written, writes_from}
-use Rattle.chunk_store.proofs.GridLemmas.{on_err}
 use Rattle.chunk_store.proofs.PickLemmas.{picked_inside}
 use Rattle.chunk_store.proofs.array.Array.write.Goals as goal
+use Rattle.containers.proofs.Plain.{on_err}
 
 pub grow-requires-clause-frame : goal.grow-requires-clause-frame
 grow-requires-clause-frame c =

@@ -1,5 +1,6 @@
 use Rattle.std.proofs.Common.{◌≡◌, ◌+◌, ◌<◌, ◌^◌, IfSome, sym, ap, subst, ◌∙◌}
 use Rattle.std.specs.FinMap.{get}
+use Rattle.std.proofs.lemmas.Result.{on_ok_weaker}
 use Rattle.object_ids.specs.IdValues.{Id}
 use Rattle.object_acts.specs.Objects.{kind_of_body}
 use Rattle.register.specs.Decided.{Door, domain_added}
@@ -9,7 +10,6 @@ use Rattle.json_import.specs.Fresh.Names.{names_of, with_root}
 use Rattle.json_import.specs.Fresh.Renamed.{other_count, other_objects, root_object}
 use Rattle.json_import.specs.Adoption.Placing.{placed_each}
 use Rattle.json_import.proofs.OfAdoption.DomainLemmas.{adopted_door, adopted_objects, below_next, root_given, root_kind, root_new}
-use Rattle.json_import.proofs.OfAdoption.PlacingLemmas.{on_ok}
 use Rattle.json_import.proofs.adoption.adoption.make_domain.Goals as goal
 
 pub rename-requires : goal.rename-requires
@@ -53,7 +53,7 @@ returns-clause-door c =
     let others = c.in_ok-renamed.renamed.others in
     let number = ap (λ (id : Id). id.domain) (c.root.view_is ∙ c.in-Ok.ensures.root) in
     let door = c.in_ok-put_root.ensures.door ∙ ap (λ (s : State). s.door) c.in-Ok.ensures.ok in
-    on_ok c.put_others.result
+    on_ok_weaker c.put_others.result
     (λ (put : new ≡ placed_each c.root.inside.domain mid others). adopted_door old c.args.path.now c.args.owner.now c.args.loaded mid new others door c.in_ok-renamed.ensures.many
     (put ∙ ap (λ n. placed_each n mid others) number))
     c.put_others.ensures.world
@@ -69,7 +69,7 @@ returns-clause-objects c =
     let door = c.in_ok-put_root.ensures.door ∙ ap (λ (s : State). s.door) c.in-Ok.ensures.ok in
     let top = c.in_ok-renamed.ensures.root ∙ ap (root_object l) c.in-Ok.ensures.root in
     let root = c.in_ok-put_root.ensures.objects ∙ (λ i. with_root (seen (c.in-Ok.ensures.ok i)).objects (c.in-Ok.ensures.root i) (top i)) in
-    on_ok c.put_others.result
+    on_ok_weaker c.put_others.result
     (λ (put : new ≡ placed_each c.root.inside.domain mid others). adopted_objects old c.args.path.now c.args.owner.now l mid new others door root
     (c.in_ok-renamed.ensures.others ∙ ap (other_objects l) c.in-Ok.ensures.root)
     (put ∙ ap (λ n. placed_each n mid others) number))

@@ -1,9 +1,9 @@
 use Rattle.std.proofs.Common.{ap, sym, ◌∙◌}
 use Rattle.std.specs.FinMap as map
-use Rattle.containers.proofs.TextMaps.KeyedMaps.{on_err}
 use Rattle.containers.proofs.TextMaps.TreeMaps.{get-tree, insert-tree}
 use Rattle.object_ids.proofs.IdOrders.{id_order_once, id_order_total}
 use Rattle.object_ids.proofs.id_map.IdMap.put.Goals as goal
+use Rattle.containers.proofs.Plain.{on_err}
 
 pub returns-in_err-insert-clause-absent : goal.returns-in_err-insert-clause-absent
 returns-in_err-insert-clause-absent g c =

@@ -1,10 +1,11 @@
 use Rattle.std.proofs.Common.{option_map, ap, sym, ◌∙◌}
 use Rattle.std.specs.Cmp.Lexicographic.{nat_list_cmp_total}
 use Rattle.std.specs.FinMap as map
-use Rattle.containers.proofs.TextMaps.KeyedMaps.{exact_texts, on_err}
+use Rattle.containers.proofs.TextMaps.KeyedMaps.{exact_texts}
 use Rattle.containers.proofs.TextMaps.ValueMaps.{get-values, insert-values}
 use Rattle.object_ids.proofs.NamedMaps.{insert_named, value_of}
 use Rattle.object_ids.proofs.name_map.NameMap.put.Goals as goal
+use Rattle.containers.proofs.Plain.{on_err}
 
 pub invariant_of-self : goal.invariant_of-self
 invariant_of-self g c = insert_named c.self.inside.entries c.text.result.now (record { name = c.in-Some.named.now.name; value = c.args.value })

@@ -1,7 +1,8 @@
 use Rattle.std.proofs.Common.{ap, sym, ◌∙◌, vec_items}
 use Rattle.std.specs.FinMap as map
-use Rattle.containers.proofs.TextMaps.KeyedMaps.{get-keyed, insert-keyed, on_err}
+use Rattle.containers.proofs.TextMaps.KeyedMaps.{get-keyed, insert-keyed}
 use Rattle.containers.proofs.text_maps.byte_map.ByteMap.put_copy.Goals as goal
+use Rattle.containers.proofs.Plain.{on_err}
 
 pub returns-in_err-copy-in-Some-clause-absent : goal.returns-in_err-copy-in-Some-clause-absent
 returns-in_err-copy-in-Some-clause-absent g c =
