@@ -11,7 +11,7 @@ use Rattle.std.proofs.lemmas.List.Elements.{All-nil, All-cons, All-head, All-tai
 use Rattle.std.proofs.lemmas.Option.{same_Some}
 use Rattle.serde_json.specs.Data.{Data, null, boolean, number, string, array, object}
 use Rattle.serde_json.specs.Find.{get, as_str, as_object}
-use Rattle.json_trees.specs.Trees.{all_in, whole_in, list_in, list_of, text_at}
+use Rattle.json_trees.specs.Trees.{all_in, whole_in, list_in, list_of, text_at, HasClass}
 use Rattle.json_trees.proofs.TreeLemmas.{and_then_some, map_some, list_in_array, whole_in_number, AllZip-all_in, all_in-AllZip, text_of}
 use Rattle.json_trees.proofs.TableLemmas.{same_bytes}
 use Rattle.json_trees.proofs.FaultLemmas.{chosen, test_ok}
@@ -26,7 +26,7 @@ use Rattle.chunk_layout.specs.declared.LayoutFault.{LayoutFault}
 use Rattle.chunk_layout.specs.declared.LayoutFault.TheVariants.{NotALayout, Rank, TooBig}
 use Rattle.chunk_layout.specs.Chunks.{IsChunkDim}
 use Rattle.chunk_layout.specs.Defaults.{at_least_one, IsDefault}
-use Rattle.chunk_layout.specs.Layouts.{Fits, HasClass, IsObject, IsWhole, AsksNone, AsksChunk, SpellsChunk}
+use Rattle.chunk_layout.specs.Layouts.{Fits, IsObject, IsWhole, AsksNone, AsksChunk, SpellsChunk}
 use Rattle.chunk_layout.specs.Asked.{is_chunk_dim, first_bad, is_too_big, sized_of, ranked, chunked_of, wholes_in, classed, laid, asked_of, IsAnswer}
 use Rattle.shapes.proofs.ChunkDimLemmas.{one_cell}
 use Rattle.chunk_layout.proofs.DefaultLemmas.{one_end, down_fits}

@@ -1,22 +1,19 @@
 -- Layouts, and the creation properties that ask for them.
 use Rattle.std.specs.Prelude.{◌≡◌, ℕ, ◌*◌, ◌≤◌, ◌⊎◌, List, length, All, Some, None, codes}
-use Rattle.serde_json.specs.Data.{Data, Members, object, number, unsigned, string}
+use Rattle.serde_json.specs.Data.{Data, Members, object, number, unsigned}
 use Rattle.serde_json.specs.Find.{get}
 use Rattle.shapes.specs.Extents.{SpellsList}
 use Rattle.shapes.specs.Places.{cell_count}
 use Rattle.shapes.specs.declared.TheConstants.{MAX_CHUNK_BYTES}
 use Rattle.chunk_layout.specs.Chunks.{IsChunkDim}
 use Rattle.chunk_layout.specs.Defaults.{IsDefault}
+use Rattle.json_trees.specs.Trees.{HasClass}
 
 -- a chunk for a grid of these dims, with elements of this size
 pub record Fits (size : ℕ) (dims chunk : List ℕ) : Type 0 where
   pub rank : length chunk ≡ length dims
   pub each_dim : All IsChunkDim chunk
   pub bytes : (size * cell_count chunk ≤ MAX_CHUNK_BYTES) ⊎ (cell_count chunk ≡ 1)
-
--- an object of this class
-abbrev pub HasClass : List ℕ → Data → Type 0
-HasClass word d = get (codes "class") d ≡ Some (string word)
 
 -- an object
 abbrev pub IsObject : Data → Type 0

@@ -7,7 +7,7 @@ use Rattle.object_ids.specs.IdOrder.{id_order, id_eq, kind_rank}
 use Rattle.object_ids.specs.IdValues.{Id}
 use Rattle.object_ids.specs.declared.ids.Kind.{Kind}
 use Rattle.object_ids.specs.declared.ids.Kind.TheVariants as kind
-use Rattle.object_ids.proofs.IdOrders.{id_order_once, id_order_total}
+use Rattle.object_ids.proofs.IdOrders.{id_order_once, id_order_total, tied_ids}
 use Rattle.object_ops.specs.declared.grants.Grant.{Grant}
 use Rattle.object_ops.specs.declared.replies.Reply.{Reply}
 use Rattle.object_ops.specs.declared.replies.Reply.TheVariants.{Done, Refused}
@@ -22,20 +22,19 @@ use Rattle.object_acts.specs.Trees.{body_tree, object_tree}
 use Rattle.chunk_owner.specs.Slots.Changed.{ChangesAt}
 use Rattle.chunk_owner.specs.Lanes.{Objects, set_at, at_id}
 use Rattle.chunk_owner.specs.Acts.{missing, held, seen, read_by, reading, is_done, left, changed_by, changing, removed, removing}
-use Rattle.chunk_owner.proofs.Eaches.{same_id}
 
 -- to put in what is there changes nothing
 insert_same : (m : Objects) (k : Id) (v : Object) → get m k ≡ Some v → insert m k v ≡ m
 insert_same m k v there = same_map id_order_total id_order_once _ _ (λ q. get-insert id_order_total m k v q ∙ at q (eq_by_cmp id_order q k) refl) where
   at : (q : Id) (b : Bool) → eq_by_cmp id_order q k ≡ b → cond b (Some v) (get m q) ≡ get m q
-  at q true e = sym (ap (get m) (same_id q k e) ∙ there)
+  at q true e = sym (ap (get m) (tied_ids q k e) ∙ there)
   at q false e = refl
 
 -- to take out what isn't there changes nothing
 remove_same : (m : Objects) (k : Id) → get m k ≡ None → remove m k ≡ m
 remove_same m k none = same_map id_order_total id_order_once _ _ (λ q. get-remove id_order_total m k q ∙ at q (eq_by_cmp id_order q k) refl) where
   at : (q : Id) (b : Bool) → eq_by_cmp id_order q k ≡ b → cond b None (get m q) ≡ get m q
-  at q true e = sym (ap (get m) (same_id q k e) ∙ none)
+  at q true e = sym (ap (get m) (tied_ids q k e) ∙ none)
   at q false e = refl
 
 pub own_set : (m : Objects) (id : Id) (o : Option Object) → get m id ≡ o → set_at m id o ≡ m

@@ -1,6 +1,5 @@
 -- What holds of each object, as objects come and go, and as requests see them.
 use Rattle.std.proofs.Common.{◌≡◌, Bool, true, false, cond, Option, Some, None, option_map, IfSome, sym, ap, subst, refl, ◌∙◌}
-use Rattle.std.specs.Cmp.{Equal-is}
 use Rattle.std.specs.Ordering.{eq_by_cmp}
 use Rattle.std.specs.FinMap.{empty, get, insert, remove, get-empty, get-insert, get-remove, same_map}
 use Rattle.std.proofs.lemmas.Option.{none-some}
@@ -9,15 +8,12 @@ use Rattle.containers.proofs.TextMaps.ValueMaps.{get-values}
 use Rattle.object_ids.specs.IdOrder.{id_order}
 use Rattle.object_ids.specs.IdValues.{Id}
 use Rattle.object_ids.specs.declared.ids.Kind.{Kind}
-use Rattle.object_ids.proofs.IdOrders.{id_order_once, id_order_total}
+use Rattle.object_ids.proofs.IdOrders.{id_order_once, id_order_total, tied_ids}
 use Rattle.object_acts.specs.declared.objects.Object.{Object}
 use Rattle.object_acts.specs.declared.objects.Body.{Body}
 use Rattle.object_acts.specs.declared.objects.Body.TheVariants.{Group, Dataset, Datatype}
 use Rattle.object_acts.specs.Objects.{unmarked, unmarked_body, kind_of_body, IsSoundBody, IsOfKind}
 use Rattle.chunk_owner.specs.Lanes.{Objects, shown, Each, AreOfKind}
-
-pub same_id : (q k : Id) → eq_by_cmp id_order q k ≡ true → q ≡ k
-same_id q k e = id_order_once q k ((Equal-is (id_order q k)).0 e)
 
 here : (b : Bool) (v o : Object) (w : Option Object) (P : Type 0) → (b ≡ true → v ≡ o → P) → (w ≡ Some o → P) → cond b (Some v) w ≡ Some o → P
 here true v o w P new old e = new refl (let same : Some v ≡ Some o = e in cc)
@@ -34,7 +30,7 @@ module _ (P : Id → Object → Type 0) where
   pub each_insert : (m : Objects) (k : Id) (v : Object) → P k v → Each P m → Each P (insert m k v)
   each_insert m k v new old = λ q o e.
       here (eq_by_cmp id_order q k) v o (get m q) (P q o)
-      (λ b same. subst (λ (x : Object). P q x) same (subst (λ (i : Id). P i v) (sym (same_id q k b)) new))
+      (λ b same. subst (λ (x : Object). P q x) same (subst (λ (i : Id). P i v) (sym (tied_ids q k b)) new))
       (old q o)
       (sym (get-insert id_order_total m k v q) ∙ e)
 

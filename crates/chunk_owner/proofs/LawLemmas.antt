@@ -5,7 +5,7 @@ use Rattle.std.specs.FinMap.{get, get-insert, get-remove}
 use Rattle.std.proofs.lemmas.Bool.{or_right, and_from, or_left, and_parts, or_cases}
 use Rattle.object_ids.specs.IdOrder.{id_order}
 use Rattle.object_ids.specs.IdValues.{Id}
-use Rattle.object_ids.proofs.IdOrders.{id_order_total}
+use Rattle.object_ids.proofs.IdOrders.{id_order_total, tied_ids}
 use Rattle.object_ops.specs.declared.grants.Grant.{Grant}
 use Rattle.object_ops.specs.declared.refusals.Refusal.TheVariants.{NoObject, Gone}
 use Rattle.object_ops.specs.declared.replies.Reply.{Reply}
@@ -15,7 +15,6 @@ use Rattle.chunk_owner.specs.Lanes.{Objects, set_at}
 use Rattle.chunk_owner.specs.Acts.{is_used, missing, act, on_touched, read_by, changed_by, touched}
 use Rattle.chunk_owner.specs.Laws.{GoneWhereGiven, NoObjectElsewhere, OthersAreHidden, OthersStay, WasGiven}
 use Rattle.chunk_owner.proofs.AtIds.{seen_foreign}
-use Rattle.chunk_owner.proofs.Eaches.{same_id}
 use Rattle.containers.proofs.Plain.{passed_over}
 
 is_gone : (b : Bool) (id : Id) → cond b (Gone id) (NoObject id) ≡ Gone id → b ≡ true
@@ -59,8 +58,8 @@ others_are_hidden g id o f h other =
     (λ i. ((ap (read_by f (missing g id)) none ∙ ap Refused said) i, o), ap (changed_by h (missing g id) o) none ∙ (λ i. (Refused (said i), o)))
 
 set_other : (m : Objects) (at : Id) (o : Option Object) (id : Id) → (at ≡ id → ⊥) → get (set_at m at o) id ≡ get m id
-set_other m at None id other = get-remove id_order_total m at id ∙ passed_over (eq_by_cmp id_order id at) None (get m id) (λ e. other (sym (same_id id at e)))
-set_other m at (Some o) id other = get-insert id_order_total m at o id ∙ passed_over (eq_by_cmp id_order id at) (Some o) (get m id) (λ e. other (sym (same_id id at e)))
+set_other m at None id other = get-remove id_order_total m at id ∙ passed_over (eq_by_cmp id_order id at) None (get m id) (λ e. other (sym (tied_ids id at e)))
+set_other m at (Some o) id other = get-insert id_order_total m at o id ∙ passed_over (eq_by_cmp id_order id at) (Some o) (get m id) (λ e. other (sym (tied_ids id at e)))
 
 others_at : (t : Option Id) (f : Id → Option Object → Reply × Option Object) (m : Objects) (id : Id) → (t ≡ Some id → ⊥) → get (on_touched t f m).1 id ≡ get m id
 others_at None f m id other = refl

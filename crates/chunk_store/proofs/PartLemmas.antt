@@ -44,8 +44,9 @@ use Rattle.chunk_store.proofs.InstallLemmas.{cell_there, flat_pieces, install_tr
 use Rattle.chunk_store.proofs.KeptLemmas.{cut_same, given_blank, given_same, read_view, same_rank, same_view, whole_of, write_view}
 use Rattle.chunk_store.proofs.KeyLemmas.{put_cases, put_through}
 use Rattle.chunk_store.proofs.PickLemmas.{picked_inside}
-use Rattle.chunk_store.proofs.TrackLemmas.{begun_tracked, cell_of_chunk, each_from, rank_of, resize_tracked, write_tracked, written_other}
+use Rattle.chunk_store.proofs.TrackLemmas.{begun_tracked, cell_of_chunk, rank_of, resize_tracked, write_tracked, written_other}
 use Rattle.chunk_store.proofs.WriteLemmas.{read_encoded, written_each, written_on}
+use Rattle.json_trees.proofs.ListLemmas.{all_weaker}
 
 abbrev pub Chunks : Type 0
 Chunks = BTreeMap (List ℕ) Held
@@ -349,7 +350,7 @@ module _ (e : Elem) (s : Shape) (given : Bool) (f : Frame) where
             (written_each (λ p. length p ≡ length f.layout.chunk) (IsEncoded e) (size_of e) ats (bytes_at m f) bytes kept.encoded enc.each q rank);
         outside = λ q rank off.
             done.cells q rank
-            ∙ written_other (bytes_at m f) f.size ats bytes q (each_from (λ at. LiesIn at s) (λ at. at ≡ q → ⊥) (apart_from q off) ats each)
+            ∙ written_other (bytes_at m f) f.size ats bytes q (all_weaker (λ at. LiesIn at s) (λ at. at ≡ q → ⊥) (apart_from q off) ats each)
             ∙ kept.outside q rank off;
         full = done.full;
         indexes = indexes_back n (indexes_written old (stored_in e s given f n) ats refl whole_grid each written_flags known_indexes);

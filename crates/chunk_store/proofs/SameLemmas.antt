@@ -5,7 +5,8 @@ use Rattle.shapes.specs.Places.{place}
 use Rattle.shapes.specs.Shapes.{LiesIn, cells_of, count_of, dims_of}
 use Rattle.shapes.proofs.CellLemmas.{cells_length, place-cell}
 use Rattle.chunk_store.specs.Grids.{Grid, value_at}
-use Rattle.chunk_store.proofs.PickLemmas.{cells_inside, each_at}
+use Rattle.chunk_store.proofs.PickLemmas.{cells_inside}
+use Rattle.json_trees.proofs.ListLemmas.{all_at}
 
 same_list : (xs ys : List (List ℕ)) → length xs ≡ length ys → ((k : ℕ) → k < length xs → get_or xs k [] ≡ get_or ys k []) → xs ≡ ys
 same_list [] [] e h = refl
@@ -17,7 +18,7 @@ same_values : (s : Shape) (xs ys : List (List ℕ)) → length xs ≡ count_of s
 same_values s xs ys e l h = same_list ys xs (l ∙ sym e) (λ k low.
     let within : k < count_of s = omega (arith, low, l) in
     let at = get_or (cells_of s) k [] in
-    let lies = each_at (λ x. LiesIn x s) (cells_of s) k [] (omega (arith, within, cells_length s)) (cells_inside s) in
+    let lies = all_at (λ x. LiesIn x s) (cells_of s) k [] (omega (arith, within, cells_length s)) (cells_inside s) in
     let here = place-cell s k within in
     ap (λ j. get_or ys j []) (sym here) ∙ h at lies ∙ ap (λ j. get_or xs j []) here)
 

@@ -20,10 +20,7 @@ use Rattle.chunk_store.proofs.GridLemmas.{value-tabulated, reads_same}
 use Rattle.chunk_store.proofs.KeptLemmas.{new_rank}
 use Rattle.chunk_store.specs.Marks.{Stored, state, in_grid, shown, content, all_blank, Stands, IsTracked, IsNoted, touches, MarksWritten, MarksBegun, MarksCut, keeps, keeps_axis, after_cut}
 use Rattle.chunk_store.proofs.CutLemmas.{grid_here, content_piece, blank_piece}
-
-pub each_from : {A : Type 0} (P Q : A → Type 0) → ((x : A) → P x → Q x) → (xs : List A) → AllByRecursion P xs → AllByRecursion Q xs
-each_from P Q h [] k = tt
-each_from P Q h (x ∷ xs) k = (h x k.0, each_from P Q h xs k.1)
+use Rattle.json_trees.proofs.ListLemmas.{all_weaker}
 
 pub by_index : (P : List ℕ → Type 0) (xs : List (List ℕ)) → ((k : ℕ) → k < length xs → P (get_or xs k [])) → AllByRecursion P xs
 by_index P [] h = tt
@@ -99,7 +96,7 @@ content_unwritten h i ats bs w apart g =
       | inl on ↦
           ap (λ b. cond b (value_at (writes h ats bs) x) (blank_of h.kind h.fill)) on
           ∙ value-tabulated h.kind h.shape h.chunk h.fill (written (value_at h) (size_of h.kind) ats bs) x (lies_told x h.shape on)
-          ∙ written_other (value_at h) (size_of h.kind) ats bs x (each_from (λ at. quotients at h.chunk ≡ i → ⊥) (λ at. at ≡ x → ⊥) (λ at no_cell e. no_cell (ap (λ y. quotients y h.chunk) e ∙ here.1)) ats apart)
+          ∙ written_other (value_at h) (size_of h.kind) ats bs x (all_weaker (λ at. quotients at h.chunk ≡ i → ⊥) (λ at. at ≡ x → ⊥) (λ at no_cell e. no_cell (ap (λ y. quotients y h.chunk) e ∙ here.1)) ats apart)
           ∙ sym (ap (λ b. cond b (value_at h x) (blank_of h.kind h.fill)) on)
       | inr off ↦ ap (λ b. cond b (value_at (writes h ats bs) x) (blank_of h.kind h.fill)) off ∙ sym (ap (λ b. cond b (value_at h x) (blank_of h.kind h.fill)) off)
     ]) (chunk_cells i h.chunk) (cells_of_chunk h.chunk i w.dims (rank_of h i g))
@@ -242,7 +239,7 @@ module _ (h : Grid) (dims i : List ℕ) (t : Shape) (w : IsWhole h) (re : IsResi
   after_stands body false (Some b) e on = tt
   after_stands body true (Some true) e on = tt
   after_stands body true (Some false) e on =
-      let same = uncut_content h dims i (each_from (IsCellOf h.chunk i) (λ x. lies_in x h.shape ≡ true → lies_in x (with_dims h.shape dims) ≡ true) (stays_on on.0 e) (chunk_cells i h.chunk) (cells_of_chunk h.chunk i w.dims (rank_of h i on.0))) in (
+      let same = uncut_content h dims i (all_weaker (IsCellOf h.chunk i) (λ x. lies_in x h.shape ≡ true → lies_in x (with_dims h.shape dims) ≡ true) (stays_on on.0 e) (chunk_cells i h.chunk) (cells_of_chunk h.chunk i w.dims (rank_of h i on.0))) in (
         stays_in on.0 e,
         elim on.1 as (λ v. (body ≡ content (cut_to h dims) i) ⊎ ((body ≡ []) × (content (cut_to h dims) i ≡ all_blank (cut_to h dims) i))) [
           | inl is ↦ inl (is ∙ sym same)

@@ -24,10 +24,11 @@ use Rattle.chunk_store.proofs.CutLemmas.{content_value, piece_of, shown_size}
 use Rattle.chunk_store.proofs.GridLemmas.{value-tabulated, tabulated_same, reads_same}
 use Rattle.chunk_store.proofs.InstallLemmas.{flat_pieces}
 use Rattle.chunk_store.proofs.KeyLemmas.{put_here}
-use Rattle.chunk_store.proofs.PickLemmas.{each_at, each_all}
+use Rattle.chunk_store.proofs.PickLemmas.{each_all}
 use Rattle.chunk_store.proofs.SameLemmas.{same_held}
 use Rattle.chunk_store.proofs.TrackLemmas.{by_index, written_other}
 use Rattle.chunk_store.proofs.WriteLemmas.{read_encoded, written_on}
+use Rattle.json_trees.proofs.ListLemmas.{all_at}
 
 -- ---- a new array
 
@@ -109,13 +110,13 @@ pub read_each : (h : Grid) (ats : List (List ℕ)) (k : ℕ) → IsWhole h → A
 read_each h ats k w inside low =
     let each = each_all (λ at. LiesIn at h.shape) ats inside in
     ap (piece_at (size_of h.kind) k) (reads_same (λ at. LiesIn at h.shape) (value_at h) (shown h) (λ x on. sym (shown_inside h x on)) ats each)
-    ∙ piece_of (shown h) (size_of h.kind) (shown_size h w) ats k low ∙ shown_inside h (get_or ats k []) (each_at (λ at. LiesIn at h.shape) ats k [] low each)
+    ∙ piece_of (shown h) (size_of h.kind) (shown_size h w) ats k low ∙ shown_inside h (get_or ats k []) (all_at (λ at. LiesIn at h.shape) ats k [] low each)
 
 pub read_written : (h : Grid) (ats : List (List ℕ)) (bs : List ℕ) → All (λ at. LiesIn at h.shape) ats → IsOnce ats → length bs ≡ length ats * size_of h.kind → reads (writes h ats bs) ats ≡ bs
 read_written h ats bs inside once e =
     let each = each_all (λ at. LiesIn at h.shape) ats inside in
     flat_pieces (value_at (writes h ats bs)) (size_of h.kind) 0 ats bs e (λ j low.
-    last_value h ats bs j (get_or ats j []) (each_at (λ at. LiesIn at h.shape) ats j [] low each) (low, refl, λ k less below same. once j k less below (sym same)))
+    last_value h ats bs j (get_or ats j []) (all_at (λ at. LiesIn at h.shape) ats j [] low each) (low, refl, λ k less below same. once j k less below (sym same)))
 
 -- ---- installs
 

@@ -1,19 +1,16 @@
 -- Configured folders and domains that make a tree can be put into the catalogue, one after another.
-use Rattle.std.proofs.Common.{Ordering, Less, Greater, ◌≡◌, ◌≢◌, ◌⊎◌, inl, inr, ⊎_elim, ℕ, zero, suc, ◌+◌, ◌<◌, ◌≤◌, Bool, true, false, not, ◌&&◌, ◌||◌, cond, List, [], ◌∷◌, length, take, map, get_or, Some, None, option_map, is_some, nat_le, refl, sym, ap, subst, ◌∙◌, arith}
+use Rattle.std.proofs.Common.{Less, Greater, ◌≡◌, ◌≢◌, ◌⊎◌, inl, inr, ⊎_elim, ℕ, ◌+◌, ◌≤◌, Bool, true, false, not, ◌&&◌, ◌||◌, cond, List, [], ◌∷◌, length, map, Some, None, option_map, is_some, nat_le, refl, sym, ap, subst, ◌∙◌, arith}
 use Rattle.std.proofs.Math.Dec.{T}
 use Rattle.std.specs.List.{list_all, list_any}
 use Rattle.std.specs.Str.{bytes_eq}
-use Rattle.std.specs.Ordering.{is_lt, eq_by_cmp, ordering_reverse, ordering_then}
+use Rattle.std.specs.Ordering.{is_lt, eq_by_cmp, ordering_reverse}
 use Rattle.std.specs.FinMap.{FinMap, contains_key, contains_key-keys, empty, entries, entries_sorted, get, get-empty, get-insert, get-remove, remove, len, len-empty, len-entries}
 use Rattle.std.specs.FinMap.Entries.{below_all, is_sorted}
-use Rattle.std.specs.Cmp.{nat_cmp_total}
 use Rattle.std.specs.Cmp.Lexicographic.{nat_list_cmp_total}
-use Rattle.std.proofs.lemmas.Bool.{cases_Bool, or_cases, and_parts, not-true, eqb-true, leb-true, eq-eqb, ne_eqb, cond-true, cond-false, false_from_ne_true, true≢false, false≢true, cases_eq, cases_lt}
-use Rattle.std.proofs.lemmas.Cmp.{tied_itself}
+use Rattle.std.proofs.lemmas.Bool.{cases_Bool, or_cases, and_parts, not-true, leb-true, cond-true, cond-false, false_from_ne_true, true≢false, false≢true}
 use Rattle.std.proofs.lemmas.Map.Text.{is_eq-slice_cmp}
 use Rattle.std.proofs.lemmas.Slice.Eq.{bytes_eq-Decides}
-use Rattle.object_ids.specs.Paths.{parent_of, path_of, root_path, starts_with_slash}
-use Rattle.object_ids.proofs.PathLemmas.{IsLastSlash, has_last_slash, is_path-from_path_of, parent_of-at, path_cases}
+use Rattle.object_ids.specs.Paths.{parent_of, path_of, root_path}
 use Rattle.containers.specs.TextMaps.Keyed.{text_order}
 use Rattle.domains.specs.Contents.{Contents, IsFolderAt, class_at, only_root, with_node}
 use Rattle.domains.specs.declared.classes.Node.{Node}
@@ -24,6 +21,7 @@ use Rattle.configuration.specs.declared.setting.Setting.{Setting}
 use Rattle.configuration.proofs.TableLemmas.{len-insert-le}
 use Rattle.containers.proofs.Plain.{halves, less}
 use Rattle.containers.proofs.TextMaps.TextOrders.{not_itself}
+use Rattle.object_ids.proofs.PathOrders.{parent_before}
 
 abbrev pub PathSettings : Type 0
 PathSettings = List (List ℕ × Setting)
@@ -83,46 +81,6 @@ not_both : (x y : List ℕ) → text_order x y ≡ Less → text_order y x ≡ L
 not_both x y less more =
     let e : Less ≡ Greater = sym less ∙ nat_list_cmp_total.antisymm x y ∙ ap ordering_reverse more in
     cc
-
--- what stands before the end of a text is below the text
-prefix_below : (j : ℕ) (q : List ℕ) → j < length q → text_order (take j q) q ≡ Less
-prefix_below j [] h = absurd (omega arith)
-prefix_below zero (x ∷ q) h = refl
-prefix_below (suc j) (x ∷ q) h =
-    ap (λ (o : Ordering). ordering_then o (text_order (take j q) q)) (tied_itself nat_cmp_total x) ∙ prefix_below j q (omega arith)
-
--- a parent is below its path
-no_first_slash : (q : List ℕ) → starts_with_slash q ≡ true → ((i : ℕ) → i < length q → get_or q i 0 ≢ 47) → ⊥
-no_first_slash [] h none = false≢true h
-no_first_slash (b ∷ q) h none = none 0 (omega arith) (eqb-true b 47 h)
-
-root_prefix : (q : List ℕ) → starts_with_slash q ≡ true → take 1 q ≡ root_path
-root_prefix [] h = absurd (false≢true h)
-root_prefix (b ∷ q) h = ap (λ (x : ℕ). x ∷ []) (eqb-true b 47 h)
-
-one_byte : (q : List ℕ) → starts_with_slash q ≡ true → length q ≤ 1 → q ≡ root_path
-one_byte [] h small = absurd (false≢true h)
-one_byte (b ∷ []) h small = ap (λ (x : ℕ). x ∷ []) (eqb-true b 47 h)
-one_byte (b ∷ c ∷ q) h small = absurd (omega arith)
-
-parent_below : (q : List ℕ) → path_of q ≡ Some q → q ≢ root_path → text_order (parent_of q) q ≡ Less
-parent_below q canonical other = ⊎_elim (λ root. absurd (other root)) (λ long. ⊎_elim
-    (λ none. absurd (no_first_slash q long.begins none))
-    (λ found. at found.0 found.1 long.begins)
-    (has_last_slash q)) (path_cases q (is_path-from_path_of q q canonical))
-  where
-    at : (k : ℕ) → IsLastSlash q k → starts_with_slash q ≡ true → text_order (parent_of q) q ≡ Less
-    at k last begins = ⊎_elim
-        (λ first. ⊎_elim
-        (λ more.
-        let e : parent_of q ≡ take 1 q = parent_of-at q k last ∙ cond-true _ _ _ (eq-eqb k 0 first) ∙ sym (root_prefix q begins) in
-        ap (λ (p : List ℕ). text_order p q) e ∙ prefix_below 1 q more)
-        (λ small. absurd (other (one_byte q begins small)))
-        (cases_lt 1 (length q)))
-        (λ later.
-        let e : parent_of q ≡ take k q = parent_of-at q k last ∙ cond-false _ _ _ (ne_eqb k 0 later) in
-        ap (λ (p : List ℕ). text_order p q) e ∙ prefix_below k q last.within)
-        (cases_eq k 0)
 
 -- what stands in a catalogue with one node more
 pub same_or_other : (q path : List ℕ) → (q ≡ path) ⊎ (q ≢ path)
@@ -293,7 +251,7 @@ tree_folders root folders domains no_root paths tree =
     (each_map (λ q. q ≢ root_path) (λ q. get c.nodes q ≡ None) es (λ q other. nothing_at root q other) others)
     (each_map (λ q. has_parent folders q ≡ true) (λ q. IsFolderAt c (parent_of q) ⊎ Among (parent_of q) es) es
     (λ q parent. ⊎_elim (λ at. inl (subst (λ (p : List ℕ). IsFolderAt c p) (sym at) (root_folder root))) (λ a. inr a) (parent_cases folders q parent)) facts.folder_parents)
-    (each_both (λ q. path_of q ≡ Some q) (λ q. q ≢ root_path) (λ q. text_order (parent_of q) q ≡ Less) es parent_below (each_path es paths) others)
+    (each_both (λ q. path_of q ≡ Some q) (λ q. q ≢ root_path) (λ q. text_order (parent_of q) q ≡ Less) es parent_before (each_path es paths) others)
     (rising es (entries_sorted folders))
     (omega (arith, root_len root, facts.few, len-entries folders))
 

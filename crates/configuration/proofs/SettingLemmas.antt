@@ -8,15 +8,15 @@ use Rattle.std.specs.BTreeMap.{insert_entry}
 use Rattle.std.specs.Map.{remove_entry}
 use Rattle.std.specs.Ordering.{match_ordering}
 use Rattle.std.specs.String.{string_cmp}
-use Rattle.containers.specs.TextMaps.Keyed.{text_order, keyed}
+use Rattle.containers.specs.TextMaps.Keyed.{text_order, keyed, map_of}
 use Rattle.object_ids.specs.Paths.{path_of, root_path}
 use Rattle.domains.specs.Contents.{Contents, only_root, with_node}
 use Rattle.domains.specs.declared.classes.Node.{Node}
 use Rattle.configuration.proofs.TableLemmas.{len-insert-le}
 use Rattle.configuration.specs.Catalogues.{ArePaths, domain_node, domain_nodes, folder_node, folder_nodes, with_nodes}
 use Rattle.configuration.specs.Settings.{distinct_settings}
-use Rattle.configuration.specs.Tables.{only_if, map_of}
 use Rattle.configuration.specs.declared.setting.Setting.{Setting}
+use Rattle.containers.specs.Options.{only_if}
 
 -- the walk at its end: the map m was made of all keys, of which there are n
 pub settings_end : (o : Option (List (List ℕ × Setting))) (m : FinMap text_order Setting) (n : ℕ) → Some m ≡ option_map map_of o → ((es : List (List ℕ × Setting)) → o ≡ Some es → length es ≡ n)

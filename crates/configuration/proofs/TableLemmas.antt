@@ -5,11 +5,11 @@ use Rattle.std.specs.List.{list_all}
 use Rattle.std.proofs.lemmas.Result.{err_from_is_err_and}
 use Rattle.std.specs.FinMap.{FinMap, contains_key, insert, len, len-insert}
 use Rattle.std.specs.Cmp.Lexicographic.{nat_list_cmp_total}
-use Rattle.containers.specs.TextMaps.Keyed.{text_order}
+use Rattle.containers.specs.TextMaps.Keyed.{text_order, with_entries}
 use Rattle.toml.specs.Data.{Data}
 use Rattle.toml.specs.View.{view, items_view, members_view}
 use Rattle.toml.specs.declared.value.Value.{Value}
-use Rattle.configuration.specs.Tables.{both, all_of, with_entries, pairs_of, elements_of}
+use Rattle.configuration.specs.Tables.{both, all_of, pairs_of, elements_of}
 
 abbrev pub Entry : Type 0
 Entry = String Global × Value

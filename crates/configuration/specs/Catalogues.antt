@@ -11,9 +11,9 @@ use Rattle.containers.specs.TextMaps.Keyed.{text_order}
 use Rattle.domains.specs.Contents.{Contents, IsPlace, only_root, with_node}
 use Rattle.domains.specs.declared.classes.Node.{Node}
 use Rattle.domains.specs.declared.classes.NodeClass.TheVariants.{Folder, Domain}
-use Rattle.configuration.specs.Tables.{only_if}
 use Rattle.configuration.specs.declared.limits.TheConstants.{MAX_BELOW_ROOT}
 use Rattle.configuration.specs.declared.setting.Setting.{Setting}
+use Rattle.containers.specs.Options.{only_if}
 
 -- the folder `/` where it is not configured
 abbrev pub default_setting : Setting

@@ -9,9 +9,10 @@ use Rattle.access_lists.specs.declared.people.Caller.{Caller}
 use Rattle.domains.specs.Contents.{Contents}
 use Rattle.configuration.specs.People.{callers_in, groups_in, groups_with}
 use Rattle.configuration.specs.Settings.{settings_in}
-use Rattle.configuration.specs.Tables.{both, has_only, only_if, table_at}
+use Rattle.configuration.specs.Tables.{both, has_only, table_at}
 use Rattle.configuration.specs.Catalogues.{catalogue_of}
 use Rattle.configuration.specs.declared.config.Config.{Config}
+use Rattle.containers.specs.Options.{only_if}
 
 abbrev pub is_config_key : List ℕ → Bool
 is_config_key key = bytes_eq key (codes "tokens") || bytes_eq key (codes "groups") || bytes_eq key (codes "folders") || bytes_eq key (codes "domains")

@@ -6,10 +6,11 @@ use Rattle.std.specs.Str.{bytes_eq}
 use Rattle.std.specs.FinMap.{FinMap, get}
 use Rattle.toml.specs.Data.{Data, Members, as_str, as_array}
 use Rattle.object_ids.specs.Names.{is_name}
-use Rattle.containers.specs.TextMaps.Keyed.{text_order}
+use Rattle.containers.specs.TextMaps.Keyed.{text_order, map_of}
 use Rattle.access_lists.specs.declared.people.Caller.{Caller}
-use Rattle.configuration.specs.Tables.{only_if, all_of, map_of, pairs_of, elements_of}
+use Rattle.configuration.specs.Tables.{all_of, pairs_of, elements_of}
 use Rattle.configuration.specs.declared.limits.TheConstants.{MAX_NAME_LEN, MAX_GROUP_LEN, MAX_TOKEN_LEN}
+use Rattle.containers.specs.Options.{only_if}
 
 -- a name that can't be taken for the entry `default` or a group's
 abbrev pub is_user : List ℕ → Bool

@@ -7,13 +7,14 @@ use Rattle.std.specs.FinMap.{FinMap, len}
 use Rattle.toml.specs.Data.{Data, Members, as_str, as_bool, as_table, get_member}
 use Rattle.object_ids.specs.Names.{is_name}
 use Rattle.object_ids.specs.Paths.{path_of}
-use Rattle.containers.specs.TextMaps.Keyed.{text_order}
+use Rattle.containers.specs.TextMaps.Keyed.{text_order, map_of}
 use Rattle.access_lists.specs.declared.rights.Rights.{Rights}
 use Rattle.access_lists.specs.declared.list.TheConstants.{MAX_ENTRIES}
-use Rattle.configuration.specs.Tables.{only_if, both, all_of, map_of, pairs_of, has_only, table_at}
+use Rattle.configuration.specs.Tables.{both, all_of, pairs_of, has_only, table_at}
 use Rattle.configuration.specs.People.{is_user}
 use Rattle.configuration.specs.declared.limits.TheConstants.{MAX_NAME_LEN}
 use Rattle.configuration.specs.declared.setting.Setting.{Setting}
+use Rattle.containers.specs.Options.{only_if}
 
 -- a user, or nobody in particular
 abbrev pub is_owner : List ℕ → Bool

@@ -1,13 +1,7 @@
--- Words on values that may be absent, on the tables of a TOML document, and on maps.
-use Rattle.std.specs.Prelude.{ℕ, List, [], ◌∷◌, Bool, Option, Some, None, option_map, if◌then◌else◌}
+-- Words on values that may be absent, and on the tables of a TOML document.
+use Rattle.std.specs.Prelude.{ℕ, List, [], ◌∷◌, Bool, Option, Some, None, option_map}
 use Rattle.std.specs.List.{list_all}
-use Rattle.std.specs.FinMap.{FinMap, empty, insert}
-use Rattle.containers.specs.TextMaps.Keyed.{text_order}
 use Rattle.toml.specs.Data.{Data, Items, no_items, item, Members, no_members, member, as_table, get_member}
-
--- a value, where a test passes
-abbrev pub only_if : {A : Type 0} → Bool → Option A → Option A
-only_if test value = if test then value else None
 
 -- two values, where both are there
 abbrev pub both : {A B : Type 0} → Option A → Option B → Option (A × B)
@@ -18,15 +12,6 @@ both _ _ = None
 abbrev pub all_of : {A B : Type 0} → (A → Option B) → List A → Option (List B)
 all_of read [] = Some []
 all_of read (x ∷ xs) = option_map (λ p. p.0 ∷ p.1) (both (read x) (all_of read xs))
-
--- a map with further entries, of which a later one takes the place of an earlier one with the same key
-abbrev pub with_entries : {V : Type 0} → FinMap text_order V → List (List ℕ × V) → FinMap text_order V
-with_entries entries [] = entries
-with_entries entries (e ∷ es) = with_entries (insert entries e.0 e.1) es
-
--- the map with these entries
-abbrev pub map_of : {V : Type 0} → List (List ℕ × V) → FinMap text_order V
-map_of es = with_entries empty es
 
 -- the keys of a table and their values, in byte order of the keys
 abbrev pub pairs_of : Members → List (List ℕ × Data)

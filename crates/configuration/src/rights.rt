@@ -3,7 +3,8 @@ ghost use Rattle.std.specs.FinMap as map;
 ghost use Rattle.std.specs.List.{list_all};
 ghost use Rattle.toml.specs.View.{view, table_view};
 ghost use Rattle.configuration.specs.Settings.{entry_of, flag_at, is_right_key, is_right_pair, list_in, rights_in, rights_of};
-ghost use Rattle.configuration.specs.Tables.{only_if, pairs_of};
+ghost use Rattle.configuration.specs.Tables.{pairs_of};
+ghost use Rattle.containers.specs.Options.{only_if};
 
 use crate::fault::Refusal;
 use crate::limits::MAX_NAME_LEN;

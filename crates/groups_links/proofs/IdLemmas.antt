@@ -2,6 +2,7 @@
 use Rattle.std.proofs.Common.{◌≡◌, ◌≢◌, ℕ, ◌^◌, List, ◌++◌, true, false, cond, Bool, drop, Option, Some, None, option_and_then, refl, sym, ap, ◌∙◌}
 use Rattle.std.proofs.lemmas.Bool.{lt-ltb, ltb-true, and_parts}
 use Rattle.std.specs.Int.{from_be_bytes, to_be_bytes, w128}
+use Rattle.std.specs.Prelude.{IfSome, IfNone}
 use Rattle.json_trees.proofs.TableLemmas.{equal_bytes, same_bytes}
 use Rattle.json_trees.proofs.TreeLemmas.{and_then_some}
 use Rattle.object_ids.specs.Text.{parsed}
@@ -11,11 +12,7 @@ use Rattle.object_ids.specs.declared.ids.Kind.{Kind}
 use Rattle.object_ids.specs.declared.ids.Kind.TheVariants.{Group, Dataset, Datatype}
 use Rattle.object_ids.proofs.IdBits.{from_to_bytes, id_in-bits, parses_uuid, small_bits}
 use Rattle.groups_links.specs.IdTexts.{id_of, id_with, is_text_of, kind_in}
-
-behind : (k : Kind) (rest : List ℕ) → drop 2 (prefix_of k ++ rest) ≡ rest
-behind Group rest = refl
-behind Dataset rest = refl
-behind Datatype rest = refl
+use Rattle.object_ids.proofs.IdTexts.{drop-prefix_of}
 
 kind_in-prefix : (k : Kind) (rest : List ℕ) → kind_in (prefix_of k ++ rest) ≡ k
 kind_in-prefix Group rest = refl
@@ -61,7 +58,7 @@ pub id_of-text : (id : Id) → InRange id → id_of (text_of_id id) ≡ Some id
 unfolding id_of
 id_of-text id h =
     let reads = λ (bytes : List ℕ). id_with (text_of_id id) (id_in (kind_in (text_of_id id)) (from_be_bytes w128 bytes)) in
-    ap (λ text. option_and_then reads (parsed text)) (behind id.kind (uuid_of id))
+    ap (λ text. option_and_then reads (parsed text)) (drop-prefix_of id.kind (uuid_of id))
     ∙ ap (option_and_then reads) (sym (parses_uuid id))
     ∙ ap (id_with (text_of_id id)) (own_id id h)
     ∙ ap (λ b. cond b (Some id) None) (is_own id h)
@@ -76,3 +73,9 @@ none_told text (Some id) e none = let own = id_told text id e in absurd (none id
 -- a text that is no id's is read as none
 pub no_id : (text : List ℕ) → ((id : Id) → InRange id → text_of_id id ≢ text) → id_of text ≡ None
 no_id text none = none_told text _ refl none
+
+-- what a text is read as is the id that it is
+pub id_told : (text : List ℕ) (found : Option Id) → IfSome found InRange → IfSome found (λ id. text_of_id id ≡ text)
+    → IfNone found ((id : Id) → InRange id → text_of_id id ≢ text) → found ≡ id_of text
+id_told text None range some none = sym (no_id text none)
+id_told text (Some id) range some none = sym (id_read text id range some)

@@ -6,7 +6,7 @@ use Rattle.std.specs.Str.{bytes_eq}
 use Rattle.std.proofs.lemmas.Bool.{le-leb, cases_lt, and_parts}
 use Rattle.serde_json.specs.Data.{Data, null, string}
 use Rattle.serde_json.specs.Find.{get, as_str}
-use Rattle.json_trees.specs.Trees.{whole_in, text_at}
+use Rattle.json_trees.specs.Trees.{whole_in, text_at, HasClass}
 use Rattle.json_trees.specs.Faults.{◌>>=◌}
 use Rattle.json_trees.specs.Tables.{look_up}
 use Rattle.json_trees.proofs.TreeLemmas.{and_then_some, text_of, whole_in_number}
@@ -23,7 +23,6 @@ use Rattle.hdf_types.specs.declared.TheConstants.{MAX_TEXT}
 use Rattle.hdf_types.specs.Elems.{Elem, compound}
 use Rattle.hdf_types.specs.Faults.{Fault, fault}
 use Rattle.hdf_types.specs.Reading.{int_named, is_ieee, name_cause, int_or, named_at, based_at, integer_at, sets, pads, word_or, is_variable, is_good_length, sized_at, string_at, name_in, is_member, list_pass, members_in, class_names, cause_or, class_cause, classed_by, worded_by, node_by, compound_by, fields_at, node_at}
-use Rattle.hdf_types.specs.Types.{HasClass}
 use Rattle.hdf_types.specs.FirstFault.{NamesClass, IsSizedText, IsMember, IsCompound}
 use Rattle.hdf_types.proofs.TypeLemmas.{text_told, word_told, name_told, name_read, members_told}
 

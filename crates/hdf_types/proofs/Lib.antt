@@ -6,3 +6,4 @@ pub mod SoundLemmas
 pub mod CauseLemmas
 pub mod FirstFaultLemmas
 pub mod FoundFaultLemmas
+pub mod ViewLemmas

@@ -6,7 +6,7 @@ use Rattle.std.proofs.lemmas.Bool.{leb-true, le-leb, and_parts}
 use Rattle.std.proofs.lemmas.Option.{same_Some}
 use Rattle.serde_json.specs.Data.{Data, Items, null, boolean, number, string, array, object}
 use Rattle.serde_json.specs.Find.{get, as_str}
-use Rattle.json_trees.specs.Trees.{list_of, list_in, whole_in, text_at}
+use Rattle.json_trees.specs.Trees.{list_of, list_in, whole_in, text_at, HasClass}
 use Rattle.json_trees.specs.Faults.{◌>>=◌}
 use Rattle.json_trees.specs.Tables.{look_up}
 use Rattle.json_trees.proofs.TreeLemmas.{and_then_some, list_in_array, whole_in_number, text_of}
@@ -24,7 +24,7 @@ use Rattle.hdf_types.specs.Views.{elem}
 use Rattle.hdf_types.specs.declared.types.ElemType.{ElemType}
 use Rattle.hdf_types.specs.declared.faults.TypeFault.{TypeFault}
 use Rattle.hdf_types.specs.Reading.{int_named, int_or, named_at, based_at, integer_at, sets, pads, word_or, is_variable, is_good_length, sized_at, string_at, is_good_name, name_in, list_pass, some_members, members_in, names_of, first_again, again_or, distinct_at, Member, named_member, member_at, add_member, each_at, listed_at, classed_by, worded_by, node_by, compound_by, fields_at, node_at, size_of, within_at, type_of}
-use Rattle.hdf_types.specs.Types.{HasClass, IsIntObject, SpellsWord, IsTextObject, IsDistinct, IsTypeOf, AreFields, IsType}
+use Rattle.hdf_types.specs.Types.{IsIntObject, SpellsWord, IsTextObject, IsDistinct, IsTypeOf, AreFields, IsType}
 use Rattle.hdf_types.proofs.NameLemmas.{distinct_told, distinct_read}
 
 -- the text at a key

@@ -3,7 +3,7 @@ use Rattle.std.specs.Prelude.{◌≡◌, ℕ, suc, ◌-◌, ◌<◌, ◌≤◌, 
 use Rattle.std.specs.List.{AllByRecursion}
 use Rattle.serde_json.specs.Data.{Data, Items, null, number, unsigned, string, array}
 use Rattle.serde_json.specs.Find.{get}
-use Rattle.json_trees.specs.Trees.{list_of}
+use Rattle.json_trees.specs.Trees.{list_of, HasClass}
 use Rattle.json_trees.specs.Tables.{look_up}
 use Rattle.hdf_types.specs.declared.Pad.{Pad}
 use Rattle.hdf_types.specs.declared.Pad.TheVariants.{NullTerm}
@@ -13,7 +13,7 @@ use Rattle.hdf_types.specs.declared.faults.Cause.{Cause}
 use Rattle.hdf_types.specs.declared.faults.Cause.TheVariants.{NotAType, Unsupported, TooDeep, TooMany, BadLength, DupField, TooLarge}
 use Rattle.hdf_types.specs.Elems.{Elem, FieldList, depth, fields_depth}
 use Rattle.hdf_types.specs.Reading.{is_ieee, sets, pads, class_names, names_of, size_of}
-use Rattle.hdf_types.specs.Types.{HasClass, SpellsWord, IsDistinct, IsName, IsTypeOf, AreFields}
+use Rattle.hdf_types.specs.Types.{SpellsWord, IsDistinct, IsName, IsTypeOf, AreFields}
 
 -- ---- the forms of a node
 

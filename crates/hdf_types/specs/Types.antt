@@ -3,7 +3,7 @@ use Rattle.std.specs.Prelude.{◌≡◌, ℕ, ◌≤◌, ◌⊎◌, false, List,
 use Rattle.std.specs.List.{AllByRecursion}
 use Rattle.serde_json.specs.Data.{Data, Items, number, unsigned, string, array}
 use Rattle.serde_json.specs.Find.{get}
-use Rattle.json_trees.specs.Trees.{list_of}
+use Rattle.json_trees.specs.Trees.{list_of, HasClass}
 use Rattle.json_trees.specs.Tables.{look_up}
 use Rattle.hdf_types.specs.declared.IntType.{IntType}
 use Rattle.hdf_types.specs.declared.TextType.{TextType}
@@ -11,10 +11,6 @@ use Rattle.hdf_types.specs.declared.Pad.TheVariants.{NullTerm}
 use Rattle.hdf_types.specs.declared.TheConstants.{MAX_NESTING, MAX_FIELDS, MAX_TEXT, MAX_NAME, MAX_SIZE}
 use Rattle.hdf_types.specs.Elems.{Elem, int, text, compound, FieldList, no_fields, field, depth}
 use Rattle.hdf_types.specs.Reading.{int_named, sets, pads, names_of, size_of}
-
--- an object of this class
-abbrev pub HasClass : List ℕ → Data → Type 0
-HasClass class d = get (codes "class") d ≡ Some (string class)
 
 -- the text is one of the sixteen names
 abbrev pub IsIntText : Data → IntType → Type 0

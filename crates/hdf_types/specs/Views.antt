@@ -10,6 +10,12 @@ elem (Int t) = int t
 elem (Text t) = text t
 elem (Compound fs) = compound fs
 
+-- a type as plain data, as what holds it
+abbrev pub elem_type : Elem → ElemType
+elem_type (int t) = Int t
+elem_type (text t) = Text t
+elem_type (compound fs) = Compound fs
+
 abbrev pub field_list : List Field → FieldList
 field_list [] = no_fields
 field_list (f ∷ fs) = field f.name (elem f.elem) (field_list fs)

@@ -16,7 +16,8 @@ use Rattle.hdf_values.specs.declared.faults.ValueFault.{ValueFault}
 use Rattle.hdf_values.specs.Elements.{Fits, bytes_of, decoded, IsEncoded}
 use Rattle.hdf_values.specs.Nested.{FitsNested, elements, nested_bytes, nested_normal, nested_decoded, each_nested, counted, nested_from, pieces, AreEncoded}
 use Rattle.hdf_values.proofs.ElementLemmas.{list_of-items_of, encoded-fits, length-bytes_of, decoded-bytes_of}
-use Rattle.hdf_values.proofs.PieceLemmas.{all_append, length-pieces, each_encoded, one_encoded, decoded_fits}
+use Rattle.hdf_values.proofs.PieceLemmas.{length-pieces, each_encoded, one_encoded, decoded_fits}
+use Rattle.json_trees.proofs.ListLemmas.{all_append}
 
 -- ---- lists of lists
 

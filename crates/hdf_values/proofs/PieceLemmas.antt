@@ -14,12 +14,9 @@ use Rattle.hdf_values.specs.Elements.{Fits, bytes_of, normal, decoded, IsEncoded
 use Rattle.hdf_values.specs.Nested.{pieces, piece_at, pieces_at, with_pieces, AreEncoded, IsFirstUnencoded}
 use Rattle.hdf_values.proofs.ElementLemmas.{decoded-bytes_of, normal_fits, bytes_of-normal}
 use Rattle.hdf_values.proofs.EncodedLemmas.{length-encoded}
+use Rattle.json_trees.proofs.ListLemmas.{all_append}
 
 -- ---- what holds of all
-
-pub all_append : {A : Type 0} (F : A → Type 0) (xs ys : List A) → AllByRecursion F xs → AllByRecursion F ys → AllByRecursion F (xs ++ ys)
-all_append F [] ys h k = k
-all_append F (x ∷ xs) ys h k = (h.0, all_append F xs ys h.1 k)
 
 pub all_parts : {A : Type 0} (F : A → Type 0) (xs ys : List A) → AllByRecursion F (xs ++ ys) → AllByRecursion F xs × AllByRecursion F ys
 all_parts F [] ys h = (tt, h)

@@ -23,11 +23,7 @@ use Rattle.hdf_values.specs.Shaped.{value_tree}
 use Rattle.hdf_values.proofs.ElementLemmas.{length-bytes_of, list_of-items_of}
 use Rattle.hdf_values.proofs.PieceLemmas.{all_parts, length-pieces, piece-first, piece-later}
 use Rattle.hdf_values.proofs.NestedLemmas.{length-flat, first_piece, elements_fit, length-elements}
-
-all_at : {A : Type 0} (F : A → Type 0) (xs : List A) (i : ℕ) (d : A) → i < length xs → AllByRecursion F xs → F (get_or xs i d)
-all_at F [] i d h k = absurd (omega arith)
-all_at F (x ∷ xs) zero d h k = k.0
-all_at F (x ∷ xs) (suc i) d h k = all_at F xs i d (omega arith) k.1
+use Rattle.json_trees.proofs.ListLemmas.{all_at}
 
 pub item_at : (items : Items) (i : ℕ) → i < length (list_of items) → get_item i items ≡ Some (get_or (list_of items) i null)
 item_at no_items i h = absurd (omega arith)

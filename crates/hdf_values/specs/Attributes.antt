@@ -8,7 +8,7 @@ use Rattle.hdf_types.specs.declared.faults.TypeFault.{TypeFault}
 use Rattle.hdf_types.specs.declared.faults.TypeFault.TheVariants as types
 use Rattle.hdf_types.specs.declared.faults.TypeFault.TheVariants.{Refused}
 use Rattle.hdf_types.specs.Elems.{Elem}
-use Rattle.hdf_types.specs.Views.{elem}
+use Rattle.hdf_types.specs.Views.{elem, elem_type}
 use Rattle.hdf_types.specs.Faults.{Fault}
 use Rattle.hdf_types.specs.Reading.{size_of, type_of}
 use Rattle.hdf_types.specs.Types.{IsType, IsSoundType}
@@ -50,6 +50,10 @@ pub record Content : Type 0 where
 
 abbrev pub content : Attribute → Content
 content a = record { kind = elem a.elem; shape = a.shape; bytes = a.bytes }
+
+-- the same, as what holds it
+abbrev pub attribute : Content → Attribute
+attribute c = record { elem = elem_type c.kind; shape = c.shape; bytes = c.bytes }
 
 -- the tree spells this attribute
 pub record IsAttribute (d : Data) (c : Content) : Type 0 where

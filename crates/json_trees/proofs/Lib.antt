@@ -1,3 +1,4 @@
 pub mod TreeLemmas
 pub mod FaultLemmas
 pub mod TableLemmas
+pub mod ListLemmas

@@ -1,13 +1,17 @@
 -- The values of a list, seen as data, and lists read member by member.
-use Rattle.std.proofs.Common.{◌≡◌, ℕ, true, false, List, [], ◌∷◌, map, length, Option, Some, None, option_map, option_and_then, suc, subst, refl, ap}
-use Rattle.std.proofs.lemmas.Bool.{false≢true}
+use Rattle.std.proofs.Common.{◌≡◌, ℕ, true, false, List, [], ◌∷◌, map, length, Option, Some, None, option_map, option_and_then, suc, subst, refl, ap, IsUtf8, ◌∙◌}
+use Rattle.std.proofs.lemmas.Bool.{false≢true, cond-true, cond-false}
 use Rattle.serde_json.specs.Data.{Data, Items, null, boolean, number, string, array, object, unsigned, negative, float}
 use Rattle.serde_json.specs.Find.{as_str}
 use Rattle.serde_json.specs.View.{view, items_view}
 use Rattle.serde_json.specs.declared.value.Value.{Value}
-use Rattle.json_trees.specs.Trees.{list_of, list_in, whole_in, is_text, all_in}
+use Rattle.json_trees.specs.Trees.{list_of, list_in, whole_in, is_text, all_in, tree_in}
 use Rattle.std.specs.List.{AllZip}
+use Rattle.std.specs.Str.{is_utf8}
+use Rattle.std.proofs.lemmas.Str.{IsUtf8-from_is_utf8}
 use Rattle.json_trees.proofs.TableLemmas.{same_bytes, equal_bytes}
+use Rattle.serde_json.specs.Read.{read}
+use Rattle.serde_json.proofs.OnLiterals.{serde_json_on_literals}
 
 pub listed : (vs : List Value) → list_of (items_view vs) ≡ map view vs
 listed [] = refl
@@ -83,3 +87,15 @@ text_of (number n) word e = cc
 text_of (string s) word e = cc
 text_of (array ds) word e = cc
 text_of (object ms) word e = cc
+
+-- no tree is an empty text
+pub nothing_read : read [] ≡ None
+unfolding serde_json_on_literals
+nothing_read = refl
+
+-- bytes that aren't read as a tree where they are UTF-8
+pub no_tree : (text : List ℕ) → (IsUtf8 text → read text ≡ None) → tree_in text ≡ None
+no_tree text none = at (is_utf8 text) refl where
+  at : (b : Bool) → is_utf8 text ≡ b → tree_in text ≡ None
+  at true is = cond-true (is_utf8 text) (read text) None is ∙ none (IsUtf8-from_is_utf8 text is)
+  at false is = cond-false (is_utf8 text) (read text) None is

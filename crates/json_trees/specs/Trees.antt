@@ -1,9 +1,10 @@
 -- Trees of JSON: what stands in them, with lists as lists.
-use Rattle.std.specs.Prelude.{ℕ, Bool, false, List, [], ◌∷◌, Option, Some, option_map, option_and_then}
+use Rattle.std.specs.Prelude.{ℕ, Bool, false, List, [], ◌∷◌, Option, Some, option_map, option_and_then, ◌≡◌, None, codes, if◌then◌else◌}
 use Rattle.std.specs.Option.{option_map_or}
-use Rattle.std.specs.Str.{bytes_eq}
-use Rattle.serde_json.specs.Data.{Data, Items, no_items, item}
+use Rattle.std.specs.Str.{bytes_eq, is_utf8}
+use Rattle.serde_json.specs.Data.{Data, Items, no_items, item, string, Members, no_members, member}
 use Rattle.serde_json.specs.Find.{get, as_number, as_u64, as_array, as_str}
+use Rattle.serde_json.specs.Read.{read}
 
 -- the items in order
 abbrev pub list_of : Items → List Data
@@ -34,3 +35,16 @@ is_text text d = option_map_or (λ s. bytes_eq s text) (as_str d) false
 abbrev pub all_in : {A B : Type 0} → (A → Option B) → List A → Option (List B)
 all_in f [] = Some []
 all_in f (x ∷ xs) = option_and_then (λ y. option_map (λ ys. y ∷ ys) (all_in f xs)) (f x)
+
+-- what `serde_json` reads of bytes, where they are UTF-8
+abbrev pub tree_in : List ℕ → Option Data
+tree_in bytes = if is_utf8 bytes then read bytes else None
+
+-- an object of this class
+abbrev pub HasClass : List ℕ → Data → Type 0
+HasClass class d = get (codes "class") d ≡ Some (string class)
+
+-- the keys of an object, each with what stands there
+abbrev pub pairs_of : Members → List (List ℕ × Data)
+pairs_of no_members = []
+pairs_of (member key d rest) = (key, d) ∷ pairs_of rest

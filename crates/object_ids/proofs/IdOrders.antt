@@ -1,11 +1,12 @@
 -- The order of ids is total, and only equal ids tie.
 use Rattle.std.proofs.Common.{◌≡◌, true, Ordering, Less, Equal, Greater, is_eq, refl, ap, rules, arith}
-use Rattle.std.specs.Cmp.{IsTotalOrder}
+use Rattle.std.specs.Cmp.{IsTotalOrder, Equal-is}
 use Rattle.std.specs.Cmp.Rules.{comparing}
 use Rattle.std.specs.FinMap.{IsAntisymmetric, nat_cmp-IsAntisymmetric}
 use Rattle.std.specs.Ordering.{eq_by_cmp, nat_cmp, ordering_then}
 use Rattle.std.proofs.lemmas.Cmp.{tied_itself}
-use Rattle.object_ids.specs.IdOrder.{id_order, kind_rank}
+use Rattle.std.proofs.lemmas.Bool.{and_from, eq-eqb}
+use Rattle.object_ids.specs.IdOrder.{id_order, kind_rank, id_eq}
 use Rattle.object_ids.specs.IdValues.{Id}
 use Rattle.object_ids.specs.declared.ids.Kind.{Kind}
 use Rattle.object_ids.specs.declared.ids.Kind.TheVariants.{Group, Dataset, Datatype}
@@ -13,7 +14,7 @@ use Rattle.object_ids.specs.declared.ids.Kind.TheVariants.{Group, Dataset, Datat
 pub id_order_total : IsTotalOrder id_order
 id_order_total = search (comparing, rules) depth 9
 
-rank_once : (a b : Kind) → kind_rank a ≡ kind_rank b → a ≡ b
+pub rank_once : (a b : Kind) → kind_rank a ≡ kind_rank b → a ≡ b
 rank_once Group Group e = refl
 rank_once Group Dataset e = absurd (omega arith)
 rank_once Group Datatype e = absurd (omega arith)
@@ -43,3 +44,11 @@ id_order_once x y e =
 -- an id ties with itself
 pub itself : (id : Id) → eq_by_cmp id_order id id ≡ true
 itself id = ap is_eq (tied_itself id_order_total id)
+
+-- only an id ties with it
+pub tied_ids : (x y : Id) → eq_by_cmp id_order x y ≡ true → x ≡ y
+tied_ids x y e = id_order_once x y ((Equal-is (id_order x y)).0 e)
+
+pub same_itself : (x : Id) → id_eq x x ≡ true
+same_itself x =
+    and_from _ _ (eq-eqb (kind_rank x.kind) (kind_rank x.kind) refl) (and_from _ _ (eq-eqb x.domain x.domain refl) (and_from _ _ (eq-eqb x.run x.run refl) (eq-eqb x.serial x.serial refl)))

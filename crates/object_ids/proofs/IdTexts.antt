@@ -1,5 +1,5 @@
 -- The texts of ids.
-use Rattle.std.proofs.Common.{◌≡◌, ℕ, ◌+◌, ◌*◌, ◌^◌, ◌%◌, ◌<◌, List, ◌++◌, Equal, refl, sym, ap, ◌∙◌, arith, get_or, lit<}
+use Rattle.std.proofs.Common.{◌≡◌, ℕ, ◌+◌, ◌*◌, ◌^◌, ◌%◌, ◌<◌, List, ◌++◌, Equal, refl, sym, ap, ◌∙◌, arith, get_or, lit<, drop}
 use Rattle.std.proofs.Math.Nat.{mod-eq_of_lt}
 use Rattle.std.specs.Ordering.{nat_cmp, ordering_then}
 use Rattle.std.specs.Cmp.Lexicographic.{slice_cmp}
@@ -86,3 +86,9 @@ same_id a b ha hb e =
     let run = nat_cmp-IsAntisymmetric a.run b.run r.0 in
     let serial = nat_cmp-IsAntisymmetric a.serial b.serial r.1 in
     λ i. record { kind = kind i; domain = domain i; run = run i; serial = serial i }
+
+-- what stands behind the prefix of a kind
+pub drop-prefix_of : (k : Kind) (rest : List ℕ) → drop 2 (prefix_of k ++ rest) ≡ rest
+drop-prefix_of Group rest = refl
+drop-prefix_of Dataset rest = refl
+drop-prefix_of Datatype rest = refl

@@ -7,3 +7,4 @@ pub mod NamedMaps
 pub mod PathLemmas
 pub mod NumberOrders
 pub mod PutLemmas
+pub mod PathOrders

@@ -9,3 +9,6 @@ is_name_byte byte = nat_le 32 byte && not (byte == 127)
 -- a text of 1 to `most` such bytes
 abbrev pub is_name : ℕ → List ℕ → Bool
 is_name most text = nat_lt 0 (length text) && nat_le (length text) most && list_all is_name_byte text
+
+abbrev pub has_no_slash : List ℕ → Bool
+has_no_slash text = list_all (λ byte. not (byte == 47)) text

@@ -22,7 +22,6 @@ use Rattle.chunk_store.specs.Grids.{Grid, all_fill}
 use Rattle.std.specs.Result.{IsErrAnd}
 use Rattle.std.specs.Str.{IsUtf8, is_utf8}
 use Rattle.std.proofs.lemmas.Str.{IsUtf8-from_is_utf8, is_utf8-from_IsUtf8}
-use Rattle.serde_json.proofs.OnLiterals.{serde_json_on_literals}
 use Rattle.serde_json.specs.Read.{read}
 use Rattle.object_ids.specs.declared.ids.Kind.{Kind}
 use Rattle.object_records.specs.Answers.{Reads}
@@ -105,11 +104,6 @@ handed see (Err NoObject) found fault h told = subst (λ (f : BodyFault). Refuse
 handed see (Err body.NoMemory) found fault h told = tt
 
 -- ---- bodies
-
--- no tree is an empty text
-pub nothing_read : read [] ≡ None
-unfolding serde_json_on_literals
-nothing_read = refl
 
 pub body_reads : (k : Kind) (text : List ℕ) (d : Data) → IsUtf8 text → read text ≡ Some d → object_of_body k text ≡ spelled_in k d
 body_reads k text d utf8 reads =

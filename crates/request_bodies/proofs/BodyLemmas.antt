@@ -1,8 +1,7 @@
 -- Between what `serde_json` promises and the definition of a body.
-use Rattle.std.proofs.Common.{◌≡◌, ◌⊎◌, inl, inr, ◌∙◌, ap, sym, ℕ, Bool, true, false, List, Option, Some, None, is_some, Result, Ok, Err, refl}
+use Rattle.std.proofs.Common.{◌≡◌, ◌⊎◌, inl, inr, ◌∙◌, ap, sym, ℕ, true, false, List, Option, Some, None, is_some, Result, Ok, Err, refl}
 use Rattle.std.specs.Prelude.{IfOk, IfErr, IsUtf8, MatchResult, option_and_then, cond}
-use Rattle.std.specs.Str.{is_utf8}
-use Rattle.std.proofs.lemmas.Str.{IsUtf8-from_is_utf8, is_utf8-from_IsUtf8}
+use Rattle.std.proofs.lemmas.Str.{is_utf8-from_IsUtf8}
 use Rattle.serde_json.specs.Data.{Data}
 use Rattle.serde_json.specs.Errors.{IsMemory}
 use Rattle.serde_json.specs.Find.{as_object}
@@ -13,20 +12,15 @@ use Rattle.serde_json.specs.declared.value.Value.{Value}
 use Rattle.std.specs.Result.{IsErrAnd}
 use Rattle.object_ops.specs.declared.refusals.Refusal.{Refusal}
 use Rattle.object_ops.specs.declared.refusals.Refusal.TheVariants.{BadJson}
-use Rattle.request_bodies.specs.Bodies.{if_object, object_in, tree_in}
+use Rattle.request_bodies.specs.Bodies.{if_object, object_in}
 use Rattle.request_bodies.specs.Refusing.{Gives, Tells, or_refuse}
 use Rattle.request_bodies.specs.declared.faults.BodyFault.{BodyFault}
 use Rattle.request_bodies.specs.declared.faults.BodyFault.TheVariants.{Refused, NoMemory}
+use Rattle.json_trees.specs.Trees.{tree_in}
+use Rattle.json_trees.proofs.TreeLemmas.{no_tree}
 
 pub tree_read : (text : List ℕ) (d : Data) → IsUtf8 text → read text ≡ Some d → tree_in text ≡ Some d
 tree_read text d utf8 is = ap (λ b. cond b (read text) None) (is_utf8-from_IsUtf8 text utf8) ∙ is
-
-pub tree_missing : (text : List ℕ) → (IsUtf8 text → read text ≡ None) → tree_in text ≡ None
-tree_missing text none = go (is_utf8 text) refl
-  where
-    go : (b : Bool) → is_utf8 text ≡ b → tree_in text ≡ None
-    go true e = ap (λ b. cond b (read text) None) e ∙ none (IsUtf8-from_is_utf8 text e)
-    go false e = ap (λ b. cond b (read text) None) e
 
 -- what was read, or why it was refused
 pub tree_gives : (text : List ℕ) (read_as : Result Value Error) (given : Result Value BodyFault) → IfOk read_as (λ v. IsUtf8 text × (read text ≡ Some (view v)))
@@ -39,7 +33,7 @@ tree_gives text (Err e) (Ok w) ok err is = absurd is
 tree_gives text (Err e) (Err NoMemory) ok err is = tt
 tree_gives text (Err e) (Err (Refused refusal)) ok err is = elim is [
   | inl x ↦ let other : Refused refusal ≡ NoMemory = x in absurd (cc)
-  | inr x ↦ let same : Refused BadJson ≡ Refused refusal = sym x.0 in ap (or_refuse BadJson) (tree_missing text (err x.1)) ∙ cc
+  | inr x ↦ let same : Refused BadJson ≡ Refused refusal = sym x.0 in ap (or_refuse BadJson) (no_tree text (err x.1)) ∙ cc
 ]
 
 pub object_read : (text : List ℕ) (d : Data) → tree_in text ≡ Some d → is_some (as_object d) ≡ true → object_in text ≡ Some d

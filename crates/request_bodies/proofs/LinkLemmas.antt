@@ -1,23 +1,13 @@
 -- Texts, and the ids and titles that they are.
-use Rattle.std.proofs.Common.{◌≡◌, ◌≢◌, ◌∙◌, ap, sym, ℕ, List, [], ◌∷◌, Bool, true, false, not, nat_eq, cond, Option, Some, None, Result, Ok, Err, All, refl}
-use Rattle.std.specs.Prelude.{IfSome, IfNone}
+use Rattle.std.proofs.Common.{◌≡◌, ◌≢◌, ◌∙◌, ap, ℕ, List, [], ◌∷◌, Bool, true, false, not, nat_eq, cond, Result, Ok, Err, All, refl}
 use Rattle.std.proofs.lemmas.Bool.{and_from, eqb-true}
 use Rattle.std.proofs.lemmas.List.Elements.{All-head, All-tail}
 use Rattle.json_trees.specs.Faults.{◌>>=◌}
-use Rattle.object_ids.specs.Ids.{InRange, text_of_id}
-use Rattle.object_ids.specs.IdValues.{Id}
-use Rattle.groups_links.specs.IdTexts.{id_of}
 use Rattle.groups_links.specs.Titles.{IsGoodTitle}
-use Rattle.groups_links.proofs.IdLemmas.{id_read, no_id}
 use Rattle.object_ops.specs.declared.refusals.Refusal.{Refusal}
 use Rattle.object_ops.specs.declared.refusals.Refusal.TheVariants.{BadName}
-use Rattle.request_bodies.specs.Bodies.{has_no_slash, name_in, title_in}
-
--- what a text is read as is the id that it is
-pub told : (text : List ℕ) (found : Option Id) → IfSome found InRange → IfSome found (λ id. text_of_id id ≡ text)
-    → IfNone found ((id : Id) → InRange id → text_of_id id ≢ text) → found ≡ id_of text
-told text None range some none = sym (no_id text none)
-told text (Some id) range some none = sym (id_read text id range some)
+use Rattle.request_bodies.specs.Bodies.{name_in, title_in}
+use Rattle.object_ids.specs.Names.{has_no_slash}
 
 other_byte : (b : ℕ) (t : Bool) → nat_eq b 47 ≡ t → b ≢ 47 → not t ≡ true
 other_byte b true e other = absurd (other (eqb-true b 47 e))

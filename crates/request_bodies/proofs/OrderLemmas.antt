@@ -14,7 +14,7 @@ use Rattle.hdf_types.specs.Elems.{Elem}
 use Rattle.hdf_types.specs.Elems as elems
 use Rattle.hdf_types.specs.Faults.{Fault}
 use Rattle.hdf_types.specs.Reading.{size_of, type_of}
-use Rattle.hdf_types.specs.Views.{elem}
+use Rattle.hdf_types.specs.Views.{elem, elem_type}
 use Rattle.hdf_values.specs.Attributes.{Content, attribute_of, most_bytes, shape_or as shape_read, sized_at, type_or as type_read, typed_at, value_or, valued_at}
 use Rattle.hdf_values.specs.declared.attributes.AttributeFault.{AttributeFault}
 use Rattle.hdf_values.specs.declared.attributes.AttributeFault.TheVariants as attribute
@@ -28,11 +28,12 @@ use Rattle.object_ops.specs.declared.ops.LinkPlace.{LinkPlace}
 use Rattle.object_ops.specs.declared.refusals.Refusal.{Refusal}
 use Rattle.object_ops.specs.declared.refusals.Refusal.TheVariants.{BadField}
 use Rattle.object_ops.specs.declared.words.FieldWord.TheVariants as field
-use Rattle.request_bodies.specs.Bodies.{attribute_in, attribute_or, held, title_in, type_refusal}
+use Rattle.request_bodies.specs.Bodies.{attribute_in, attribute_or, title_in, type_refusal}
 use Rattle.request_bodies.specs.Makes.{class_or, dataset_of, datatype_of, grid_in, group_in, linked, make_in, place, shape_in, shape_or, title_text, type_in, type_or, with_properties}
 use Rattle.request_bodies.specs.Order.{attribute_tests, bad_place, bad_size, bad_title, class_of, fault, first_of, if_accepted, make_tests, no_title, no_value}
 use Rattle.request_bodies.specs.Properties.{properties_in}
 use Rattle.request_bodies.specs.declared.properties.Properties.{Properties}
+use Rattle.hdf_types.proofs.ViewLemmas.{elem-elem_type}
 
 -- what stands behind a test
 behind : (o : Option Refusal) (xs ys : List (Option Refusal)) → first_of xs ≡ first_of ys → first_of (o ∷ xs) ≡ first_of (o ∷ ys)
@@ -112,11 +113,6 @@ cause_first BadLength shape test rest = refl
 cause_first (DupField index) shape test rest = refl
 cause_first TooLarge shape test rest = refl
 
-elem_held : (e : Elem) → elem (held e) ≡ e
-elem_held (elems.int t) = refl
-elem_held (elems.text t) = refl
-elem_held (elems.compound fs) = refl
-
 -- the fault of what stands behind the type and the shape is what a test finds of the two
 abbrev Finds : (Elem → Shape → Result Content AttributeFault) → (Elem → Shape → Option Refusal) → Type 0
 Finds rest test = (e : Elem) (s : Shape) → fault (attribute_or (rest e s)) ≡ test e s
@@ -127,7 +123,7 @@ module _ (rest : Elem → Shape → Result Content AttributeFault) (test : Elem 
       ≡ first_of (fault (type_or kind) ∷ if_accepted (type_or kind) (shape_or shape) (λ k s. test (elem k) s) ∷ class_of (type_or kind) ∷ fault (shape_or shape) ∷ [])
   kind_first (Err f) shape = cause_first f.cause (shape_or shape) (λ k s. test (elem k) s) (fault (shape_or shape) ∷ [])
   kind_first (Ok e) (Err f) = refl
-  kind_first (Ok e) (Ok s) = finds e s ∙ ap (λ e. test e s) (sym (elem_held e)) ∙ alone (test (elem (held e)) s)
+  kind_first (Ok e) (Ok s) = finds e s ∙ ap (λ e. test e s) (sym (elem-elem_type e)) ∙ alone (test (elem (elem_type e)) s)
 
   tree_first : (tree : Option Data) (shape : Result Shape ShapeFault)
       → fault (attribute_or (typed_at tree >>= λ e. shape_read shape >>= λ s. rest e s))

@@ -1,12 +1,9 @@
 -- The objects that bodies are, and what their keys say: a folder, an entry, an attribute, a link, dims.
-use Rattle.std.specs.Prelude.{ℕ, ◌==◌, not, List, [], ◌∷◌, Bool, true, false, Option, Some, None, is_some, option_and_then, Result, Ok, Err, codes, if◌then◌else◌}
-use Rattle.std.specs.List.{list_all}
-use Rattle.std.specs.Str.{is_utf8}
+use Rattle.std.specs.Prelude.{ℕ, List, [], ◌∷◌, Bool, true, false, Option, Some, None, is_some, option_and_then, Result, Ok, Err, codes, if◌then◌else◌}
 use Rattle.serde_json.specs.Data.{Data, object, no_members}
 use Rattle.serde_json.specs.Find.{get, as_object}
-use Rattle.serde_json.specs.Read.{read}
 use Rattle.object_ids.specs.IdValues.{Id}
-use Rattle.object_ids.specs.Names.{is_name}
+use Rattle.object_ids.specs.Names.{is_name, has_no_slash}
 use Rattle.object_ids.specs.declared.names.NameFault.{NameFault}
 use Rattle.object_ids.specs.declared.names.NameFault.TheVariants as names
 use Rattle.object_ids.specs.declared.ids.Kind.{Kind}
@@ -16,11 +13,8 @@ use Rattle.access_lists.specs.declared.rights.Rights.{Rights}
 use Rattle.hdf_types.specs.declared.faults.Cause.{Cause}
 use Rattle.hdf_types.specs.declared.faults.Cause.TheVariants.{Unsupported}
 use Rattle.hdf_types.specs.declared.faults.TypeFault.TheVariants as types
-use Rattle.hdf_types.specs.declared.types.ElemType.{ElemType}
-use Rattle.hdf_types.specs.declared.types.ElemType.TheVariants.{Int, Text, Compound}
-use Rattle.hdf_types.specs.Elems.{Elem}
 use Rattle.hdf_types.specs.Elems as elems
-use Rattle.hdf_values.specs.Attributes.{Content, attribute_of as content_of}
+use Rattle.hdf_values.specs.Attributes.{Content, attribute_of as content_of, attribute}
 use Rattle.hdf_values.specs.declared.attributes.Attribute.{Attribute}
 use Rattle.hdf_values.specs.declared.attributes.AttributeFault.{AttributeFault}
 use Rattle.hdf_values.specs.declared.attributes.AttributeFault.TheVariants.{NoMemory, BadType, BadShape as NoShape}
@@ -42,16 +36,13 @@ use Rattle.object_ops.specs.declared.words.ShapeWord.TheVariants as word
 use Rattle.request_bodies.specs.declared.faults.BodyFault.{BodyFault}
 use Rattle.request_bodies.specs.declared.faults.BodyFault.TheVariants as bodies
 use Rattle.request_bodies.specs.Refusing.{or_refuse}
+use Rattle.json_trees.specs.Trees.{tree_in}
 
 -- ---- the object of a body
 
 -- the tree, where it is an object
 abbrev pub if_object : Data → Option Data
 if_object d = if is_some (as_object d) then Some d else None
-
--- what `serde_json` reads of bytes, where they are UTF-8
-abbrev pub tree_in : List ℕ → Option Data
-tree_in bytes = if is_utf8 bytes then read bytes else None
 
 -- the object that some bytes are
 unfoldable pub object_in : List ℕ → Option Data
@@ -88,12 +79,6 @@ shape_fault_word TooLarge = word.TooLarge
 abbrev pub shape_refusal : ShapeFault → Refusal
 shape_refusal fault = BadShape (shape_fault_word fault)
 
--- a type as plain data, as what holds it
-abbrev pub held : Elem → ElemType
-held (elems.int t) = Int t
-held (elems.text t) = Text t
-held (elems.compound fs) = Compound fs
-
 -- ---- attributes
 
 -- a fault of the value or of its size is the value's
@@ -101,9 +86,6 @@ abbrev pub attribute_refusal : AttributeFault → Refusal
 attribute_refusal (BadType (types.Refused path cause)) = type_refusal cause
 attribute_refusal (NoShape fault) = shape_refusal fault
 attribute_refusal fault = BadField field.Value
-
-abbrev pub attribute : Content → Attribute
-attribute c = record { elem = held c.kind; shape = c.shape; bytes = c.bytes }
 
 -- the same of what a call answers, where memory may be wanting
 abbrev pub attribute_fault : AttributeFault → BodyFault
@@ -146,9 +128,6 @@ link_fault links.NoMemory = bodies.NoMemory
 -- the name of an attribute or an entry
 abbrev pub name_in : List ℕ → Result (List ℕ) Refusal
 name_in text = if is_name 255 text then Ok text else Err BadName
-
-abbrev pub has_no_slash : List ℕ → Bool
-has_no_slash text = list_all (λ byte. not (byte == 47)) text
 
 -- a title is a name without a slash
 abbrev pub title_in : List ℕ → Result (List ℕ) Refusal

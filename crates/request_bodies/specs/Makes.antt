@@ -13,7 +13,7 @@ use Rattle.hdf_types.specs.declared.faults.TypeFault.{TypeFault}
 use Rattle.hdf_types.specs.declared.faults.TypeFault.TheVariants as types
 use Rattle.hdf_types.specs.declared.types.ElemType.{ElemType}
 use Rattle.hdf_types.specs.Elems.{Elem}
-use Rattle.hdf_types.specs.Views.{elem}
+use Rattle.hdf_types.specs.Views.{elem, elem_type}
 use Rattle.hdf_types.specs.Faults.{Fault}
 use Rattle.hdf_types.specs.Reading.{type_of}
 use Rattle.shapes.specs.declared.Shape.{Shape}
@@ -28,7 +28,7 @@ use Rattle.object_ops.specs.declared.words.FieldWord.TheVariants as field
 use Rattle.request_bodies.specs.declared.faults.BodyFault.{BodyFault}
 use Rattle.request_bodies.specs.declared.faults.BodyFault.TheVariants as bodies
 use Rattle.request_bodies.specs.Refusing.{or_refuse}
-use Rattle.request_bodies.specs.Bodies.{held, id_in, shape_refusal, title_in}
+use Rattle.request_bodies.specs.Bodies.{id_in, shape_refusal, title_in}
 use Rattle.request_bodies.specs.Properties.{properties_in}
 use Rattle.request_bodies.specs.declared.properties.Properties.{Properties}
 
@@ -46,7 +46,7 @@ class_given (types.Refused path (Unsupported class)) = Ok (Err (UnsupportedType 
 class_given (types.Refused path cause) = Err (bodies.Refused (BadField field.Type))
 
 abbrev pub type_or : Result Elem Fault → Result (Result ElemType Refusal) Refusal
-type_or (Ok e) = Ok (Ok (held e))
+type_or (Ok e) = Ok (Ok (elem_type e))
 type_or (Err fault) = class_or fault.cause
 
 abbrev pub type_in : Option Data → Result (Result ElemType Refusal) Refusal

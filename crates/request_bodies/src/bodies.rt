@@ -3,7 +3,8 @@
 ghost use Rattle.std.specs.Prelude.{◌≡◌, ◌⊎◌};
 ghost use Rattle.serde_json.specs.Errors.{IsMemory};
 ghost use Rattle.serde_json.specs.View.{view};
-ghost use Rattle.request_bodies.specs.Bodies.{body_in, object_in, tree_in};
+ghost use Rattle.request_bodies.specs.Bodies.{body_in, object_in};
+ghost use Rattle.json_trees.specs.Trees.{tree_in};
 ghost use Rattle.request_bodies.specs.Refusing.{Answers, Gives, or_refuse};
 ghost use Rattle.request_bodies.specs.declared.faults.BodyFault.TheVariants.{NoMemory, Refused};
 ghost use Rattle.object_ops.specs.declared.refusals.Refusal.TheVariants.{BadJson};

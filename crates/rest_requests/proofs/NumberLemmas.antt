@@ -28,7 +28,7 @@ use Rattle.shapes.specs.declared.ShapeFault.{ShapeFault}
 use Rattle.shapes.specs.Shapes.{count_of, dims_of, shape_of}
 use Rattle.object_ids.specs.declared.ids.Kind.{Kind}
 use Rattle.object_ids.specs.declared.ids.Kind.TheVariants.{Group, Dataset, Datatype}
-use Rattle.object_ids.specs.Names.{is_name}
+use Rattle.object_ids.specs.Names.{is_name, has_no_slash}
 use Rattle.object_ids.specs.Paths.{path_of as spelled_path, root_path}
 use Rattle.object_ops.specs.declared.ops.Part.TheVariants as part
 use Rattle.object_ops.specs.declared.refusals.Refusal.{Refusal}
@@ -36,7 +36,7 @@ use Rattle.object_ops.specs.declared.refusals.Refusal.TheVariants as no
 use Rattle.object_ops.specs.declared.words.FieldWord.TheVariants as field
 use Rattle.rest_requests.specs.Queries.Pairs.{Text}
 use Rattle.rest_requests.specs.Queries.Targets.{if_text, path_of, query_of}
-use Rattle.request_bodies.specs.Bodies.{body_in, dims_at, folder_in, has_no_slash, id_in, name_in, object_in, rights_in, target_in, title_in}
+use Rattle.request_bodies.specs.Bodies.{body_in, dims_at, folder_in, id_in, name_in, object_in, rights_in, target_in, title_in}
 use Rattle.request_bodies.specs.Makes.{class_or, group_in, shape_in, shape_or, title_text, type_in, type_or}
 use Rattle.request_bodies.specs.Order as bodies
 use Rattle.request_bodies.specs.Order.{class_of, fault, first_of, if_accepted, no_title, type_at}

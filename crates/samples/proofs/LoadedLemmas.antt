@@ -4,7 +4,7 @@ use Rattle.std.specs.List.{AllZip}
 use Rattle.std.specs.FinMap.{FinMap, empty, entries, get, insert, remove}
 use Rattle.std.specs.Cmp.Lexicographic.{nat_list_cmp_total}
 use Rattle.serde_json.specs.Data.{Data, member, no_members}
-use Rattle.containers.specs.TextMaps.Keyed.{text_order}
+use Rattle.containers.specs.TextMaps.Keyed.{text_order, with_entries}
 use Rattle.object_ids.specs.IdOrder.{id_order}
 use Rattle.object_ids.specs.IdValues.{Id}
 use Rattle.object_ids.specs.declared.ids.Kind.TheVariants as kind
@@ -15,8 +15,8 @@ use Rattle.shapes.specs.Places.{place}
 use Rattle.shapes.specs.Shapes.{LiesIn, dims_of}
 use Rattle.chunk_store.specs.Grids.{Grid, value_at}
 use Rattle.documents.specs.Parts.Arrays.{blank, with_bytes}
-use Rattle.documents.specs.Parts.Spelled.{IsArray, put_pairs}
-use Rattle.documents.specs.Reader.Loads.{AreMembers, IsMember, Loads, pairs_of}
+use Rattle.documents.specs.Parts.Spelled.{IsArray}
+use Rattle.documents.specs.Reader.Loads.{AreMembers, IsMember, Loads}
 use Rattle.documents.specs.declared.reader.loaded.Dataset.{Dataset}
 use Rattle.documents.specs.declared.reader.loaded.Datatype.{Datatype}
 use Rattle.documents.specs.declared.reader.loaded.Group.{Group}
@@ -32,6 +32,7 @@ use Rattle.samples.specs.Requests.{dataset_id, sample_path, sample_user}
 use Rattle.samples.specs.Worlds.{HoldsSample, IsFirst}
 use Rattle.samples.proofs.ArrayLemmas.{sample_is}
 use Rattle.samples.proofs.MapLemmas.{get_put, none_entries, none_left, one_entry}
+use Rattle.json_trees.specs.Trees.{pairs_of}
 
 -- ---- a root and a dataset
 
@@ -47,7 +48,7 @@ pub record IsOne (n : ℕ) (l : Loaded) : Type 0 where
 one_member : {X : Type 0} (R : List ℕ → Data → X → Type 0) (k : List ℕ) (d : Data) (m : FinMap text_order X) → AreMembers R (member k d no_members) m
     → (x : X) × (m ≡ insert empty k x) × R k d x
 one_member {X} R k d m h = at h.pairs h.each h.all where
-  at : (pairs : List (List ℕ × X)) → AllZip (IsMember R) (pairs_of (member k d no_members)) pairs → m ≡ put_pairs empty pairs → (x : X) × (m ≡ insert empty k x) × R k d x
+  at : (pairs : List (List ℕ × X)) → AllZip (IsMember R) (pairs_of (member k d no_members)) pairs → m ≡ with_entries empty pairs → (x : X) × (m ≡ insert empty k x) × R k d x
   at [] each all = absurd each
   at (p ∷ []) each all = (p.1, all ∙ ap (λ (key : List ℕ). insert empty key p.1) each.0.0, each.0.1)
   at (p ∷ (q ∷ ps)) each all = absurd each.1

@@ -1,5 +1,5 @@
 -- What is read of a sample's array.
-use Rattle.std.proofs.Common.{◌≡◌, ℕ, zero, suc, ◌+◌, ◌-◌, ◌*◌, ◌/◌, ◌%◌, ◌^◌, ◌<◌, ◌≤◌, List, [], ◌∷◌, map, length, get_or, Some, option_and_then, inl, inr, inl, inr, refl, sym, ap, subst, ◌∙◌, arith}
+use Rattle.std.proofs.Common.{◌≡◌, ℕ, suc, ◌+◌, ◌-◌, ◌*◌, ◌/◌, ◌%◌, ◌^◌, ◌<◌, ◌≤◌, List, [], ◌∷◌, map, length, get_or, Some, option_and_then, inl, inr, inl, inr, refl, sym, ap, subst, ◌∙◌, arith}
 use Rattle.std.specs.List.{AllByRecursion, range_with_len}
 use Rattle.std.proofs.lemmas.List.FromFn.{fill_by_all, length-map-range_with_len, get_or-map-range_with_len}
 use Rattle.std.proofs.lemmas.Option.{same_Some}
@@ -27,13 +27,9 @@ use Rattle.hyperslab.proofs.CellLemmas.{cells_counted, cells_listed, cells_withi
 use Rattle.samples.specs.Values.Samples.{element}
 use Rattle.samples.specs.Trees.{IsSample, i32, listed, read_row, read_tree, slab_of, whole}
 use Rattle.samples.proofs.ValueLemmas.{element_small, number_fits}
+use Rattle.json_trees.proofs.ListLemmas.{all_at}
 
 -- ---- lists that are told by their members
-
-all_at : {A : Type 0} (F : A → Type 0) (xs : List A) (i : ℕ) (d : A) → i < length xs → AllByRecursion F xs → F (get_or xs i d)
-all_at F [] i d h k = absurd (omega arith)
-all_at F (x ∷ xs) zero d h k = k.0
-all_at F (x ∷ xs) (suc i) d h k = all_at F xs i d (omega arith) k.1
 
 all_from : {A : Type 0} (F : A → Type 0) (xs : List A) (d : A) → ((i : ℕ) → i < length xs → F (get_or xs i d)) → AllByRecursion F xs
 all_from F [] d h = tt

@@ -37,7 +37,6 @@ use Rattle.object_acts.specs.declared.objects.Object.{Object}
 use Rattle.object_acts.specs.Objects.{empty_group}
 use Rattle.chunk_owner.specs.Lanes.{Objects}
 use Rattle.chunk_owner.specs.Acts.{HasFresh, IsStepOf, IsTouchedIn, acted, changed_by, linking, link_to, missing}
-use Rattle.chunk_owner.proofs.Eaches.{same_id}
 use Rattle.chunk_owner.proofs.KeptLemmas.{touched_named}
 use Rattle.register.proofs.Counting.{length-counted}
 use Rattle.register.proofs.GrantLemmas.{each_from}
@@ -51,6 +50,7 @@ use Rattle.service_core.specs.Steps.{AreGiven, IsGiven}
 use Rattle.service_core.specs.Turns.{AreReady, AreServable, IsServable}
 use Rattle.service_core.proofs.GivenLemmas.{HasGiven, MayGrant, given_same}
 use Rattle.chunk_owner.proofs.OfOwners.WholeLemmas.{get-set_at}
+use Rattle.object_ids.proofs.IdOrders.{tied_ids}
 
 -- what was given stays given, of as many lanes, and one place more is
 pub record Grows (old new : Door) : Type 0 where
@@ -237,7 +237,7 @@ module _ (d : Door) (m : Objects) (door : IsDoor d) (all : AreGiven d m) where
       after_or : (place : LinkPlace) (tied : Bool) → eq_by_cmp id_order fresh place.group ≡ tied
           → cond tied (linking grant (Some place) (Some fresh) (get m place.group)).1 (get m fresh) ≡ None
       after_or place true e =
-          let same : fresh ≡ place.group = same_id fresh place.group e in
+          let same : fresh ≡ place.group = tied_ids fresh place.group e in
           let none : get m place.group ≡ None = ap (get m) (sym same) ∙ new_here in
           ap (λ o. (linking grant (Some place) (Some fresh) o).1) none
           ∙ link_none place (place.group.domain == number) (id_eq place.group root)

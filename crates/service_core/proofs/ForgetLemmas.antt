@@ -6,10 +6,9 @@ use Rattle.std.specs.Ordering.{eq_by_cmp}
 use Rattle.std.specs.FinMap.{entries, find, get, get-empty, get-entries, get-from_entries, same_map}
 use Rattle.object_ids.specs.IdValues.{Id}
 use Rattle.object_ids.specs.IdOrder.{id_order}
-use Rattle.object_ids.proofs.IdOrders.{id_order_once, id_order_total}
+use Rattle.object_ids.proofs.IdOrders.{id_order_once, id_order_total, tied_ids}
 use Rattle.object_acts.specs.declared.objects.Object.{Object}
 use Rattle.chunk_owner.specs.Lanes.{Forgets, IsSameLane, Lane, Objects}
-use Rattle.chunk_owner.proofs.Eaches.{same_id}
 use Rattle.register.specs.Tickets.{AreEach}
 use Rattle.register.specs.declared.tickets.Turn.{Turn}
 use Rattle.chunk_owner.specs.Owners.Joined.{AreLanes, IsLane, whole}
@@ -32,12 +31,12 @@ module _ (number : ℕ) where
   dropped_or : (q : Id) (e : Id × Object) (es : List (Id × Object)) (tied own : Bool) → eq_by_cmp id_order q e.0 ≡ tied → (e.0.domain == number) ≡ own
       → find id_order q (filter is_other es) ≡ cond (q.domain == number) None (find id_order q es)
       → find id_order q (cond (not own) (e ∷ filter is_other es) (filter is_other es)) ≡ cond (q.domain == number) None (cond tied (Some e.1) (find id_order q es))
-  dropped_or q e es true true t o h = h ∙ at (ap (λ i. i.domain == number) (same_id q e.0 t) ∙ o) where
+  dropped_or q e es true true t o h = h ∙ at (ap (λ i. i.domain == number) (tied_ids q e.0 t) ∙ o) where
     at : (q.domain == number) ≡ true → cond (q.domain == number) None (find id_order q es) ≡ cond (q.domain == number) None (Some e.1)
     at b = ap (λ c. cond c None (find id_order q es)) b ∙ sym (ap (λ c. cond c None (Some e.1)) b)
   dropped_or q e es false true t o h = h
   dropped_or q e es true false t o h =
-      ap (λ c. cond c (Some e.1) (find id_order q (filter is_other es))) t ∙ sym (ap (λ c. cond c None (Some e.1)) (ap (λ i. i.domain == number) (same_id q e.0 t) ∙ o))
+      ap (λ c. cond c (Some e.1) (find id_order q (filter is_other es))) t ∙ sym (ap (λ c. cond c None (Some e.1)) (ap (λ i. i.domain == number) (tied_ids q e.0 t) ∙ o))
   dropped_or q e es false false t o h = ap (λ c. cond c (Some e.1) (find id_order q (filter is_other es))) t ∙ h
 
   none_either : (b : Bool) → absent ≡ cond b None None

@@ -5,7 +5,7 @@ use Rattle.std.specs.Ordering.{eq_by_cmp}
 use Rattle.std.proofs.lemmas.Cmp.{tied_itself}
 use Rattle.object_ids.specs.IdValues.{Id}
 use Rattle.object_ids.specs.IdOrder.{id_order}
-use Rattle.object_ids.proofs.IdOrders.{id_order_total}
+use Rattle.object_ids.proofs.IdOrders.{id_order_total, tied_ids}
 use Rattle.access_lists.specs.declared.people.Caller.{Caller}
 use Rattle.access_lists.specs.InForce.{has}
 use Rattle.domains.specs.Changes.{remove_fault, without_node}
@@ -29,7 +29,6 @@ use Rattle.object_ops.specs.declared.replies.Reply.TheVariants.{Done}
 use Rattle.object_acts.specs.declared.objects.Object.{Object}
 use Rattle.chunk_owner.specs.Acts.{act, acted, on_touched}
 use Rattle.chunk_owner.specs.Lanes.{Objects, at_id}
-use Rattle.chunk_owner.proofs.Eaches.{same_id}
 use Rattle.chunk_owner.proofs.KeptLemmas.{touched_named}
 use Rattle.register.specs.Decided.{Door, at_maybe, changed_at, decided, forgotten, node_removed, passed}
 use Rattle.register.specs.Grants.{HasSteps, IfGranted, IsIssueOf}
@@ -126,7 +125,7 @@ done_at w caller request id f gives =
     record {
       reply = gives.reply;
       there = left id ∙ ap (λ r. cond (is_eq r) new (get w.objects id)) (tied_itself id_order_total id);
-      others = λ q other. left q ∙ passed_over (eq_by_cmp id_order q id) new (get w.objects q) (λ e. other (same_id q id e));
+      others = λ q other. left q ∙ passed_over (eq_by_cmp id_order q id) new (get w.objects q) (λ e. other (tied_ids q id e));
     }
 
 module _ (issues : GrantsAreIssues) where

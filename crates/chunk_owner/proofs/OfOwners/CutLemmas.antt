@@ -4,7 +4,6 @@ use Rattle.std.specs.FinMap.{get}
 use Rattle.std.specs.List.{AllByRecursion}
 use Rattle.std.proofs.lemmas.Grind.{drop_more_same}
 use Rattle.std.proofs.lemmas.List.{drop-set-lt, get_or-drop, get_or-set_same, length-set, length-take-le, take_more, take_more_set}
-use Rattle.chunk_store.proofs.PickLemmas.{each_append, each_at}
 use Rattle.object_ids.specs.IdValues.{Id}
 use Rattle.object_ids.specs.Ids.{lane_of}
 use Rattle.object_acts.specs.declared.objects.Object.{Object}
@@ -25,6 +24,7 @@ use Rattle.chunk_owner.specs.Owners.Joined.{AreLanes, IsLane, whole}
 use Rattle.chunk_owner.specs.Owners.Records.{AreStillIn, AreUndropped, IsMarkedIn, IsStandingIn, LanesSay}
 use Rattle.chunk_owner.proofs.OfOwners.LaneKeys.{IsKeyOf, apart_below, each_first, each_set, key_of_lane, lanes_first, marked_first, marked_push, said_cut}
 use Rattle.chunk_owner.proofs.OfOwners.WholeLemmas.{at_home, lanes_same, this_lane, whole_same}
+use Rattle.json_trees.proofs.ListLemmas.{all_at, all_append}
 
 -- what is held after the cut tells the lanes as they are now
 abbrev Later : List Lane → List Lane → Held → Held → Type 0
@@ -75,7 +75,7 @@ module _ (n k : ℕ) (old now after : List Lane) (first mid new : List Record) (
   is_lane = this_lane n k now d.was d.left c.lanes few d.here
 
   was_whole : IsWhole d.was
-  was_whole = subst IsWhole d.here (each_at IsWhole now k d.was few c.wholes)
+  was_whole = subst IsWhole d.here (all_at IsWhole now k d.was few c.wholes)
 
   apart : AreApart (IsMarkedIn (take k old)) (IsMarked d.was.slots)
   apart = apart_below n k (take k old) d.was (lanes_first n 0 k old lanes) (each_first IsWhole k old were) (omega (arith, length-take-le k old (omega (arith, few_old)))) is_lane was_whole
@@ -115,7 +115,7 @@ module _ (n k : ℕ) (old now after : List Lane) (first mid new : List Record) (
 
   -- no slot of the lane was dropped
   was_undropped : AreUndropped old → IsUndropped d.was.slots
-  was_undropped undropped = subst (λ (l : Lane). IsUndropped l.slots) here_old (each_at (λ l. IsUndropped l.slots) old k d.was few_old undropped)
+  was_undropped undropped = subst (λ (l : Lane). IsUndropped l.slots) here_old (all_at (λ l. IsUndropped l.slots) old k d.was few_old undropped)
 
   slot_stands : (r : Record) → IsSlotRecord d.was.slots r → IsStandingIn old r
   slot_stands r h undropped = let there = stands_by h.slot.mark h.slot.object (was_undropped undropped h.id h.slot h.here) in record {
@@ -152,7 +152,7 @@ module _ (n k : ℕ) (old now after : List Lane) (first mid new : List Record) (
     rest = ap (drop (k + 1)) d.set ∙ drop-set-lt (k + 1) now k d.left (omega arith) ∙ drop_more_same now old k c.rest;
     lanes = front_lanes;
     objects = front_objects;
-    still = subst AreStillIn (sym (ap (take (k + 1)) d.set ∙ take_more_set now k d.left few)) (each_append (λ l. AreStill l.slots) (take k now) (d.left ∷ []) c.still (still_here still, tt));
+    still = subst AreStillIn (sym (ap (take (k + 1)) d.set ∙ take_more_set now k d.left few)) (all_append (λ l. AreStill l.slots) (take k now) (d.left ∷ []) c.still (still_here still, tt));
     wholes = subst (λ (ls : List Lane). AllByRecursion IsWhole ls) (sym d.set) (each_set IsWhole k now d.left d.whole c.wholes);
   }
 

@@ -3,7 +3,6 @@ use Rattle.std.proofs.Common.{◌≡◌, ◌≢◌, ℕ, ◌+◌, ◌<◌, ◌�
 use Rattle.std.specs.FinMap.{get}
 use Rattle.std.specs.Result.{IsErrAnd}
 use Rattle.std.proofs.lemmas.List.{get_or_push, length_push}
-use Rattle.chunk_store.proofs.PickLemmas.{each_append}
 use Rattle.object_ids.specs.IdValues.{Id}
 use Rattle.object_ids.specs.Ids.{InRange, lane_of}
 use Rattle.object_acts.specs.declared.objects.Object.{Object}
@@ -19,6 +18,7 @@ use Rattle.chunk_owner.proofs.Eaches.{each_empty}
 use Rattle.chunk_owner.specs.Owners.Joined.{AreLanes, IsLane, whole}
 use Rattle.chunk_owner.specs.Owners.Records.{AreFaultless, AreGivenUpTo, AreStillIn, IsFirstFault, LaneSays, LanesSay}
 use Rattle.chunk_owner.proofs.OfOwners.WholeLemmas.{at_home, each_push, get-push, lanes_push, or_else, or_none, own_of_whole}
+use Rattle.json_trees.proofs.ListLemmas.{all_append}
 
 module _ (n run next : ℕ) (held : Held) where
   -- the records of the lane of a number made it
@@ -86,8 +86,8 @@ module _ (n run next : ℕ) (held : Held) where
     made_more more e = subst (λ (xs : List Lane). AreMade xs) (sym e) (record {
       lanes = lanes_more;
       described = described_more;
-      says = each_append (LaneSays held) ls (l ∷ []) h.says (says_here, tt);
-      still = each_append (λ x. AreStill x.slots) ls (l ∷ []) h.still (made.still, tt);
+      says = all_append (LaneSays held) ls (l ∷ []) h.says (says_here, tt);
+      still = all_append (λ x. AreStill x.slots) ls (l ∷ []) h.still (made.still, tt);
       given = each_push (λ id o. (id.run ≤ run) × (id.domain < next)) ls l h.given (λ id o there. let g = made.given id o there in (g.1, g.2));
       faultless = faultless_more;
     })

@@ -7,7 +7,7 @@ use Rattle.containers.proofs.TextMaps.ValueMaps.{empty-values}
 use Rattle.object_ids.specs.IdValues.{Id}
 use Rattle.object_ids.specs.IdOrder.{id_order}
 use Rattle.object_ids.specs.Ids.{lane_of}
-use Rattle.object_ids.proofs.IdOrders.{id_order_once, id_order_total}
+use Rattle.object_ids.proofs.IdOrders.{id_order_once, id_order_total, tied_ids}
 use Rattle.object_ops.specs.Answers.{Follows}
 use Rattle.object_ops.specs.declared.ops.Op.{Op}
 use Rattle.object_ops.specs.declared.ops.Op.TheVariants.{MakeObject}
@@ -18,7 +18,7 @@ use Rattle.object_acts.specs.declared.objects.Object.{Object}
 use Rattle.object_acts.specs.Objects.{unmarked}
 use Rattle.chunk_owner.specs.Lanes.{AreShown, Each, IsSameLane, IsWhole, Lane, Objects, set_at}
 use Rattle.chunk_owner.specs.Acts.{HasFresh, IsFreshFor, IsTouchedIn, on_touched}
-use Rattle.chunk_owner.proofs.Eaches.{get-shown, same_id}
+use Rattle.chunk_owner.proofs.Eaches.{get-shown}
 use Rattle.chunk_owner.specs.Owners.Joined.{AreLanes, IsLane, merged, whole}
 
 -- ---- one map of many
@@ -83,7 +83,7 @@ module _ (n : ℕ) where
   put_later false w p j none = refl
 
   home_of : (q id : Id) → eq_by_cmp id_order q id ≡ true → lane_of n q ≡ lane_of n id
-  home_of q id e = ap (lane_of n) (same_id q id e)
+  home_of q id e = ap (lane_of n) (tied_ids q id e)
 
   get-put : (k i : ℕ) (ls : List Lane) (l new : Lane) (id : Id) (w : Option Object) → AreLanes n k ls → lane_of n id ≡ k + i → i < length ls → get_or ls i l ≡ l
       → new.objects ≡ set_at l.objects id w → (q : Id) → get (whole (slice_set ls i new)) q ≡ cond (eq_by_cmp id_order q id) w (get (whole ls) q)
@@ -133,7 +133,7 @@ module _ (n i : ℕ) (ls : List Lane) (l new : Lane) (h : AreLanes n 0 ls) (few 
 
   own_after : (id : Id) (w : Option Object) → lane_of n id ≡ i → new.objects ≡ set_at l.objects id w → (q : Id) → (lane_of n q ≡ i → ⊥) → get new.objects q ≡ None
   own_after id w at put q far =
-      ap (λ m. get m q) put ∙ get-set_at l.objects id w q ∙ other (eq_by_cmp id_order q id) (λ t. far (ap (lane_of n) (same_id q id t) ∙ at)) ∙ this_lane.own q far where
+      ap (λ m. get m q) put ∙ get-set_at l.objects id w q ∙ other (eq_by_cmp id_order q id) (λ t. far (ap (lane_of n) (tied_ids q id t) ∙ at)) ∙ this_lane.own q far where
         other : (b : Bool) → (b ≡ true → ⊥) → cond b w (get l.objects q) ≡ get l.objects q
         other true differ = absurd (differ refl)
         other false differ = refl

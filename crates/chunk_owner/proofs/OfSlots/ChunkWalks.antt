@@ -12,11 +12,9 @@ use Rattle.chunk_store.specs.Marks.{ComesAfter, IsNext, is_after}
 use Rattle.chunk_store.proofs.NextLemmas.{after_read}
 use Rattle.chunk_owner.specs.Slots.Cutting.{AreDistinct, is_among}
 use Rattle.containers.proofs.Passing.{by_bool, contrary, lt_less, or_more, or_either, fewer_there, found_lookup}
+use Rattle.json_trees.proofs.TableLemmas.{equal_bytes}
 
 -- ---- chunks among others
-
-itself : (i : List ℕ) → bytes_eq i i ≡ true
-itself i = (bytes_eq-Decides i i).1 refl
 
 turned : (i j : List ℕ) → bytes_eq i j ≡ false → bytes_eq j i ≡ false
 turned i j e = by_bool (bytes_eq j i) (bytes_eq j i ≡ false)
@@ -28,7 +26,7 @@ among_front [] i j e = contrary false (is_among (i ∷ []) j ≡ true) e refl
 among_front (k ∷ is) i j e = or_more (bytes_eq j k) (is_among is j) (is_among (is ++ i ∷ []) j) (among_front is i j) e
 
 among_last : (is : List (List ℕ)) (i : List ℕ) → is_among (is ++ i ∷ []) i ≡ true
-among_last [] i = or_left (bytes_eq i i) false (itself i)
+among_last [] i = or_left (bytes_eq i i) false (equal_bytes i)
 among_last (k ∷ is) i = or_right (bytes_eq i k) (is_among (is ++ i ∷ []) i) (among_last is i)
 
 among_either : (is : List (List ℕ)) (i j : List ℕ) (P : Type 0) → (is_among is j ≡ true → P) → (j ≡ i → P) → is_among (is ++ i ∷ []) j ≡ true → P

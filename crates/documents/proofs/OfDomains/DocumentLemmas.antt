@@ -1,11 +1,10 @@
 -- The collections of a document.
-use Rattle.std.proofs.Common.{◌≡◌, ℕ, Bool, true, false, ◌&&◌, ◌==◌, cond, ◌⊎◌, inl, inr, List, [], ◌∷◌, Option, Some, None, option_map, Ordering, Less, Equal, Greater, is_eq, refl, rules, sym, ap, subst, ◌∙◌}
+use Rattle.std.proofs.Common.{◌≡◌, ℕ, Bool, true, false, ◌&&◌, ◌==◌, cond, ◌⊎◌, inl, inr, List, [], ◌∷◌, Option, Some, None, option_map, Ordering, Less, Equal, Greater, refl, rules, sym, ap, subst, ◌∙◌}
 use Rattle.std.specs.Cmp.Rules.{comparing}
 use Rattle.std.specs.FinMap.{entries, entries_sorted, find, get, get-entries}
 use Rattle.std.specs.List.{AllByRecursion}
 use Rattle.std.specs.List.Sorted.{IsStrictlySortedBy}
 use Rattle.std.specs.Ordering.{eq_by_cmp, match_ordering}
-use Rattle.std.proofs.lemmas.Cmp.{tied_itself}
 use Rattle.std.proofs.lemmas.Bool.{and_parts, eqb-true, or_parts}
 use Rattle.serde_json.specs.Data.{Data, Members, no_members, member, put}
 use Rattle.serde_json.specs.Find.{get_member}
@@ -16,7 +15,7 @@ use Rattle.object_ids.specs.IdValues.{Id}
 use Rattle.object_ids.specs.Ids.{InRange, text_of_id}
 use Rattle.object_ids.specs.declared.ids.Kind.{Kind}
 use Rattle.object_ids.specs.declared.ids.Kind.TheVariants.{Group, Dataset, Datatype}
-use Rattle.object_ids.proofs.IdOrders.{id_order_total}
+use Rattle.object_ids.proofs.IdOrders.{same_itself}
 use Rattle.object_acts.specs.Objects.{empty_group}
 use Rattle.object_acts.specs.declared.objects.Object.{Object}
 use Rattle.object_acts.proofs.OfExact.Floats.{neither}
@@ -32,9 +31,6 @@ use Rattle.documents.proofs.OfDomains.MemberLemmas.{IsPut, Rising, all_within, b
 
 ids_alike : (x y : Id) → eq_by_cmp id_order x y ≡ id_eq x y
 ids_alike = search (comparing, rules) depth 9
-
-itself : (x : Id) → id_eq x x ≡ true
-itself x = sym (ids_alike x x) ∙ ap is_eq (tied_itself id_order_total x)
 
 -- ---- what stands at the text of an id
 
@@ -83,7 +79,7 @@ module _ (m : Objects) (h : Home) (k : Kind) where
 
   -- the root, as it is held or as an empty group
   root_found : (o : Option Object) → (x : Object) × (held_or_root h h.root o ≡ Some x)
-  root_found None = (empty_group, ap (λ b. cond b (Some empty_group) None) (itself h.root))
+  root_found None = (empty_group, ap (λ b. cond b (Some empty_group) None) (same_itself h.root))
   root_found (Some x) = (x, refl)
 
   -- the members with the root's entry

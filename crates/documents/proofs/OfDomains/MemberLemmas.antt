@@ -17,7 +17,7 @@ use Rattle.containers.proofs.TextMaps.Walks.{found_above}
 use Rattle.object_ids.specs.IdOrder.{id_order}
 use Rattle.object_ids.specs.IdValues.{Id}
 use Rattle.object_ids.specs.Ids.{InRange, text_of_id}
-use Rattle.object_ids.proofs.IdOrders.{id_order_once, id_order_total}
+use Rattle.object_ids.proofs.IdOrders.{id_order_total, itself, tied_ids}
 use Rattle.object_ids.proofs.IdTexts.{same_id}
 use Rattle.documents.specs.Domains.Documents.{put_entries, put_entry}
 use Rattle.documents.specs.Domains.Laws.{keys_of}
@@ -66,12 +66,6 @@ module _ {X : Type 0} (test : Id → Bool) (tree : X → Data) where
 
 -- ---- what stands at the text of an id
 
-same_ids : (x y : Id) → eq_by_cmp id_order x y ≡ true → x ≡ y
-same_ids x y e = id_order_once x y ((Equal-is (id_order x y)).0 e)
-
-itself : (x : Id) → eq_by_cmp id_order x x ≡ true
-itself x = ap is_eq (tied_itself id_order_total x)
-
 differ : (x y : Id) → eq_by_cmp id_order x y ≡ false → x ≢ y
 differ x y e same = let both : true ≡ false = sym (ap (eq_by_cmp id_order x) (sym same) ∙ itself x) ∙ e in absurd (cc)
 
@@ -90,7 +84,7 @@ module _ {X : Type 0} (test : Id → Bool) (tree : X → Data) where
 
     at : (same_id b : Bool) → eq_by_cmp id_order id e.0 ≡ same_id → test e.0 ≡ b
         → get_member (text_of_id id) (cond (test e.0) (put (text_of_id e.0) (tree e.1) ms) ms) ≡ cond (eq_by_cmp id_order id e.0 && test id) (Some (tree e.1)) (get_member (text_of_id id) ms)
-    at true b is t = same (same_ids id e.0 is) (test e.0) refl ∙ sym (ap (λ c. cond (c && test id) (Some (tree e.1)) (get_member (text_of_id id) ms)) is)
+    at true b is t = same (tied_ids id e.0 is) (test e.0) refl ∙ sym (ap (λ c. cond (c && test id) (Some (tree e.1)) (get_member (text_of_id id) ms)) is)
     at false true is t =
         ap (λ c. get_member (text_of_id id) (cond c (put (text_of_id e.0) (tree e.1) ms) ms)) t
         ∙ get_member-put_other (text_of_id id) (text_of_id e.0) (tree e.1) ms (λ texts. differ id e.0 is (same_id id e.0 here (there t) texts))

@@ -7,10 +7,10 @@ use Rattle.serde_json.specs.Data.{Data}
 use Rattle.json_trees.specs.Faults.{◌>>=◌}
 use Rattle.json_trees.specs.Trees.{list_in}
 use Rattle.json_trees.proofs.FaultLemmas.{bind_ok, test_ok}
-use Rattle.containers.specs.TextMaps.Keyed.{text_order}
+use Rattle.containers.specs.TextMaps.Keyed.{text_order, with_entries}
 use Rattle.documents.specs.Parts.Faults.{Fault, fault}
 use Rattle.documents.specs.Parts.Items.{each_item, items_at, listed_at}
-use Rattle.documents.specs.Parts.Spelled.{AreListedAt, AreListedIn, AreNew, put_pairs}
+use Rattle.documents.specs.Parts.Spelled.{AreListedAt, AreListedIn, AreNew}
 use Rattle.documents.specs.declared.parts.faults.DocCause.TheVariants.{NotADocument, Limit}
 use Rattle.containers.proofs.Plain.{ok_same}
 
@@ -36,15 +36,15 @@ module _ {X : Type 0} (R : Data → List ℕ × X → Type 0) (step : ℕ → Fi
   IsCompleteStep = (i : ℕ) (m : FinMap text_order X) (d : Data) (e : List ℕ × X) → R d e → contains_key m e.0 ≡ false → step i m d ≡ Ok (insert m e.0 e.1)
 
   each_sound : IsSoundStep → (m n : FinMap text_order X) (i : ℕ) (ds : List Data) → each_item step m i ds ≡ Ok n
-      → (pairs : List (List ℕ × X)) × AllZip R ds pairs × AreNew m pairs × (n ≡ put_pairs m pairs)
+      → (pairs : List (List ℕ × X)) × AllZip R ds pairs × AreNew m pairs × (n ≡ with_entries m pairs)
   each_sound one m n i [] e = ([], tt, tt, sym (ok_same m n e))
   each_sound one m n i (d ∷ ds) e =
       let a = bind_ok (step i m d) _ n e in
       let l = one i m a.0 d a.1 in
       let rest = each_sound one a.0 n (i + 1) ds a.2 in
-      (l.0 ∷ rest.0, (l.1, rest.1), (l.2, subst (λ (q : FinMap text_order X). AreNew q rest.0) l.3 rest.2), rest.3 ∙ ap (λ (q : FinMap text_order X). put_pairs q rest.0) l.3)
+      (l.0 ∷ rest.0, (l.1, rest.1), (l.2, subst (λ (q : FinMap text_order X). AreNew q rest.0) l.3 rest.2), rest.3 ∙ ap (λ (q : FinMap text_order X). with_entries q rest.0) l.3)
 
-  each_complete : IsCompleteStep → (m : FinMap text_order X) (i : ℕ) (ds : List Data) (pairs : List (List ℕ × X)) → AllZip R ds pairs → AreNew m pairs → each_item step m i ds ≡ Ok (put_pairs m pairs)
+  each_complete : IsCompleteStep → (m : FinMap text_order X) (i : ℕ) (ds : List Data) (pairs : List (List ℕ × X)) → AllZip R ds pairs → AreNew m pairs → each_item step m i ds ≡ Ok (with_entries m pairs)
   each_complete one m i [] [] h new = refl
   each_complete one m i [] (p ∷ ps) h new = absurd h
   each_complete one m i (d ∷ ds) [] h new = absurd h

@@ -10,17 +10,16 @@ use Rattle.json_trees.specs.Trees.{text_at}
 use Rattle.json_trees.proofs.FaultLemmas.{bind_ok, chosen, ok_or_ok, test_ok}
 use Rattle.json_trees.proofs.TreeLemmas.{and_then_some}
 use Rattle.containers.specs.TextMaps.Keyed.{text_order}
-use Rattle.object_ids.specs.Names.{is_name}
-use Rattle.hdf_types.specs.Elems.{Elem, int, text, compound}
+use Rattle.object_ids.specs.Names.{is_name, has_no_slash}
+use Rattle.hdf_types.specs.Elems.{Elem}
 use Rattle.hdf_types.specs.Reading.{type_of}
-use Rattle.hdf_types.specs.Views.{elem}
 use Rattle.hdf_types.specs.Faults as types
 use Rattle.hdf_types.proofs.TypeLemmas.{type_read, type_told}
 use Rattle.shapes.specs.declared.Shape.{Shape}
 use Rattle.shapes.specs.declared.ShapeFault.{ShapeFault}
 use Rattle.shapes.specs.Shapes.{IsShape, shape_of}
 use Rattle.shapes.proofs.ShapeLemmas.{shape_read, shape_told}
-use Rattle.hdf_values.specs.Attributes.{Content, IsTypeAt, attribute_of, content}
+use Rattle.hdf_values.specs.Attributes.{Content, IsTypeAt, attribute_of, content, attribute}
 use Rattle.hdf_values.specs.Shaped.{value_from}
 use Rattle.hdf_values.specs.declared.attributes.Attribute.{Attribute}
 use Rattle.hdf_values.specs.declared.attributes.AttributeFault.{AttributeFault}
@@ -36,12 +35,12 @@ use Rattle.chunk_store.specs.Grids.{Grid}
 use Rattle.object_ops.specs.Creation.Creations.{creation_of}
 use Rattle.object_ops.specs.declared.creation.faults.CreationFault.{CreationFault}
 use Rattle.documents.specs.Parts.Arrays.{array_at, blank, created, creation_at, creation_fault, filled_at, shape_at, shaped, value_at, value_fault, valued, with_bytes}
-use Rattle.documents.specs.Parts.AttributeLists.{attribute, attribute_at, attribute_fault, attribute_or, attribute_step, attributes_at, content_at, held}
+use Rattle.documents.specs.Parts.AttributeLists.{attribute_at, attribute_fault, attribute_or, attribute_step, attributes_at, content_at}
 use Rattle.documents.specs.Parts.Faults.{Fault, fault}
 use Rattle.documents.specs.Parts.Ids.{is_id}
 use Rattle.documents.specs.Parts.Items.{members_at}
 use Rattle.documents.specs.Parts.LinkLists.{hard_of, link_at, link_step, links_at, outward_of, target_at, target_by, target_of}
-use Rattle.documents.specs.Parts.Names.{has_no_slash, name_in, new_name, new_title, title_in, unless_there}
+use Rattle.documents.specs.Parts.Names.{name_in, new_name, new_title, title_in, unless_there}
 use Rattle.documents.specs.Parts.Paths.{under}
 use Rattle.documents.specs.Parts.Spelled.{AreAttributesAt, AreLinksAt, HasCells, IsArray, IsNamed, IsTarget, IsTitled}
 use Rattle.documents.specs.Parts.TitleMaps.{TargetMap}
@@ -51,6 +50,7 @@ use Rattle.documents.specs.declared.parts.targets.Target.{Target}
 use Rattle.documents.specs.declared.parts.targets.Target.TheVariants.{Hard, Soft, External}
 use Rattle.documents.proofs.OfParts.ListedLemmas.{bind_at, listed_complete, listed_sound, not_ok}
 use Rattle.containers.proofs.Plain.{ok_same}
+use Rattle.hdf_types.proofs.ViewLemmas.{elem-elem_type}
 
 -- what has a text at a key is an object
 object_of_text : (k : List ℕ) (d : Data) (t : List ℕ) → text_at k d ≡ Some t → (ms : Members) × (as_object d ≡ Some ms)
@@ -123,13 +123,8 @@ title_complete path m o title e good one new =
 
 -- ---- attributes
 
-held_same : (e : Elem) → elem (held e) ≡ e
-held_same (int t) = refl
-held_same (text t) = refl
-held_same (compound fs) = refl
-
 content_same : (c : Content) → content (attribute c) ≡ c
-content_same c = ap (λ (k : Elem). record { kind = k; shape = c.shape; bytes = c.bytes }) (held_same c.kind)
+content_same c = ap (λ (k : Elem). record { kind = k; shape = c.shape; bytes = c.bytes }) (elem-elem_type c.kind)
 
 content_sound : (path : List ℕ) (r : Result Content AttributeFault) (a : Attribute) → attribute_or path r ≡ Ok a → r ≡ Ok (content a)
 content_sound path (Ok c) a e = ap Ok (sym (content_same c) ∙ ap content (ok_same (attribute c) a e))

@@ -3,9 +3,8 @@ use Rattle.std.proofs.Common.{◌≡◌, ◌≢◌, ◌≤◌, ℕ, List, [], �
 use Rattle.std.specs.List.{list_all}
 use Rattle.std.proofs.lemmas.Bool.{false≢true, leb-true, and_parts}
 use Rattle.std.proofs.lemmas.List.Elements.{All-cons, All-nil}
-use Rattle.object_ids.specs.Names.{is_name, is_name_byte}
+use Rattle.object_ids.specs.Names.{is_name, is_name_byte, has_no_slash}
 use Rattle.groups_links.specs.Titles.{IsGoodTitle, most_of_title}
-use Rattle.documents.specs.Parts.Names.{has_no_slash}
 
 -- a name is as short as it is to be
 pub name_short : (most : ℕ) (text : List ℕ) → is_name most text ≡ true → length text ≤ most

@@ -7,15 +7,15 @@ use Rattle.serde_json.specs.Data.{Data, Members, member, no_members}
 use Rattle.serde_json.specs.Find.{as_object}
 use Rattle.json_trees.specs.Faults.{◌>>=◌}
 use Rattle.json_trees.proofs.FaultLemmas.{bind_ok, ok_or_ok}
-use Rattle.containers.specs.TextMaps.Keyed.{text_order}
+use Rattle.containers.specs.TextMaps.Keyed.{text_order, with_entries}
 use Rattle.documents.specs.Parts.Faults.{Fault, fault}
 use Rattle.documents.specs.Parts.Items.{members_at}
-use Rattle.documents.specs.Parts.Spelled.{put_pairs}
 use Rattle.documents.specs.declared.parts.faults.DocCause.TheVariants.{NotADocument}
 use Rattle.documents.proofs.OfParts.ListedLemmas.{bind_at, not_ok}
 use Rattle.documents.specs.Reader.Collections.{each_member, needed_at, part_at}
-use Rattle.documents.specs.Reader.Loads.{IsCollection, IsMember, IsNeeded, IsPart, pairs_of}
+use Rattle.documents.specs.Reader.Loads.{IsCollection, IsMember, IsNeeded, IsPart}
 use Rattle.containers.proofs.Plain.{some_value, ok_same}
+use Rattle.json_trees.specs.Trees.{pairs_of}
 
 pub members_sound : (path : List ℕ) (d : Data) (ms : Members) → members_at path d ≡ Ok ms → as_object d ≡ Some ms
 members_sound path d ms e = ok_or_ok (as_object d) (fault path NotADocument) ms e
@@ -38,15 +38,15 @@ module _ {X : Type 0} (R : List ℕ → Data → X → Type 0) (step : List ℕ 
   IsCompleteStep = (id : List ℕ) (m : FinMap text_order X) (d : Data) (x : X) → R id d x → step id m d ≡ Ok (insert m id x)
 
   each_sound : IsSoundStep → (m n : FinMap text_order X) (ms : Members) → each_member step m ms ≡ Ok n
-      → (pairs : List (List ℕ × X)) × AllZip (IsMember R) (pairs_of ms) pairs × (n ≡ put_pairs m pairs)
+      → (pairs : List (List ℕ × X)) × AllZip (IsMember R) (pairs_of ms) pairs × (n ≡ with_entries m pairs)
   each_sound one m n no_members e = ([], tt, sym (ok_same m n e))
   each_sound one m n (member id d ms) e =
       let a = bind_ok (step id m d) _ n e in
       let l = one id m a.0 d a.1 in
       let rest = each_sound one a.0 n ms a.2 in
-      ((id, l.0) ∷ rest.0, ((refl, l.1), rest.1), rest.2 ∙ ap (λ (q : FinMap text_order X). put_pairs q rest.0) l.2)
+      ((id, l.0) ∷ rest.0, ((refl, l.1), rest.1), rest.2 ∙ ap (λ (q : FinMap text_order X). with_entries q rest.0) l.2)
 
-  each_complete : IsCompleteStep → (m : FinMap text_order X) (ms : Members) (pairs : List (List ℕ × X)) → AllZip (IsMember R) (pairs_of ms) pairs → each_member step m ms ≡ Ok (put_pairs m pairs)
+  each_complete : IsCompleteStep → (m : FinMap text_order X) (ms : Members) (pairs : List (List ℕ × X)) → AllZip (IsMember R) (pairs_of ms) pairs → each_member step m ms ≡ Ok (with_entries m pairs)
   each_complete one m no_members [] h = refl
   each_complete one m no_members (p ∷ ps) h = absurd h
   each_complete one m (member id d ms) [] h = absurd h

@@ -10,7 +10,7 @@ use Rattle.serde_json.specs.Data.{Data}
 use Rattle.serde_json.specs.Find.{as_object, as_str, get}
 use Rattle.serde_json.specs.Read.{read}
 use Rattle.json_trees.specs.Faults.{◌>>=◌}
-use Rattle.json_trees.specs.Trees.{text_at}
+use Rattle.json_trees.specs.Trees.{text_at, tree_in}
 use Rattle.json_trees.proofs.FaultLemmas.{bind_ok, ok_or_ok, test_ok}
 use Rattle.documents.specs.Parts.Faults.{Answers, Fault, fault}
 use Rattle.documents.specs.Parts.Items.{members_at}
@@ -21,7 +21,7 @@ use Rattle.documents.specs.Reader.Collections.{dataset_step, datasets_at, dataty
 use Rattle.documents.specs.Reader.Documents.{doc_of, root_at, tree_doc, version_at}
 use Rattle.documents.specs.Reader.Loads.{IsDataset, IsDatatype, IsGroup, IsNeeded, IsPart, IsVersion, Loads, LoadsText}
 use Rattle.documents.specs.Reader.Objects.{Datasets, Datatypes, Groups}
-use Rattle.documents.specs.Reader.Texts.{json_at, most_bytes, text_tree, tree_in}
+use Rattle.documents.specs.Reader.Texts.{json_at, most_bytes, text_tree}
 use Rattle.documents.specs.declared.reader.loaded.Loaded.{Loaded}
 use Rattle.documents.proofs.OfReader.CollectionLemmas.{is_some_of, members_sound, members_there, needed_complete, needed_sound, part_complete, part_sound}
 use Rattle.documents.proofs.OfReader.ParseLemmas.{json_gone, json_read}

@@ -1,9 +1,9 @@
 -- Between what `serde_json` promises and the tree of a text.
-use Rattle.std.proofs.Common.{◌≡◌, inl, inr, ℕ, List, [], Bool, true, false, Option, Some, None, Result, Ok, Err, refl, sym, ap, subst, ◌∙◌}
+use Rattle.std.proofs.Common.{◌≡◌, inl, inr, ℕ, List, [], Option, Some, None, Result, Ok, Err, sym, ap, subst, ◌∙◌}
 use Rattle.std.specs.Option.{ok_or}
 use Rattle.std.specs.Str.{IsUtf8, is_utf8}
-use Rattle.std.proofs.lemmas.Bool.{cond-false, cond-true}
-use Rattle.std.proofs.lemmas.Str.{IsUtf8-from_is_utf8, is_utf8-from_IsUtf8}
+use Rattle.std.proofs.lemmas.Bool.{cond-true}
+use Rattle.std.proofs.lemmas.Str.{is_utf8-from_IsUtf8}
 use Rattle.serde_json.specs.Data.{Data}
 use Rattle.serde_json.specs.Errors.{IsMemory}
 use Rattle.serde_json.specs.Read.{read}
@@ -12,16 +12,12 @@ use Rattle.documents.specs.Parts.Faults.{Fails, Fault, fault}
 use Rattle.documents.specs.declared.parts.faults.DocCause.TheVariants.{BadJson}
 use Rattle.documents.specs.declared.parts.faults.DocFault.{DocFault}
 use Rattle.documents.proofs.OfParts.ToldLemmas.{no_memory}
-use Rattle.documents.specs.Reader.Texts.{IsJsonFault, json_at, tree_in}
+use Rattle.documents.specs.Reader.Texts.{IsJsonFault, json_at}
+use Rattle.json_trees.specs.Trees.{tree_in}
+use Rattle.json_trees.proofs.TreeLemmas.{no_tree}
 
 pub in_complete : (text : List ℕ) (o : Option Data) → IsUtf8 text → read text ≡ o → tree_in text ≡ o
 in_complete text o utf8 is = cond-true (is_utf8 text) (read text) None (is_utf8-from_IsUtf8 text utf8) ∙ is
-
-pub no_tree : (text : List ℕ) → (IsUtf8 text → read text ≡ None) → tree_in text ≡ None
-no_tree text none = at (is_utf8 text) refl where
-  at : (b : Bool) → is_utf8 text ≡ b → tree_in text ≡ None
-  at true is = cond-true (is_utf8 text) (read text) None is ∙ none (IsUtf8-from_is_utf8 text is)
-  at false is = cond-false (is_utf8 text) (read text) None is
 
 -- a tree that was read
 pub json_read : (text : List ℕ) (d : Data) → IsUtf8 text → read text ≡ Some d → json_at text ≡ Ok d

@@ -4,11 +4,8 @@ use Rattle.std.specs.FinMap.{empty, insert}
 use Rattle.serde_json.specs.Data.{Data, Members}
 use Rattle.json_trees.specs.Faults.{◌>>=◌}
 use Rattle.json_trees.specs.Trees.{text_at}
-use Rattle.hdf_types.specs.declared.types.ElemType.{ElemType}
-use Rattle.hdf_types.specs.declared.types.ElemType.TheVariants.{Int, Text, Compound}
-use Rattle.hdf_types.specs.Elems.{Elem}
 use Rattle.hdf_types.specs.Elems as elems
-use Rattle.hdf_values.specs.Attributes.{Content, attribute_of}
+use Rattle.hdf_values.specs.Attributes.{Content, attribute_of, attribute}
 use Rattle.hdf_values.specs.declared.attributes.Attribute.{Attribute}
 use Rattle.hdf_values.specs.declared.attributes.AttributeFault.{AttributeFault}
 use Rattle.hdf_values.specs.declared.attributes.AttributeFault.TheVariants as attributes
@@ -20,15 +17,6 @@ use Rattle.documents.specs.Parts.Paths.{under}
 use Rattle.documents.specs.declared.parts.faults.DocCause.TheVariants.{BadType, BadShape, BadValue, Limit}
 use Rattle.documents.specs.declared.parts.faults.DocFault.{DocFault}
 use Rattle.documents.specs.declared.parts.faults.DocFault.TheVariants.{NoMemory}
-
--- a type as plain data, as what holds it
-abbrev pub held : Elem → ElemType
-held (elems.int t) = Int t
-held (elems.text t) = Text t
-held (elems.compound fs) = Compound fs
-
-abbrev pub attribute : Content → Attribute
-attribute c = record { elem = held c.kind; shape = c.shape; bytes = c.bytes }
 
 -- the fault of an attribute stands at the key that is missing or wrong; a value with too many bytes passes a limit
 abbrev pub attribute_fault : List ℕ → AttributeFault → Fault

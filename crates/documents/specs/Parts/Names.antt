@@ -1,10 +1,9 @@
 -- Names of attributes and titles of links, of which none stands twice in its list.
-use Rattle.std.specs.Prelude.{ℕ, List, Bool, not, ◌==◌, Option, Some, None, Result, Ok, Err, if◌then◌else◌}
+use Rattle.std.specs.Prelude.{ℕ, List, Option, Some, None, Result, Ok, Err, if◌then◌else◌}
 use Rattle.std.specs.FinMap.{FinMap, contains_key}
-use Rattle.std.specs.List.{list_all}
 use Rattle.json_trees.specs.Faults.{◌>>=◌}
 use Rattle.containers.specs.TextMaps.Keyed.{text_order}
-use Rattle.object_ids.specs.Names.{is_name}
+use Rattle.object_ids.specs.Names.{is_name, has_no_slash}
 use Rattle.attributes.specs.AttributeMaps.{longest_name}
 use Rattle.groups_links.specs.Titles.{most_of_title}
 use Rattle.documents.specs.Parts.Faults.{Fault, fault}
@@ -14,9 +13,6 @@ use Rattle.documents.specs.declared.parts.faults.DocCause.TheVariants.{BadName}
 abbrev pub name_in : ℕ → List ℕ → Option (List ℕ) → Result (List ℕ) Fault
 name_in most path None = Err (fault path BadName)
 name_in most path (Some text) = if is_name most text then Ok text else Err (fault path BadName)
-
-abbrev pub has_no_slash : List ℕ → Bool
-has_no_slash text = list_all (λ byte. not (byte == 47)) text
 
 -- a title, which is a name without a slash
 abbrev pub title_in : List ℕ → Option (List ℕ) → Result (List ℕ) Fault

@@ -5,8 +5,8 @@ use Rattle.std.specs.FinMap.{FinMap, empty, insert, contains_key}
 use Rattle.serde_json.specs.Data.{Data}
 use Rattle.serde_json.specs.Find.{get}
 use Rattle.json_trees.specs.Trees.{list_in, text_at}
-use Rattle.containers.specs.TextMaps.Keyed.{text_order}
-use Rattle.object_ids.specs.Names.{is_name}
+use Rattle.containers.specs.TextMaps.Keyed.{text_order, with_entries}
+use Rattle.object_ids.specs.Names.{is_name, has_no_slash}
 use Rattle.shapes.specs.Shapes.{IsShape}
 use Rattle.hdf_values.specs.Attributes.{IsTypeAt, attribute_of, content}
 use Rattle.hdf_values.specs.Shaped.{value_from}
@@ -20,17 +20,11 @@ use Rattle.chunk_store.specs.Grids.{Grid}
 use Rattle.object_ops.specs.Creation.Creations.{creation_of}
 use Rattle.documents.specs.Parts.Arrays.{blank, with_bytes}
 use Rattle.documents.specs.Parts.Ids.{is_id}
-use Rattle.documents.specs.Parts.Names.{has_no_slash}
 use Rattle.documents.specs.Parts.TitleMaps.{TargetMap}
 use Rattle.documents.specs.declared.parts.targets.Target.{Target}
 use Rattle.documents.specs.declared.parts.targets.Target.TheVariants.{Hard, Soft, External}
 
 -- ---- lists of entries
-
--- each put at its name, in turn
-abbrev pub put_pairs : {X : Type 0} → FinMap text_order X → List (List ℕ × X) → FinMap text_order X
-put_pairs m [] = m
-put_pairs m (e ∷ es) = put_pairs (insert m e.0 e.1) es
 
 -- no name stands in the map, or twice
 abbrev pub AreNew : {X : Type 0} → FinMap text_order X → List (List ℕ × X) → Type 0
@@ -43,7 +37,7 @@ pub record AreListed {X : Type 0} (most : ℕ) (R : Data → List ℕ × X → T
   pub pairs : List (List ℕ × X)
   pub each : AllZip R ds pairs
   pub apart : AreNew empty pairs
-  pub all : m ≡ put_pairs empty pairs
+  pub all : m ≡ with_entries empty pairs
 
 abbrev pub AreListedIn : {X : Type 0} → ℕ → (Data → List ℕ × X → Type 0) → Option (List Data) → FinMap text_order X → Type 0
 AreListedIn most R None m = ⊥

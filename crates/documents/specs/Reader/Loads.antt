@@ -1,15 +1,15 @@
 -- What a document holds, without an order of tests and without paths.
-use Rattle.std.specs.Prelude.{◌≡◌, ℕ, ◌≤◌, List, [], ◌∷◌, true, false, length, Option, Some, None, IsSome, IsUtf8, codes}
+use Rattle.std.specs.Prelude.{◌≡◌, ℕ, ◌≤◌, List, true, false, length, Option, Some, None, IsSome, IsUtf8, codes}
 use Rattle.std.specs.List.{AllZip}
 use Rattle.std.specs.FinMap.{FinMap, empty, contains_key}
-use Rattle.serde_json.specs.Data.{Data, Members, member, no_members}
+use Rattle.serde_json.specs.Data.{Data, Members}
 use Rattle.serde_json.specs.Find.{get, as_object, as_str}
 use Rattle.serde_json.specs.Read.{read}
-use Rattle.json_trees.specs.Trees.{text_at}
-use Rattle.containers.specs.TextMaps.Keyed.{text_order}
+use Rattle.json_trees.specs.Trees.{text_at, pairs_of}
+use Rattle.containers.specs.TextMaps.Keyed.{text_order, with_entries}
 use Rattle.hdf_values.specs.Attributes.{IsTypeAt}
 use Rattle.documents.specs.Parts.Ids.{has_id}
-use Rattle.documents.specs.Parts.Spelled.{AreAttributesAt, AreLinksAt, IsArray, put_pairs}
+use Rattle.documents.specs.Parts.Spelled.{AreAttributesAt, AreLinksAt, IsArray}
 use Rattle.documents.specs.Reader.Objects.{is_length}
 use Rattle.documents.specs.Reader.Texts.{most_bytes}
 use Rattle.documents.specs.declared.reader.loaded.Group.{Group}
@@ -42,10 +42,6 @@ pub record IsGroup (document : Data) (id : List ℕ) (d : Data) (x : Group) : Ty
 
 -- ---- collections
 
-abbrev pub pairs_of : Members → List (List ℕ × Data)
-pairs_of no_members = []
-pairs_of (member k d ms) = (k, d) ∷ pairs_of ms
-
 -- what a member spells stands at its key
 abbrev pub IsMember : {X : Type 0} → (List ℕ → Data → X → Type 0) → List ℕ × Data → List ℕ × X → Type 0
 IsMember R d x = (x.0 ≡ d.0) × R d.0 d.1 x.1
@@ -53,7 +49,7 @@ IsMember R d x = (x.0 ≡ d.0) × R d.0 d.1 x.1
 pub record AreMembers {X : Type 0} (R : List ℕ → Data → X → Type 0) (ms : Members) (m : FinMap text_order X) : Type 0 where
   pub pairs : List (List ℕ × X)
   pub each : AllZip (IsMember R) (pairs_of ms) pairs
-  pub all : m ≡ put_pairs empty pairs
+  pub all : m ≡ with_entries empty pairs
 
 abbrev pub IsCollection : {X : Type 0} → (List ℕ → Data → X → Type 0) → Option Members → FinMap text_order X → Type 0
 IsCollection R None m = ⊥

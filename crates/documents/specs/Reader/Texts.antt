@@ -1,23 +1,18 @@
 -- The text of a document, and its tree.
-use Rattle.std.specs.Prelude.{◌≡◌, ◌⊎◌, ℕ, List, [], Option, Result, Err, None, length, nat_le, if◌then◌else◌}
+use Rattle.std.specs.Prelude.{◌≡◌, ◌⊎◌, ℕ, List, [], Result, Err, length, nat_le, if◌then◌else◌}
 use Rattle.std.specs.Option.{ok_or}
-use Rattle.std.specs.Str.{is_utf8}
 use Rattle.serde_json.specs.Data.{Data}
 use Rattle.serde_json.specs.Errors.{IsMemory}
-use Rattle.serde_json.specs.Read.{read}
 use Rattle.serde_json.specs.declared.error.Error.{Error}
 use Rattle.documents.specs.Parts.Faults.{Fault, Tells, fault}
 use Rattle.documents.specs.declared.parts.faults.DocCause.TheVariants.{TooLong, BadJson}
 use Rattle.documents.specs.declared.parts.faults.DocFault.{DocFault}
 use Rattle.documents.specs.declared.parts.faults.DocFault.TheVariants.{NoMemory}
+use Rattle.json_trees.specs.Trees.{tree_in}
 
 -- the most bytes of a document
 abbrev pub most_bytes : ℕ
 most_bytes = 134217728
-
--- what `serde_json` reads of bytes, where they are UTF-8
-abbrev pub tree_in : List ℕ → Option Data
-tree_in bytes = if is_utf8 bytes then read bytes else None
 
 abbrev pub json_at : List ℕ → Result Data Fault
 json_at bytes = ok_or (tree_in bytes) (fault [] BadJson)

@@ -4,7 +4,8 @@ ghost use Rattle.std.specs.Prelude.{◌≡◌, ◌≤◌, IfOk, length, option_m
 ghost use Rattle.attributes.specs.AttributeMaps.{longest_name};
 ghost use Rattle.groups_links.specs.Titles.{IsGoodTitle};
 ghost use Rattle.documents.specs.Parts.Faults.{Answers};
-ghost use Rattle.documents.specs.Parts.Names.{has_no_slash, name_in, new_name, new_title, title_in};
+ghost use Rattle.documents.specs.Parts.Names.{name_in, new_name, new_title, title_in};
+ghost use Rattle.object_ids.specs.Names.{has_no_slash};
 
 use crate::parts::faults::{DocCause, DocFault, refused};
 use crate::parts::title_maps::Targets;

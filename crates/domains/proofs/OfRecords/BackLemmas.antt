@@ -8,8 +8,8 @@ use Rattle.std.specs.List.{AllByRecursion}
 use Rattle.std.proofs.lemmas.Bool.{le-leb}
 use Rattle.std.proofs.lemmas.Cmp.{nat_list_cmp_total, tied_itself}
 use Rattle.serde_json.specs.Data.{depth, members_depth}
-use Rattle.json_trees.specs.Trees.{all_in}
-use Rattle.containers.specs.TextMaps.Keyed.{text_order}
+use Rattle.json_trees.specs.Trees.{all_in, pairs_of}
+use Rattle.containers.specs.TextMaps.Keyed.{text_order, with_entries, map_of}
 use Rattle.containers.proofs.TextMaps.KeyedMaps.{exact_texts}
 use Rattle.containers.proofs.TextMaps.Walks.{found_above}
 use Rattle.object_ids.specs.Names.{is_name}
@@ -18,9 +18,10 @@ use Rattle.access_lists.specs.InForce.{Entries}
 use Rattle.access_lists.specs.Lists.{IsList}
 use Rattle.access_lists.specs.declared.rights.Rights.{Rights}
 use Rattle.domains.proofs.OfRecords.TidyLemmas.{Above, IsRising}
-use Rattle.domains.specs.Records.Lists.{entry_in, entry_of, list_in, map_of, only_if, pairs_of, with_entries}
+use Rattle.domains.specs.Records.Lists.{entry_in, entry_of, list_in}
 use Rattle.containers.proofs.Plain.{halves, less}
 use Rattle.containers.proofs.TextMaps.TextOrders.{greater}
+use Rattle.containers.specs.Options.{only_if}
 
 abbrev pub Row : Type 0
 Row = List ℕ × Rights

@@ -5,7 +5,7 @@ use Rattle.std.proofs.lemmas.Bool.{eqb-true, leb-true, and_parts}
 use Rattle.std.proofs.lemmas.Slice.Eq.{bytes_eq-Decides}
 use Rattle.serde_json.specs.Data.{unsigned, negative, float, Data, null, boolean, number, string, array, object, Members, no_members, member}
 use Rattle.serde_json.specs.Find.{as_bool, as_str, get_member}
-use Rattle.json_trees.specs.Trees.{all_in, whole_in}
+use Rattle.json_trees.specs.Trees.{all_in, whole_in, pairs_of}
 use Rattle.json_trees.proofs.TreeLemmas.{and_then_some, map_some}
 use Rattle.object_ids.specs.Ids.{text_of_id}
 use Rattle.object_ids.specs.Names.{is_name}
@@ -21,7 +21,7 @@ use Rattle.domains.specs.Contents.{HasRoot, NumberFits}
 use Rattle.domains.specs.declared.classes.Node.{Node}
 use Rattle.domains.specs.declared.classes.NodeClass.{NodeClass}
 use Rattle.domains.specs.declared.classes.NodeClass.TheVariants.{Folder, Domain}
-use Rattle.domains.specs.Records.Lists.{entry_in, entry_of, list_in, map_of, name_in, only_if, pairs_of, size}
+use Rattle.domains.specs.Records.Lists.{entry_in, entry_of, list_in, name_in, size}
 use Rattle.domains.specs.Records.Nodes.{HasId, IsKeptNode, acls_in, class_in, class_of, class_tree, domain_in, domain_of, folder_in, is_group, is_root, node_in, node_of_body, node_tree, number_at, owner_in, root_at}
 use Rattle.std.specs.Str.{is_utf8}
 use Rattle.serde_json.specs.Read.{read}
@@ -29,6 +29,8 @@ use Rattle.domains.proofs.OfRecords.TreeLemmas.{node_back}
 use Rattle.domains.proofs.OfRecords.BackLemmas.{Row, AreNamed, length-members, list_of_rows}
 use Rattle.domains.proofs.OfRecords.SameLemmas.{Within, count, length-pairs, same}
 use Rattle.domains.proofs.OfRecords.TidyLemmas.{EachTidy, IsRising, IsTidy, read_tidy, tidy_member}
+use Rattle.containers.specs.Options.{only_if}
+use Rattle.containers.specs.TextMaps.Keyed.{map_of}
 
 -- ---- what stands at a key
 

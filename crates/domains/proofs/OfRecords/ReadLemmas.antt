@@ -1,31 +1,19 @@
 -- What the steps of a reading answer.
-use Rattle.std.proofs.Common.{◌≡◌, ◌≢◌, ◌≤◌, ◌+◌, ℕ, suc, Bool, true, false, cond, List, [], ◌∷◌, length, Option, Some, None, option_map, option_and_then, if◌then◌else◌, IfSome, IfNone, String, Global, refl, sym, ap, arith, ◌∙◌}
+use Rattle.std.proofs.Common.{◌≡◌, ◌≤◌, ◌+◌, ℕ, suc, Bool, true, false, cond, List, [], ◌∷◌, length, Option, Some, None, option_map, option_and_then, if◌then◌else◌, String, Global, refl, sym, ap, arith, ◌∙◌}
 use Rattle.std.specs.FinMap.{contains_key, insert, len, len-insert}
 use Rattle.std.specs.Str.{IsUtf8, is_utf8}
 use Rattle.std.proofs.lemmas.Cmp.{nat_list_cmp_total}
 use Rattle.std.proofs.lemmas.Str.{IsUtf8-from_is_utf8, is_utf8-from_IsUtf8}
-use Rattle.serde_json.proofs.OnLiterals.{serde_json_on_literals}
 use Rattle.serde_json.specs.Data.{Data}
 use Rattle.serde_json.specs.Read.{read}
 use Rattle.serde_json.specs.View.{members_view}
 use Rattle.serde_json.specs.declared.value.Value.{Value}
-use Rattle.json_trees.specs.Trees.{all_in}
-use Rattle.object_ids.specs.IdValues.{Id}
-use Rattle.object_ids.specs.Ids.{InRange, text_of_id}
-use Rattle.groups_links.specs.IdTexts.{id_of}
-use Rattle.groups_links.proofs.IdLemmas.{id_read, no_id}
+use Rattle.json_trees.specs.Trees.{all_in, pairs_of}
 use Rattle.access_lists.specs.InForce.{Entries}
 use Rattle.access_lists.specs.declared.rights.Rights.{Rights}
-use Rattle.domains.specs.Records.Lists.{entry_of, pairs_of, with_entries}
+use Rattle.domains.specs.Records.Lists.{entry_of}
 use Rattle.domains.specs.Records.Nodes.{node_in, node_of_body}
-
--- ---- ids
-
--- what a text is read as is the id that it is
-pub told : (text : List ℕ) (found : Option Id) → IfSome found InRange → IfSome found (λ id. text_of_id id ≡ text)
-    → IfNone found ((id : Id) → InRange id → text_of_id id ≢ text) → found ≡ id_of text
-told text None range some none = sym (no_id text none)
-told text (Some id) range some none = sym (id_read text id range some)
+use Rattle.containers.specs.TextMaps.Keyed.{with_entries}
 
 -- ---- a walk over the members of an object
 
@@ -67,11 +55,6 @@ len-insert-le m k v = at (contains_key m k) (len m) (len (insert m k v)) (len-in
   at false n r e = omega arith
 
 -- ---- bodies
-
--- no tree is an empty text
-pub nothing_read : read [] ≡ None
-unfolding serde_json_on_literals
-nothing_read = refl
 
 pub body_reads : (text : List ℕ) (d : Data) → IsUtf8 text → read text ≡ Some d → node_of_body text ≡ node_in d
 body_reads text d utf8 reads =

@@ -5,9 +5,9 @@ use Rattle.serde_json.specs.Data.{Data, Members, no_members, member}
 use Rattle.serde_json.specs.Find.{get_member}
 use Rattle.containers.specs.TextMaps.Keyed.{text_order}
 use Rattle.containers.proofs.TextMaps.KeyedMaps.{exact_texts}
-use Rattle.domains.specs.Records.Lists.{pairs_of}
 use Rattle.domains.proofs.OfRecords.TidyLemmas.{Above, IsRising, above_weaker}
 use Rattle.containers.proofs.TextMaps.TextOrders.{turned, turned_back}
+use Rattle.json_trees.specs.Trees.{pairs_of}
 
 abbrev pub count : Members → ℕ
 count no_members = 0

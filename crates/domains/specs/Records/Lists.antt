@@ -1,16 +1,13 @@
 -- Access lists as trees spell them.
---     only_if test o      what is there, where a test passes
---     pairs_of, size      the members of an object, and how many there are
---     with_entries, map_of      a map with further entries, and the map of some entries
+--     size      how many members an object has
 --     name_in text      the name that a text is
 --     entry_in d      the entry that a tree spells
 --     entry_of e      a name, and the entry at it
 --     list_in d      the list that a tree spells
-use Rattle.std.specs.Prelude.{ℕ, List, [], ◌∷◌, Bool, ◌==◌, nat_le, length, Option, Some, None, option_map, option_and_then, if◌then◌else◌}
-use Rattle.std.specs.FinMap.{empty, insert}
-use Rattle.serde_json.specs.Data.{Data, Members, no_members, member}
+use Rattle.std.specs.Prelude.{ℕ, List, Bool, ◌==◌, nat_le, length, Option, Some, None, option_map, option_and_then, if◌then◌else◌}
+use Rattle.serde_json.specs.Data.{Data, Members}
 use Rattle.serde_json.specs.Find.{as_bool, as_object, get}
-use Rattle.json_trees.specs.Trees.{all_in}
+use Rattle.json_trees.specs.Trees.{all_in, pairs_of}
 use Rattle.object_ids.specs.Names.{is_name}
 use Rattle.access_lists.specs.EntryTrees.{rights_of}
 use Rattle.access_lists.specs.InForce.{Entries, most_entries}
@@ -18,15 +15,8 @@ use Rattle.access_lists.specs.RightWords.{right_name}
 use Rattle.access_lists.specs.declared.right.Right.{Right}
 use Rattle.access_lists.specs.declared.right.Right.TheVariants.{Create, Read, Update, Delete, ReadAcl, UpdateAcl}
 use Rattle.access_lists.specs.declared.rights.Rights.{Rights}
-
--- what is there, where a test passes
-abbrev pub only_if : {A : Type 0} → Bool → Option A → Option A
-only_if test o = if test then o else None
-
--- the keys of an object, each with what stands there
-abbrev pub pairs_of : Members → List (List ℕ × Data)
-pairs_of no_members = []
-pairs_of (member key d rest) = (key, d) ∷ pairs_of rest
+use Rattle.containers.specs.Options.{only_if}
+use Rattle.containers.specs.TextMaps.Keyed.{map_of}
 
 -- how many members a tree has
 abbrev pub size_of : Option Members → ℕ
@@ -35,14 +25,6 @@ size_of (Some ms) = length (pairs_of ms)
 
 abbrev pub size : Data → ℕ
 size d = size_of (as_object d)
-
--- a list with further entries, put one after another
-abbrev pub with_entries : Entries → List (List ℕ × Rights) → Entries
-with_entries list [] = list
-with_entries list (e ∷ es) = with_entries (insert list e.0 e.1) es
-
-abbrev pub map_of : List (List ℕ × Rights) → Entries
-map_of es = with_entries empty es
 
 -- a text that is a name, of any length
 abbrev pub name_in : List ℕ → Option (List ℕ)

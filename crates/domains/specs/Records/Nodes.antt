@@ -24,7 +24,8 @@ use Rattle.domains.specs.Contents.{HasRoot, NumberFits}
 use Rattle.domains.specs.declared.classes.Node.{Node}
 use Rattle.domains.specs.declared.classes.NodeClass.{NodeClass}
 use Rattle.domains.specs.declared.classes.NodeClass.TheVariants.{Folder, Domain}
-use Rattle.domains.specs.Records.Lists.{list_in, name_in, only_if, size}
+use Rattle.domains.specs.Records.Lists.{list_in, name_in, size}
+use Rattle.containers.specs.Options.{only_if}
 
 -- ---- the tree of a node: its class, its owner and its list, and of a domain its number and its root
 

@@ -18,6 +18,7 @@ use Rattle.json_import.specs.declared.fresh.names.Naming.{Naming}
 use Rattle.json_import.proofs.OfFresh.StandingLemmas.{AreOnce, id_put, name_all, name_kept, object_kept, text_put}
 use Rattle.containers.proofs.Plain.{halves, less}
 use Rattle.containers.proofs.TextMaps.TextOrders.{never_less}
+use Rattle.json_trees.proofs.ListLemmas.{all_weaker}
 
 -- the id is one of so many behind another
 pub record IsBehind (last : Id) (many : ℕ) (k : Kind) (id : Id) : Type 0 where
@@ -26,10 +27,6 @@ pub record IsBehind (last : Id) (many : ℕ) (k : Kind) (id : Id) : Type 0 where
   pub run : id.run ≡ last.run
   pub above : last.serial < id.serial
   pub within : id.serial ≤ last.serial + many
-
-all_weaker : {A : Type 0} (P Q : A → Type 0) → ((x : A) → P x → Q x) → (xs : List A) → AllByRecursion P xs → AllByRecursion Q xs
-all_weaker P Q weaker [] h = tt
-all_weaker P Q weaker (x ∷ xs) h = (weaker x h.0, all_weaker P Q weaker xs h.1)
 
 module _ {X : Type 0} (kind_of : X → Kind) where
   -- the text stands for one of so many ids behind another

@@ -17,7 +17,7 @@ use Rattle.object_ids.specs.IdValues.{Id}
 use Rattle.object_ids.specs.declared.ids.Kind.{Kind}
 use Rattle.object_ids.specs.declared.ids.Kind.TheVariants as kind
 use Rattle.object_ids.proofs.IdOrders.{id_order_once, id_order_total}
-use Rattle.hdf_values.proofs.PieceLemmas.{all_append, all_parts}
+use Rattle.hdf_values.proofs.PieceLemmas.{all_parts}
 use Rattle.attributes.proofs.MapLemmas.{each_entry}
 use Rattle.object_acts.specs.declared.objects.Object.{Object}
 use Rattle.documents.specs.declared.reader.loaded.Group.{Group}
@@ -31,6 +31,7 @@ use Rattle.json_import.proofs.OfFresh.FreshLemmas.{IsBefore, IsHeldIn, IsNamedBe
 use Rattle.json_import.proofs.OfFresh.ObjectLemmas.{under_count}
 use Rattle.json_import.proofs.OfFresh.StandingLemmas.{AreOnce, IsAbsent, Stands, absent_joined, all_stand, each_of, id_other, id_put, name_all, name_joined, name_kept, name_kind, object_kept, once_entries, once_joined, text_put}
 use Rattle.containers.proofs.Plain.{some_value}
+use Rattle.json_trees.proofs.ListLemmas.{all_append}
 
 -- ---- a map that is seen otherwise
 

@@ -9,16 +9,16 @@ use Rattle.std.specs.FinMap.{FinMap, empty, get as at_key, get-empty, get-insert
 use Rattle.std.proofs.lemmas.Option.{none-some}
 use Rattle.serde_json.specs.Data.{Data, Members, array, boolean, member, no_members, null, number, object, string}
 use Rattle.serde_json.specs.Find.{as_object, get, get_member}
-use Rattle.containers.specs.TextMaps.Keyed.{text_order}
+use Rattle.containers.specs.TextMaps.Keyed.{text_order, with_entries}
 use Rattle.containers.proofs.TextMaps.KeyedMaps.{exact_texts}
 use Rattle.documents.specs.Parts.Ids.{has_id}
-use Rattle.documents.specs.Parts.Spelled.{put_pairs}
-use Rattle.documents.specs.Reader.Loads.{AreMembers, IsCollection, IsDataset, IsDatatype, IsGroup, IsMember, IsNeeded, IsPart, Loads, pairs_of}
+use Rattle.documents.specs.Reader.Loads.{AreMembers, IsCollection, IsDataset, IsDatatype, IsGroup, IsMember, IsNeeded, IsPart, Loads}
 use Rattle.documents.specs.declared.reader.loaded.Dataset.{Dataset}
 use Rattle.documents.specs.declared.reader.loaded.Datatype.{Datatype}
 use Rattle.documents.specs.declared.reader.loaded.Group.{Group}
 use Rattle.documents.specs.declared.reader.loaded.Loaded.{Loaded}
 use Rattle.json_import.specs.Fresh.Laws.{StandForOne}
+use Rattle.json_trees.specs.Trees.{pairs_of}
 
 module _ {X : Type 0} (R : List ℕ → Data → X → Type 0) where
   -- a member has the key, and some tree spells the value
@@ -37,7 +37,7 @@ module _ {X : Type 0} (R : List ℕ → Data → X → Type 0) where
   here k o d ms is = ap (λ r. passed k r d ms) is
 
   -- what is found was there, or is the value of a member
-  put_found : (ms : Members) (ps : List (List ℕ × X)) (m : FinMap text_order X) → AllZip (IsMember R) (pairs_of ms) ps → (k : List ℕ) (x : X) → at_key (put_pairs m ps) k ≡ Some x
+  put_found : (ms : Members) (ps : List (List ℕ × X)) (m : FinMap text_order X) → AllZip (IsMember R) (pairs_of ms) ps → (k : List ℕ) (x : X) → at_key (with_entries m ps) k ≡ Some x
       → (at_key m k ≡ Some x) ⊎ Spells k x (is_some (get_member k ms))
   put_found no_members [] m h k x e = inl e
   put_found no_members (p ∷ ps) m h k x e = absurd h

@@ -1,23 +1,14 @@
 -- Types as plain data, and lists of objects.
-use Rattle.std.proofs.Common.{◌≡◌, ◌+◌, ◌++◌, map, length, refl, sym, ap, ◌∙◌}
+use Rattle.std.proofs.Common.{◌≡◌, ◌+◌, ◌++◌, map, length, sym, ap, ◌∙◌}
 use Rattle.std.proofs.lemmas.List.{length-append, length-map}
 use Rattle.std.specs.FinMap.{FinMap, entries, len, len-entries, values}
 use Rattle.containers.specs.TextMaps.Keyed.{text_order}
-use Rattle.hdf_types.specs.Views.{elem}
-use Rattle.hdf_types.specs.declared.types.ElemType.{ElemType}
-use Rattle.hdf_types.specs.declared.types.ElemType.TheVariants.{Int, Text, Compound}
-use Rattle.documents.specs.Parts.AttributeLists.{held}
 use Rattle.object_ids.specs.IdValues.{Id}
 use Rattle.documents.specs.declared.reader.loaded.Group.{Group}
 use Rattle.documents.specs.declared.reader.loaded.Dataset.{Dataset}
 use Rattle.documents.specs.declared.reader.loaded.Datatype.{Datatype}
 use Rattle.json_import.specs.Fresh.Names.{Names}
 use Rattle.json_import.specs.Fresh.Renamed.{dataset_object, datatype_object, group_object, objects_under}
-
-pub held_elem : (t : ElemType) → held (elem t) ≡ t
-held_elem (Int t) = refl
-held_elem (Text t) = refl
-held_elem (Compound fs) = refl
 
 values_count : {X Y : Type 0} (h : X → Y) (m : FinMap text_order X) → length (map h (values m)) ≡ len m
 values_count h m = length-map (values m) h ∙ length-map (entries m) (λ e. e.1) ∙ sym (len-entries m)

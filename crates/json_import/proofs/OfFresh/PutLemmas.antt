@@ -5,11 +5,10 @@ use Rattle.std.specs.Cmp.Lexicographic.{nat_list_cmp_total}
 use Rattle.std.specs.Option.{option_or}
 use Rattle.std.specs.Ordering.{eq_by_cmp}
 use Rattle.std.specs.FinMap.{FinMap, empty, entries, entries_sorted, find, get, get-empty, get-from_entries, get-insert, insert, is_sorted, same_map}
-use Rattle.containers.specs.TextMaps.Keyed.{text_order, with_values}
+use Rattle.containers.specs.TextMaps.Keyed.{text_order, with_values, with_entries}
 use Rattle.containers.specs.TextMaps.Nexts.{IsKeyStep, left}
 use Rattle.containers.proofs.TextMaps.KeyedMaps.{exact_texts}
 use Rattle.containers.proofs.TextMaps.ValueMaps.{entries-values}
-use Rattle.documents.specs.Parts.Spelled.{put_pairs}
 use Rattle.json_import.specs.Fresh.Taking.{put_at}
 use Rattle.json_import.proofs.OfFresh.TakingLemmas.{left_all, none_again}
 use Rattle.containers.proofs.Plain.{halves}
@@ -23,7 +22,7 @@ module _ {Y : Type 0} where
   or_none (Some y) = refl
 
   -- what is found once entries with rising keys were put
-  pub get-put : (m : FinMap text_order Y) (es : List (List ℕ × Y)) → T (is_sorted text_order es) → (q : List ℕ) → get (put_pairs m es) q ≡ option_or (find text_order q es) (get m q)
+  pub get-put : (m : FinMap text_order Y) (es : List (List ℕ × Y)) → T (is_sorted text_order es) → (q : List ℕ) → get (with_entries m es) q ≡ option_or (find text_order q es) (get m q)
   get-put m [] rising q = refl
   get-put m (e ∷ es) rising q =
       get-put (insert m e.0 e.1) es (halves _ _ rising).1 q
@@ -37,7 +36,7 @@ module _ {X Y : Type 0} (h : X → Y) where
   abbrev pub seen_as : List ℕ × X → List ℕ × Y
   seen_as e = (e.0, h e.1)
 
-  put_all : (m : FinMap text_order X) → put_pairs empty (map seen_as (entries m)) ≡ with_values h m
+  put_all : (m : FinMap text_order X) → with_entries empty (map seen_as (entries m)) ≡ with_values h m
   put_all m =
       let rising = subst (λ l. T (is_sorted text_order l)) (entries-values nat_list_cmp_total h m) (entries_sorted (with_values h m)) in
       same_map nat_list_cmp_total exact_texts _ _ (λ q.
@@ -48,19 +47,19 @@ module _ {X Y : Type 0} (h : X → Y) where
 
   -- what is put so far, with what is left of a walk
   abbrev pub put_left : FinMap text_order Y → Option (List ℕ) → FinMap text_order X → FinMap text_order Y
-  put_left made after m = put_pairs made (map seen_as (left text_order after (entries m)))
+  put_left made after m = with_entries made (map seen_as (left text_order after (entries m)))
 
   pub put_first : (m : FinMap text_order X) → put_left empty None m ≡ with_values h m
-  put_first m = ap (λ es. put_pairs empty (map seen_as es)) (left_all (entries m)) ∙ put_all m
+  put_first m = ap (λ es. with_entries empty (map seen_as es)) (left_all (entries m)) ∙ put_all m
 
   pub put_more : (m : FinMap text_order X) (after : Option (List ℕ)) (k : List ℕ) (old new : FinMap text_order Y) → IsKeyStep m after (Some k) → new ≡ put_at h k (get m k) old
       → put_left old after m ≡ with_values h m → put_left new (Some k) m ≡ with_values h m
   put_more m after k old new step made so_far =
       ap (λ n. put_left n (Some k) m) (made ∙ ap (λ o. put_at h k o old) step.1)
-      ∙ ap (λ es. put_pairs old (map seen_as es)) (sym step.2) ∙ so_far
+      ∙ ap (λ es. with_entries old (map seen_as es)) (sym step.2) ∙ so_far
 
   pub put_last : (m : FinMap text_order X) (after : Option (List ℕ)) (made : FinMap text_order Y) → IsKeyStep m after None → put_left made after m ≡ with_values h m → made ≡ with_values h m
-  put_last m after made none so_far = ap (λ es. put_pairs made (map seen_as es)) (sym none) ∙ so_far
+  put_last m after made none so_far = ap (λ es. with_entries made (map seen_as es)) (sym none) ∙ so_far
 
 -- each step leaves less
 pub less_left : {X : Type 0} (m : FinMap text_order X) (after : Option (List ℕ)) (k : List ℕ) → IsKeyStep m after (Some k)

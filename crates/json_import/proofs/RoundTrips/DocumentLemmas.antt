@@ -46,11 +46,12 @@ use Rattle.json_import.proofs.OfFresh.LoadedLemmas.{needed_found, part_found, st
 use Rattle.json_import.specs.RoundTrips.Laws.{HasRoom, IsAlone, home_of}
 use Rattle.json_import.specs.RoundTrips.Renamed.{at_texts, renamed, renamed_group, text_in}
 use Rattle.json_import.proofs.RoundTrips.EntryLemmas.{attributes_again, links_again}
-use Rattle.json_import.proofs.RoundTrips.HomeLemmas.{held_elem, held_told, id_length, member_is, member_told, no_member, other_rank}
+use Rattle.json_import.proofs.RoundTrips.HomeLemmas.{held_told, id_length, member_is, member_told, no_member, other_rank}
 use Rattle.json_import.proofs.RoundTrips.ListLemmas.{are_members, moved_found, moved_there}
 use Rattle.json_import.proofs.RoundTrips.OrderLemmas.{fresh_range}
 use Rattle.json_import.proofs.RoundTrips.PartLemmas.{array_again, kind_again}
 use Rattle.containers.proofs.Plain.{some_value}
+use Rattle.hdf_types.proofs.ViewLemmas.{elem-elem_type}
 
 -- ---- a new domain
 
@@ -221,7 +222,7 @@ module _
           no_dataset = ap is_some (not_there kind.Dataset text (datatype_object x) has (omega arith));
           object = refl;
           attributes = attributes_again (find (codes "attributes") was.1) x.attributes was.2.attributes;
-          kind = subst (λ e. IsTypeAt (Some (type_tree e)) x.kind) (sym (held_elem x.kind)) (kind_again (find (codes "type") was.1) x.kind was.2.kind);
+          kind = subst (λ e. IsTypeAt (Some (type_tree e)) x.kind) (sym (elem-elem_type x.kind)) (kind_again (find (codes "type") was.1) x.kind was.2.kind);
         }
 
     datatype_there : (text : List ℕ) (x : Datatype) → get l.datatypes text ≡ Some x

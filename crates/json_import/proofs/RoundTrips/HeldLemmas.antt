@@ -1,9 +1,8 @@
 -- The document of a domain is loaded as what the domain holds.
 use Rattle.std.proofs.Common.{◌≡◌, ◌≢◌, ◌↔◌, ◌≤◌, ◌<◌, ◌*◌, ◌==◌, ℕ, suc, All, Bool, true, false, ◌||◌, inl, inr, T, cond, List, [], ◌∷◌, length, map, slice_index_or, Option, Some, None, IsSome, is_some, is_eq, option_map, Ok, refl, sym, ap, subst, ◌∙◌, arith}
-use Rattle.std.specs.Cmp.{Equal-is}
 use Rattle.std.specs.List.{AllByRecursion, filter}
 use Rattle.std.specs.Ordering.{eq_by_cmp}
-use Rattle.std.proofs.lemmas.Bool.{and_parts, eq-eqb, eqb-true, or_left, and_from, or_right}
+use Rattle.std.proofs.lemmas.Bool.{and_parts, eq-eqb, eqb-true, or_left, or_right}
 use Rattle.std.proofs.lemmas.Cmp.{tied_itself}
 use Rattle.std.proofs.lemmas.List.{length-map}
 use Rattle.std.specs.FinMap.{FinMap, contains_key, empty, entries, entries_sorted, find as finite_find, get, get-empty, get-entries, get-insert, insert, is_sorted, len, len-empty, len-entries}
@@ -12,13 +11,13 @@ use Rattle.std.proofs.lemmas.Option.{none-some, same_Some}
 use Rattle.serde_json.specs.Data.{Data, Members, no_members}
 use Rattle.serde_json.specs.Find.{get as find}
 use Rattle.serde_json.specs.Find.{get_member}
-use Rattle.containers.specs.TextMaps.Keyed.{text_order}
+use Rattle.containers.specs.TextMaps.Keyed.{text_order, with_entries}
 use Rattle.object_ids.specs.IdOrder.{id_eq, id_order, kind_rank}
 use Rattle.object_ids.specs.IdValues.{Id}
 use Rattle.object_ids.specs.Ids.{InRange, text_of_id}
 use Rattle.object_ids.specs.declared.ids.Kind.{Kind}
 use Rattle.object_ids.specs.declared.ids.Kind.TheVariants as kind
-use Rattle.object_ids.proofs.IdOrders.{id_order_once, id_order_total}
+use Rattle.object_ids.proofs.IdOrders.{id_order_total, rank_once, tied_ids, same_itself}
 use Rattle.hdf_types.specs.Elems.{Elem}
 use Rattle.hdf_types.specs.Printed.{type_tree}
 use Rattle.hdf_types.specs.Reading.{size_of}
@@ -54,7 +53,7 @@ use Rattle.object_records.specs.Objects.{IsKeptBody}
 use Rattle.object_records.proofs.ReadLemmas.{no_slash}
 use Rattle.documents.specs.Parts.Arrays.{with_bytes}
 use Rattle.documents.specs.Parts.Ids.{is_id}
-use Rattle.documents.specs.Parts.Spelled.{AreAttributesAt, AreLinksAt, AreListed, IsNamed, IsTarget, IsTitled, put_pairs}
+use Rattle.documents.specs.Parts.Spelled.{AreAttributesAt, AreLinksAt, AreListed, IsNamed, IsTarget, IsTitled}
 use Rattle.documents.specs.Domains.Documents.{collection_tree, document_tree, put_each}
 use Rattle.documents.specs.Domains.Domains.{Objects, held_or_root, is_there}
 use Rattle.documents.specs.Domains.Entries.{Titles, entry_tree, is_shown, links_tree, shown_links, titled_tree}
@@ -68,7 +67,7 @@ use Rattle.documents.specs.declared.reader.loaded.Datatype.{Datatype}
 use Rattle.documents.specs.declared.reader.loaded.Group.{Group}
 use Rattle.json_import.specs.RoundTrips.Held.{AreSound, IsSoundAt, collection_in, dataset_of, datatype_of, group_of, held_in, held_pairs, pair_before, target_of, targets_in, whole}
 use Rattle.json_import.proofs.RoundTrips.EntryLemmas.{titled_at, values_same}
-use Rattle.json_import.proofs.RoundTrips.HomeLemmas.{id_length, member_is, member_told, no_member, other_rank, rank_same, same_id}
+use Rattle.json_import.proofs.RoundTrips.HomeLemmas.{id_length, member_is, member_told, no_member, other_rank, same_id}
 use Rattle.json_import.proofs.RoundTrips.ListLemmas.{IsIn, all_free, are_members, listed_of, put_in, put_there, sorted_new, zip_all}
 use Rattle.json_import.proofs.RoundTrips.PartLemmas.{array_held}
 use Rattle.containers.proofs.Plain.{halves, both_tests, some_value}
@@ -130,7 +129,7 @@ module _ {X Y : Type 0} (test : X → Bool) (h : X → Y) where
   -- those of a map's entries that pass a test, each seen as something else
   pub kept_listed : (most : ℕ) (R : Data → List ℕ × Y → Type 0) (tree : List ℕ × X → Data) (m : FinMap text_order X) → len m ≤ most
       → ((k : List ℕ) (x : X) → get m k ≡ Some x → test x ≡ true → R (tree (k, x)) (k, h x))
-      → AreListed most R (map tree (kept (entries m))) (put_pairs empty (seen (entries m)))
+      → AreListed most R (map tree (kept (entries m))) (with_entries empty (seen (entries m)))
   kept_listed most R tree m few each = record {
     few = omega (arith, few, length-map (kept (entries m)) tree, kept_count (entries m), len-entries m);
     pairs = seen (entries m);
@@ -178,13 +177,6 @@ no_links = record {
   sound = λ title link is. absurd (none-some link (sym (get-empty text_order title) ∙ is));
 }
 
-itself : (x : Id) → id_eq x x ≡ true
-itself x =
-    and_from _ _ (eq-eqb (kind_rank x.kind) (kind_rank x.kind) refl) (and_from _ _ (eq-eqb x.domain x.domain refl) (and_from _ _ (eq-eqb x.run x.run refl) (eq-eqb x.serial x.serial refl)))
-
-tied : (x y : Id) → eq_by_cmp id_order x y ≡ true → x ≡ y
-tied x y e = id_order_once x y ((Equal-is (id_order x y)).0 e)
-
 module _ (m : Objects) (h : Home) where
   -- an object is found as it is, where it is no root that isn't held
   as_held : (id : Id) (found : Option Object) → (id_eq id h.root ≡ true → found ≡ None → ⊥) → held_or_root h id found ≡ found
@@ -201,8 +193,8 @@ module _ (m : Objects) (h : Home) where
   whole_where None root id = get-insert id_order_total m h.root empty_group id ∙ at (eq_by_cmp id_order id h.root) refl where
     at : (b : Bool) → eq_by_cmp id_order id h.root ≡ b → cond b (Some empty_group) (get m id) ≡ held_or_root h id (get m id)
     at true tie =
-        let same = tied id h.root tie in
-        sym (ap (held_or_root h id) (ap (get m) same ∙ root) ∙ ap (λ b. cond b (Some empty_group) None) (ap (λ q. id_eq q h.root) same ∙ itself h.root))
+        let same = tied_ids id h.root tie in
+        sym (ap (held_or_root h id) (ap (get m) same ∙ root) ∙ ap (λ b. cond b (Some empty_group) None) (ap (λ q. id_eq q h.root) same ∙ same_itself h.root))
     at false tie = sym (as_held id (get m id) (λ alike none.
         let clash : true ≡ false = sym (ap (eq_by_cmp id_order id) (sym (same_id m h id h.root alike)) ∙ ap is_eq (tied_itself id_order_total id)) ∙ tie in absurd (cc)))
 
@@ -247,7 +239,7 @@ module _ {X : Type 0} (see : Object → Option X) (number : ℕ) where
         → (finite_find id_order id es ≡ Some o → IsIn (text_of_id id) x (held_pairs see number es))
         → IsIn (text_of_id id) x (pair_before (cond (e.0.domain == number) (see e.1) None) (text_of_id e.0) (held_pairs see number es))
     at true tie first later =
-        let same = tied id e.0 tie in
+        let same = tied_ids id e.0 tie in
         here (e.0.domain == number) (eq-eqb e.0.domain number (ap (λ (i : Id). i.domain) (sym same) ∙ numbers)) (see e.1) (ap see (same_Some e.1 o first) ∙ sees) (text_of_id e.0) (ap text_of_id same)
     at false tie first later = later_on (cond (e.0.domain == number) (see e.1) None) (later first)
 
@@ -387,7 +379,7 @@ module _
     datatype_held id attributes (body.Dataset array) x range kinds held parts is = absurd (none-some x is)
     datatype_held id attributes (body.Datatype type) x range kinds held parts is = subst (IsDatatype printed (text_of_id id) _) (same_Some _ x is) (record {
       named = id_length id;
-      no_dataset = ap is_some (not_there kind.Dataset id range (λ same. other_rank kind.Datatype kind.Dataset (omega arith) (sym kinds ∙ rank_same id.kind kind.Dataset same)));
+      no_dataset = ap is_some (not_there kind.Dataset id range (λ same. other_rank kind.Datatype kind.Dataset (omega arith) (sym kinds ∙ rank_once id.kind kind.Dataset same)));
       object = refl;
       attributes = attributes_held attributes held;
       kind = type_told (type_tree (elem type)) (elem type) (type_back (elem type) (type_tree (elem type)) parts refl);
@@ -412,8 +404,8 @@ module _
         → IsGroup printed (text_of_id id) (entry_tree m h (record { attributes = attributes; body = b })) x
     group_held id attributes (body.Group links) x range kinds held parts is = subst (IsGroup printed (text_of_id id) _) (same_Some _ x is) (record {
       named = id_length id;
-      no_dataset = ap is_some (not_there kind.Dataset id range (λ same. other_rank kind.Group kind.Dataset (omega arith) (sym kinds ∙ rank_same id.kind kind.Dataset same)));
-      no_datatype = ap is_some (not_there kind.Datatype id range (λ same. other_rank kind.Group kind.Datatype (omega arith) (sym kinds ∙ rank_same id.kind kind.Datatype same)));
+      no_dataset = ap is_some (not_there kind.Dataset id range (λ same. other_rank kind.Group kind.Dataset (omega arith) (sym kinds ∙ rank_once id.kind kind.Dataset same)));
+      no_datatype = ap is_some (not_there kind.Datatype id range (λ same. other_rank kind.Group kind.Datatype (omega arith) (sym kinds ∙ rank_once id.kind kind.Datatype same)));
       object = refl;
       attributes = attributes_held attributes held;
       links = links_held m h printed known links parts;
@@ -435,7 +427,7 @@ module _
 
     root_there : contains_key (held_in m h).groups (text_of_id h.root) ≡ true
     root_there =
-        let found = some_value (held_or_root h h.root (get m h.root)) (there_or_root h.root (get m h.root) (or_right (is_some (get m h.root)) _ (itself h.root))) in
+        let found = some_value (held_or_root h h.root (get m h.root)) (there_or_root h.root (get m h.root) (or_right (is_some (get m h.root)) _ (same_itself h.root))) in
         let there : get (whole m h) h.root ≡ Some found.0 = whole_is m h h.root ∙ found.1 in
         let held = held_of h.root found.0 there are.number in
         let seen = group_shown found.0.attributes found.0.body (sym held.sound.kinds ∙ are.group) in

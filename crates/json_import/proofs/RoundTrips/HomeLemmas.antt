@@ -4,9 +4,7 @@ use Rattle.std.proofs.lemmas.Bool.{and_parts, eq-eqb, eqb-true, ne_eqb, and_from
 use Rattle.std.proofs.lemmas.List.{length-append}
 use Rattle.std.specs.FinMap.{get}
 use Rattle.uuid.proofs.TextLemmas.{by_index_length}
-use Rattle.hdf_types.specs.Elems.{Elem}
 use Rattle.hdf_types.specs.Elems as elems
-use Rattle.hdf_types.specs.Views.{elem}
 use Rattle.object_ids.specs.IdOrder.{id_eq, kind_rank}
 use Rattle.object_ids.specs.IdValues.{Id}
 use Rattle.object_ids.specs.Ids.{prefix_of, text_of_id, uuid_of}
@@ -14,11 +12,11 @@ use Rattle.object_ids.specs.declared.ids.Kind.{Kind}
 use Rattle.object_ids.specs.declared.ids.Kind.TheVariants as kind
 use Rattle.object_acts.specs.Objects.{empty_group}
 use Rattle.object_acts.specs.declared.objects.Object.{Object}
-use Rattle.documents.specs.Parts.AttributeLists.{held}
 use Rattle.documents.specs.Domains.Domains.{Objects, held_or_root, object_at}
 use Rattle.documents.specs.Domains.Laws.{member_at}
 use Rattle.documents.specs.declared.domains.home.Home.{Home}
 use Rattle.documents.specs.Reader.Objects.{is_length}
+use Rattle.object_ids.proofs.IdOrders.{rank_once}
 
 -- ---- the texts of ids
 
@@ -37,24 +35,8 @@ id_length id = ap (λ n. nat_lt 0 n && nat_le n 255) (id_long id)
 
 -- ---- kinds
 
-pub rank_same : (a b : Kind) → kind_rank a ≡ kind_rank b → a ≡ b
-rank_same kind.Group kind.Group e = refl
-rank_same kind.Group kind.Dataset e = absurd (omega arith)
-rank_same kind.Group kind.Datatype e = absurd (omega arith)
-rank_same kind.Dataset kind.Group e = absurd (omega arith)
-rank_same kind.Dataset kind.Dataset e = refl
-rank_same kind.Dataset kind.Datatype e = absurd (omega arith)
-rank_same kind.Datatype kind.Group e = absurd (omega arith)
-rank_same kind.Datatype kind.Dataset e = absurd (omega arith)
-rank_same kind.Datatype kind.Datatype e = refl
-
 pub other_rank : (a b : Kind) → kind_rank a ≢ kind_rank b → a ≡ b → ⊥
 other_rank a b other same = other (ap kind_rank same)
-
-pub held_elem : (e : Elem) → elem (held e) ≡ e
-held_elem (elems.int t) = refl
-held_elem (elems.text t) = refl
-held_elem (elems.compound fs) = refl
 
 -- ---- the members of a domain
 
@@ -79,7 +61,7 @@ module _ (m : Objects) (h : Home) where
   member_told k id o is = at (kind_rank id.kind == kind_rank k) (id.domain == h.number) refl refl is where
     at : (a b : Bool) → (kind_rank id.kind == kind_rank k) ≡ a → (id.domain == h.number) ≡ b
         → cond (a && b) (cond b (held_or_root h id (get m id)) None) None ≡ Some o → IsMemberOf k id o
-    at true true p q e = record { same_kind = rank_same id.kind k (eqb-true _ _ p); number = eqb-true _ _ q; found = e }
+    at true true p q e = record { same_kind = rank_once id.kind k (eqb-true _ _ p); number = eqb-true _ _ q; found = e }
     at true false p q e = let none : None ≡ Some o = e in absurd (cc)
     at false b p q e = let none : None ≡ Some o = e in absurd (cc)
 
@@ -88,7 +70,7 @@ module _ (m : Objects) (h : Home) where
       let a = and_parts (kind_rank x.kind == kind_rank y.kind) _ e in
       let b = and_parts (x.domain == y.domain) _ a.1 in
       let c = and_parts (x.run == y.run) (x.serial == y.serial) b.1 in
-      let kinds = rank_same x.kind y.kind (eqb-true _ _ a.0) in
+      let kinds = rank_once x.kind y.kind (eqb-true _ _ a.0) in
       let domains = eqb-true x.domain y.domain b.0 in
       let runs = eqb-true x.run y.run c.0 in
       let serials = eqb-true x.serial y.serial c.1 in

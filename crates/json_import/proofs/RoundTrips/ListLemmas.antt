@@ -13,17 +13,17 @@ use Rattle.std.proofs.lemmas.List.{length-map}
 use Rattle.std.proofs.lemmas.Option.{none-some, same_Some}
 use Rattle.serde_json.specs.Data.{Data, Members, member, no_members}
 use Rattle.serde_json.specs.Find.{get_member}
-use Rattle.json_trees.specs.Trees.{list_in}
+use Rattle.json_trees.specs.Trees.{list_in, pairs_of}
 use Rattle.json_trees.proofs.TreeLemmas.{length-AllZip}
-use Rattle.containers.specs.TextMaps.Keyed.{text_order, with_values}
+use Rattle.containers.specs.TextMaps.Keyed.{text_order, with_values, with_entries}
 use Rattle.containers.proofs.TextMaps.KeyedMaps.{exact_texts}
 use Rattle.containers.proofs.TextMaps.ValueMaps.{entries-values}
 use Rattle.object_ids.proofs.PutLemmas.{insert_most}
 use Rattle.attributes.proofs.MapLemmas.{each_entry}
 use Rattle.documents.specs.Domains.Laws.{keys_of}
-use Rattle.documents.specs.Parts.Spelled.{AreListed, AreListedAt, AreListedIn, AreNew, put_pairs}
+use Rattle.documents.specs.Parts.Spelled.{AreListed, AreListedAt, AreListedIn, AreNew}
 use Rattle.json_import.proofs.OfFresh.PutLemmas.{get-put, or_none}
-use Rattle.documents.specs.Reader.Loads.{AreMembers, IsMember, pairs_of}
+use Rattle.documents.specs.Reader.Loads.{AreMembers, IsMember}
 use Rattle.json_import.specs.RoundTrips.Renamed.{at_texts}
 use Rattle.containers.proofs.Plain.{halves, less, both_tests}
 use Rattle.containers.proofs.TextMaps.TextOrders.{greater}
@@ -35,7 +35,7 @@ module _ {X : Type 0} where
   IsIn k x (p ∷ ps) = ((k ≡ p.0) × (x ≡ p.1)) ⊎ IsIn k x ps
 
   -- what is found was there, or stands in the list
-  put_told : (ps : List (List ℕ × X)) (m : FinMap text_order X) (k : List ℕ) (x : X) → get (put_pairs m ps) k ≡ Some x
+  put_told : (ps : List (List ℕ × X)) (m : FinMap text_order X) (k : List ℕ) (x : X) → get (with_entries m ps) k ≡ Some x
       → (get m k ≡ Some x) ⊎ IsIn k x ps
   put_told [] m k x is = inl is
   put_told (p ∷ ps) m k x is = at (put_told ps (insert m p.0 p.1) k x is) where
@@ -47,27 +47,27 @@ module _ {X : Type 0} where
     at (inl before) = here (eq_by_cmp text_order k p.0) refl (sym (get-insert nat_list_cmp_total m p.0 p.1 k) ∙ before)
     at (inr later) = inr (inr later)
 
-  pub put_in : (ps : List (List ℕ × X)) (k : List ℕ) (x : X) → get (put_pairs empty ps) k ≡ Some x → IsIn k x ps
+  pub put_in : (ps : List (List ℕ × X)) (k : List ℕ) (x : X) → get (with_entries empty ps) k ≡ Some x → IsIn k x ps
   put_in ps k x is = at (put_told ps empty k x is) where
     at : (get (empty {X = X} {R = text_order}) k ≡ Some x) ⊎ IsIn k x ps → IsIn k x ps
     at (inl e) = absurd (none-some x (sym (get-empty text_order k) ∙ e))
     at (inr h) = h
 
   -- what is there stays, or gives way to another entry at its key
-  put_stays : (ps : List (List ℕ × X)) (m : FinMap text_order X) (k : List ℕ) → IsSome (get m k) → IsSome (get (put_pairs m ps) k)
+  put_stays : (ps : List (List ℕ × X)) (m : FinMap text_order X) (k : List ℕ) → IsSome (get m k) → IsSome (get (with_entries m ps) k)
   put_stays [] m k there = there
   put_stays (p ∷ ps) m k there = put_stays ps (insert m p.0 p.1) k (subst IsSome (sym (get-insert nat_list_cmp_total m p.0 p.1 k)) (at (eq_by_cmp text_order k p.0))) where
     at : (b : Bool) → IsSome (cond b (Some p.1) (get m k))
     at true = refl
     at false = there
 
-  pub put_there : (ps : List (List ℕ × X)) (m : FinMap text_order X) (k : List ℕ) (x : X) → IsIn k x ps → IsSome (get (put_pairs m ps) k)
+  pub put_there : (ps : List (List ℕ × X)) (m : FinMap text_order X) (k : List ℕ) (x : X) → IsIn k x ps → IsSome (get (with_entries m ps) k)
   put_there [] m k x there = absurd there
   put_there (p ∷ ps) m k x (inl h) = put_stays ps (insert m p.0 p.1) k
       (ap is_some (get-insert nat_list_cmp_total m p.0 p.1 k ∙ ap (λ b. cond b (Some p.1) (get m k)) (ap (eq_by_cmp text_order k) (sym h.0) ∙ ap is_eq (tied_itself nat_list_cmp_total k))))
   put_there (p ∷ ps) m k x (inr later) = put_there ps (insert m p.0 p.1) k x later
 
-  put_count : (ps : List (List ℕ × X)) (m : FinMap text_order X) → len (put_pairs m ps) ≤ len m + length ps
+  put_count : (ps : List (List ℕ × X)) (m : FinMap text_order X) → len (with_entries m ps) ≤ len m + length ps
   put_count [] m = omega arith
   put_count (p ∷ ps) m =
       let one : len (insert m p.0 p.1) ≤ suc (len m) = insert_most (suc (len m)) m p.0 p.1 (omega arith) in
@@ -92,7 +92,7 @@ module _ {X : Type 0} where
   in_each P (e ∷ es) k x all (inr later) = in_each P es k x all.1 later
 
   -- the entries of a map, put one after another, make the map
-  put_entries : (m : FinMap text_order X) → put_pairs empty (entries m) ≡ m
+  put_entries : (m : FinMap text_order X) → with_entries empty (entries m) ≡ m
   put_entries m = same_map nat_list_cmp_total exact_texts _ _ (λ q.
       get-put empty (entries m) (entries_sorted m) q ∙ ap (option_or (find text_order q (entries m))) (get-empty text_order q) ∙ or_none (find text_order q (entries m)) ∙ sym (get-entries m q))
 
@@ -246,25 +246,25 @@ module _ {X : Type 0} (R : List ℕ → Data → X → Type 0) (ms : Members) (m
     paired : Paired (pairs_of ms)
     paired = pair_each (pairs_of ms) (all_found ms rises)
 
-    same_at : (q : List ℕ) → get (put_pairs empty paired.0) q ≡ get m q
+    same_at : (q : List ℕ) → get (with_entries empty paired.0) q ≡ get m q
     same_at q = at (get m q) refl where
-      held : (y : X) → get (put_pairs empty paired.0) q ≡ Some y → get m q ≡ Some y
+      held : (y : X) → get (with_entries empty paired.0) q ≡ Some y → get m q ≡ Some y
       held y is = in_each (λ e. get m e.0 ≡ Some e.1) paired.0 q y paired.2 (put_in paired.0 q y is)
 
-      none : (found : Option X) → get (put_pairs empty paired.0) q ≡ found → get m q ≡ None → get (put_pairs empty paired.0) q ≡ None
+      none : (found : Option X) → get (with_entries empty paired.0) q ≡ found → get m q ≡ None → get (with_entries empty paired.0) q ≡ None
       none None is there = is
       none (Some y) is there = absurd (none-some y (sym there ∙ held y is))
 
-      some : (found : Option X) → get (put_pairs empty paired.0) q ≡ found → IsSome found → get (put_pairs empty paired.0) q ≡ get m q
+      some : (found : Option X) → get (with_entries empty paired.0) q ≡ found → IsSome found → get (with_entries empty paired.0) q ≡ get m q
       some None is there = let both : false ≡ true = there in absurd (cc)
       some (Some y) is there = is ∙ sym (held y is)
 
-      at : (found : Option X) → get m q ≡ found → get (put_pairs empty paired.0) q ≡ get m q
-      at None is = none (get (put_pairs empty paired.0) q) refl is ∙ sym is
+      at : (found : Option X) → get m q ≡ found → get (with_entries empty paired.0) q ≡ get m q
+      at None is = none (get (with_entries empty paired.0) q) refl is ∙ sym is
       at (Some x) is =
           let f = forth q x is in
           let stands = paired.3 q f.0 (member_in ms q f.0 f.1) in
-          some (get (put_pairs empty paired.0) q) refl (put_there paired.0 empty q stands.0 stands.1)
+          some (get (with_entries empty paired.0) q) refl (put_there paired.0 empty q stands.0 stands.1)
 
     -- members with rising keys that are those of a map, and each of which spells the value there, spell the map
     pub are_members : AreMembers R ms m

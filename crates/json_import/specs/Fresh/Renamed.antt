@@ -9,7 +9,6 @@ use Rattle.object_ids.specs.IdValues.{Id}
 use Rattle.object_ids.specs.declared.ids.Kind.{Kind}
 use Rattle.groups_links.specs.declared.target.LinkTo.{LinkTo}
 use Rattle.groups_links.specs.declared.target.LinkTo.TheVariants as link
-use Rattle.documents.specs.Parts.AttributeLists.{held}
 use Rattle.documents.specs.declared.parts.targets.Target.{Target}
 use Rattle.documents.specs.declared.parts.targets.Target.TheVariants.{Hard, Soft, External}
 use Rattle.documents.specs.declared.reader.loaded.Group.{Group}
@@ -20,6 +19,7 @@ use Rattle.object_acts.specs.declared.objects.Object.{Object}
 use Rattle.object_acts.specs.declared.objects.Body.TheVariants as body
 use Rattle.object_acts.specs.Objects.{bare, kind_of_body}
 use Rattle.json_import.specs.Fresh.Names.{Names, id_in, names_of, numbered_by, others, with_each, with_root}
+use Rattle.hdf_types.specs.Views.{elem_type}
 
 -- ---- one object
 
@@ -36,7 +36,7 @@ abbrev pub dataset_object : Dataset → Object
 dataset_object d = record { attributes = d.attributes; body = body.Dataset (bare d.array) }
 
 abbrev pub datatype_object : Datatype → Object
-datatype_object t = record { attributes = t.attributes; body = body.Datatype (held t.kind) }
+datatype_object t = record { attributes = t.attributes; body = body.Datatype (elem_type t.kind) }
 
 -- ---- the objects of a document
 

@@ -6,7 +6,7 @@ use Rattle.std.specs.FinMap.{FinMap, contains_key, empty, entries, get, insert}
 use Rattle.std.specs.List.{filter}
 use Rattle.serde_json.specs.Data.{depth}
 use Rattle.serde_json.specs.Read.{max_depth, read}
-use Rattle.containers.specs.TextMaps.Keyed.{text_order}
+use Rattle.containers.specs.TextMaps.Keyed.{text_order, with_entries}
 use Rattle.object_ids.specs.IdValues.{Id}
 use Rattle.object_ids.specs.Ids.{InRange, text_of_id}
 use Rattle.object_ids.specs.declared.ids.Kind.TheVariants as kind
@@ -19,7 +19,6 @@ use Rattle.object_acts.specs.declared.objects.Object.{Object}
 use Rattle.object_acts.specs.declared.objects.Body.{Body}
 use Rattle.object_acts.specs.declared.objects.Body.TheVariants as body
 use Rattle.object_records.specs.Objects.{IsKeptBody}
-use Rattle.documents.specs.Parts.Spelled.{put_pairs}
 use Rattle.documents.specs.Parts.TitleMaps.{TargetMap}
 use Rattle.documents.specs.declared.parts.targets.Target.{Target}
 use Rattle.documents.specs.declared.parts.targets.Target.TheVariants.{Hard, Soft, External}
@@ -42,7 +41,7 @@ target_of (link.External path file) = External path file
 
 -- a hard link whose target isn't there is left out
 abbrev pub targets_in : Objects → Home → Titles → TargetMap
-targets_in m h links = put_pairs empty (map (λ e. (e.0, target_of e.1)) (filter (λ e. is_shown m h e.1) (entries links)))
+targets_in m h links = with_entries empty (map (λ e. (e.0, target_of e.1)) (filter (λ e. is_shown m h e.1) (entries links)))
 
 abbrev pub group_of : Objects → Home → AttributeMap → Body → Option Group
 group_of m h attributes (body.Group links) = Some (record { attributes = attributes; links = targets_in m h links })
@@ -74,7 +73,7 @@ held_pairs see number [] = []
 held_pairs see number (e ∷ es) = pair_before (if e.0.domain == number then see e.1 else None) (text_of_id e.0) (held_pairs see number es)
 
 abbrev pub collection_in : {X : Type 0} → (Object → Option X) → Objects → Home → FinMap text_order X
-collection_in see m h = put_pairs empty (held_pairs see h.number (entries (whole m h)))
+collection_in see m h = with_entries empty (held_pairs see h.number (entries (whole m h)))
 
 abbrev pub held_in : Objects → Home → Loaded
 held_in m h = record {

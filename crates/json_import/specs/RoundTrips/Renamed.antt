@@ -4,10 +4,9 @@
 --     renamed l root      the value of a document whose root has this id
 use Rattle.std.specs.Prelude.{ℕ, List, map}
 use Rattle.std.specs.FinMap.{FinMap, empty, entries}
-use Rattle.containers.specs.TextMaps.Keyed.{text_order, with_values}
+use Rattle.containers.specs.TextMaps.Keyed.{text_order, with_values, with_entries}
 use Rattle.object_ids.specs.IdValues.{Id}
 use Rattle.object_ids.specs.Ids.{text_of_id}
-use Rattle.documents.specs.Parts.Spelled.{put_pairs}
 use Rattle.documents.specs.declared.parts.targets.Target.{Target}
 use Rattle.documents.specs.declared.parts.targets.Target.TheVariants.{Hard, Soft, External}
 use Rattle.documents.specs.declared.reader.loaded.Group.{Group}
@@ -18,7 +17,7 @@ abbrev pub text_in : Names → Id → List ℕ → List ℕ
 text_in names root text = text_of_id (id_in names root text)
 
 abbrev pub at_texts : {X Y : Type 0} → (List ℕ → List ℕ) → (X → Y) → FinMap text_order X → FinMap text_order Y
-at_texts text h m = put_pairs empty (map (λ e. (text e.0, h e.1)) (entries m))
+at_texts text h m = with_entries empty (map (λ e. (text e.0, h e.1)) (entries m))
 
 -- a hard link leads to the text of the fresh id, and each other link where it led
 abbrev pub renamed_target : Names → Id → Target → Target

@@ -26,8 +26,9 @@ use Rattle.containers.proofs.TextMaps.Fronts.{all_held, held_before, held_here, 
 use Rattle.containers.proofs.Passing.{by_bool, contrary}
 use Rattle.register.specs.Installed.Registers.{IsDomainOf, IsNextNumber, IsNodeRecord, IsRun, KeepsNumber, class_at, count_nodes, is_node_key, node_at}
 use Rattle.register.specs.Installed.Walks.{AreRoots, IsNextOf, IsNodeWalk, NoPut, no_node, no_place, no_number, PutsNode, Roots, is_given, may_stand, number_id, one_without, with_root}
-use Rattle.register.proofs.OfInstalled.NodeKeys.{count_more, front_less, key_path, one_split, other_kind, parent_before, root_before}
+use Rattle.register.proofs.OfInstalled.NodeKeys.{count_more, front_less, key_path, one_split, other_kind}
 use Rattle.containers.proofs.TextMaps.TextOrders.{same_key, unlike, differ}
+use Rattle.object_ids.proofs.PathOrders.{root_before, parent_before}
 
 abbrev pub class_of : Option Node → Option NodeClass
 class_of o = option_map (λ node. node.class) o

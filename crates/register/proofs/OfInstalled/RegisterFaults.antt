@@ -24,10 +24,10 @@ use Rattle.object_records.specs.declared.install_fault.InstallFault.TheVariants.
 use Rattle.containers.proofs.TextMaps.Fronts.{held_before, held_here}
 use Rattle.register.specs.Installed.Registers.{IsNextNumber, IsNodeRecord, IsRegisterFault, IsRun, bad_node, class_at, no_next, no_root, no_run}
 use Rattle.register.specs.Installed.Walks.{Blames, IsBadNode, IsFirst, IsNodeWalk, Names, Roots}
-use Rattle.register.proofs.OfInstalled.NodeKeys.{root_first}
 use Rattle.register.proofs.OfInstalled.NodeWalks.{IsRooted, never_some}
 use Rattle.containers.proofs.Passing.{lt_less}
 use Rattle.containers.proofs.TextMaps.TextOrders.{never_less}
+use Rattle.object_ids.proofs.PathOrders.{root_first}
 
 abbrev Least : Held → List ℕ → Type 0
 Least held key = IsLeast (IsRegisterFault held) key

@@ -1,9 +1,9 @@
 use Rattle.std.proofs.Common.{◌≡◌, ◌∙◌, ap, option_map, List, rules}
 use Rattle.std.specs.FinMap.{FinMap}
-use Rattle.containers.specs.TextMaps.Keyed.{text_order}
+use Rattle.containers.specs.TextMaps.Keyed.{text_order, with_entries}
 use Rattle.access_lists.specs.declared.people.Caller.{Caller}
 use Rattle.configuration.specs.People.{names_at, token_of}
-use Rattle.configuration.specs.Tables.{all_of, with_entries}
+use Rattle.configuration.specs.Tables.{all_of}
 use Rattle.configuration.proofs.TableLemmas.{Entry, rest_of}
 use Rattle.configuration.proofs.people.read_tokens.Goals as goal
 

@@ -3,11 +3,11 @@ use Rattle.std.specs.FinMap.{FinMap, len, len-empty}
 use Rattle.std.specs.Map.Iter.{deref_pair}
 use Rattle.std.proofs.lemmas.Bool.{cond-true, cond-false, le-leb, lt-leb}
 use Rattle.std.proofs.lemmas.Map.Iter.{rest_more, rest_all}
-use Rattle.containers.specs.TextMaps.Keyed.{text_order}
+use Rattle.containers.specs.TextMaps.Keyed.{text_order, with_entries}
 use Rattle.access_lists.specs.declared.rights.Rights.{Rights}
 use Rattle.toml.specs.View.{view}
 use Rattle.configuration.specs.Settings.{entry_of}
-use Rattle.configuration.specs.Tables.{all_of, with_entries}
+use Rattle.configuration.specs.Tables.{all_of}
 use Rattle.configuration.proofs.TableLemmas.{Entry, rest_of, length-rest_of, len-insert-le, walk_step}
 use Rattle.configuration.proofs.rights.read_list.Goals as goal
 

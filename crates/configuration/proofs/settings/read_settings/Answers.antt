@@ -4,11 +4,11 @@ use Rattle.std.specs.FinMap.{FinMap}
 use Rattle.std.specs.Map.Iter.{deref_pair}
 use Rattle.std.proofs.lemmas.Bool.{cond-true, cond-false, eq-eqb, ne_eqb}
 use Rattle.std.proofs.lemmas.Map.Iter.{rest_more, rest_all}
-use Rattle.containers.specs.TextMaps.Keyed.{text_order}
+use Rattle.containers.specs.TextMaps.Keyed.{text_order, with_entries}
 use Rattle.toml.specs.View.{view}
 use Rattle.object_ids.proofs.PathLemmas.{path_of-canonical}
 use Rattle.configuration.specs.Settings.{setting_of}
-use Rattle.configuration.specs.Tables.{all_of, with_entries}
+use Rattle.configuration.specs.Tables.{all_of}
 use Rattle.configuration.specs.declared.setting.Setting.{Setting}
 use Rattle.configuration.proofs.SettingLemmas.{settings_end}
 use Rattle.configuration.proofs.TableLemmas.{Entry, rest_of, length-rest_of, length-all_of, both-some, walk_step}

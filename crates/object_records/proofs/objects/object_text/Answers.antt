@@ -5,9 +5,10 @@ use Rattle.serde_json.specs.Read.{max_depth, read}
 use Rattle.serde_json.specs.View.{view}
 use Rattle.object_acts.specs.Objects.{kind_of_body}
 use Rattle.object_records.specs.Objects.{spelled_in}
-use Rattle.object_records.proofs.ReadLemmas.{body_reads, nothing_read}
+use Rattle.object_records.proofs.ReadLemmas.{body_reads}
 use Rattle.object_records.proofs.TreeLemmas.{object_back, object_depth}
 use Rattle.object_records.proofs.objects.object_text.Goals as goal
+use Rattle.json_trees.proofs.TreeLemmas.{nothing_read}
 
 pub returns-clause-reads : goal.returns-clause-reads
 returns-clause-reads c =

@@ -3,12 +3,12 @@ use Rattle.std.specs.FinMap.{len, len-empty}
 use Rattle.std.specs.Map.Iter.{deref_pair}
 use Rattle.std.proofs.lemmas.Bool.{cond-true, cond-false, le-leb, lt-leb}
 use Rattle.std.proofs.lemmas.Map.Iter.{rest_more, rest_all}
-use Rattle.containers.specs.TextMaps.Keyed.{text_order}
+use Rattle.containers.specs.TextMaps.Keyed.{text_order, with_entries}
 use Rattle.access_lists.specs.InForce.{Entries}
 use Rattle.access_lists.specs.declared.rights.Rights.{Rights}
 use Rattle.serde_json.specs.View.{view}
 use Rattle.json_trees.specs.Trees.{all_in}
-use Rattle.domains.specs.Records.Lists.{entry_of, with_entries}
+use Rattle.domains.specs.Records.Lists.{entry_of}
 use Rattle.domains.proofs.OfRecords.ReadLemmas.{Entry, rest_of, length-rest_of, len-insert-le, walk_step}
 use Rattle.domains.proofs.records.entries.listed.Goals as goal
 

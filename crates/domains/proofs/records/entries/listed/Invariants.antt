@@ -2,9 +2,10 @@ use Rattle.std.proofs.Common.{◌≡◌, ◌+◌, ◌≤◌, length, option_map}
 use Rattle.std.specs.FinMap.{len}
 use Rattle.json_trees.specs.Trees.{all_in}
 use Rattle.access_lists.specs.InForce.{most_entries}
-use Rattle.domains.specs.Records.Lists.{entry_of, map_of, with_entries}
+use Rattle.domains.specs.Records.Lists.{entry_of}
 use Rattle.domains.proofs.OfRecords.ReadLemmas.{rest_of}
 use Rattle.domains.proofs.records.entries.listed.Given as goal
+use Rattle.containers.specs.TextMaps.Keyed.{with_entries, map_of}
 
 -- what is listed so far, in front of what is left, for which there is room
 abbrev pub invariant-entries : goal.invariant-entries

@@ -5,9 +5,10 @@ use Rattle.serde_json.specs.Read.{max_depth, read}
 use Rattle.serde_json.specs.View.{view}
 use Rattle.serde_json.specs.Written.{compact_text, has_float}
 use Rattle.domains.specs.Records.Nodes.{node_in}
-use Rattle.domains.proofs.OfRecords.ReadLemmas.{body_reads, nothing_read}
+use Rattle.domains.proofs.OfRecords.ReadLemmas.{body_reads}
 use Rattle.domains.proofs.OfRecords.TreeLemmas.{node_back, node_exact, node_flat}
 use Rattle.domains.proofs.records.nodes.node_text.Goals as goal
+use Rattle.json_trees.proofs.TreeLemmas.{nothing_read}
 
 pub returns-clause-exact : goal.returns-clause-exact
 returns-clause-exact c = let tree = c.in_ok-tree.ensures in c.in_ok-text.ensures.text (ap has_float tree ∙ node_exact c.args.node.now) ∙ ap compact_text tree
