@@ -7,13 +7,14 @@ use Rattle.std.proofs.lemmas.List.{drop_more, append_assoc, length-map}
 use Rattle.std.proofs.lemmas.List.Elements.{All-nil, All-cons, All-head, All-tail}
 use Rattle.shapes.specs.declared.Shape.{Shape}
 use Rattle.shapes.specs.declared.Shape.TheVariants.{Null, Scalar, Simple}
-use Rattle.shapes.specs.declared.TheConstants.{MAX_RANK, MAX_EXTENT, MAX_CHUNK_BYTES}
+use Rattle.shapes.specs.declared.TheConstants.{MAX_EXTENT, MAX_CHUNK_BYTES}
 use Rattle.shapes.specs.Places.{cell_count}
 use Rattle.shapes.specs.Shapes.{IsSound, dims_of}
 use Rattle.chunk_layout.specs.declared.TheConstants.{DEFAULT_CHUNK_BYTES}
 use Rattle.chunk_layout.specs.Chunks.{IsChunkDim, IsChunk}
 use Rattle.chunk_layout.specs.Defaults.{at_least_one, largest, halve_first, halved, halved_times, IsLarge, IsHalvedDown, IsDefault}
 use Rattle.chunk_layout.specs.Layouts.{Fits}
+use Rattle.shapes.proofs.ShapeLemmas.{few_dims}
 
 -- ---- one halving
 
@@ -159,11 +160,6 @@ pub start_dims : (shape : Shape) → IsSound shape → All IsChunkDim (at_least_
 start_dims Null h = All-nil IsChunkDim
 start_dims Scalar h = All-nil IsChunkDim
 start_dims (Simple dims limits) h = ones_dims dims h.small_dims
-
-pub few_dims : (shape : Shape) → IsSound shape → length (dims_of shape) ≤ MAX_RANK
-few_dims Null h = omega arith
-few_dims Scalar h = omega arith
-few_dims (Simple dims limits) h = h.fitting.few_axes
 
 small_fits : (size cells : ℕ) → (size * cells ≤ DEFAULT_CHUNK_BYTES) ⊎ (cells ≡ 1) → (size * cells ≤ MAX_CHUNK_BYTES) ⊎ (cells ≡ 1)
 small_fits size cells (inl h) = inl (omega (arith, h))

@@ -169,7 +169,7 @@ object_told (string s) e = absurd (false≢true e)
 object_told (array ds) e = absurd (false≢true e)
 object_told (object ms) e = (ms, refl)
 
-object_read : (d : Data) → IsObject d → is_some (as_object d) ≡ true
+pub object_read : (d : Data) → IsObject d → is_some (as_object d) ≡ true
 object_read d h = ap (λ e. is_some (as_object e)) h.1
 
 wholes_told : (d : Data) (ns : List ℕ) → wholes_in d ≡ Some ns → SpellsList IsWhole d ns

@@ -13,15 +13,15 @@ use Rattle.object_ops.specs.declared.replies.Reply.{Reply}
 use Rattle.object_ops.specs.declared.replies.Reply.TheVariants.{Done, Refused}
 use Rattle.object_ops.specs.declared.refusals.Refusal.{Refusal}
 use Rattle.object_ops.specs.declared.refusals.Refusal.TheVariants.{Root}
-use Rattle.object_ops.specs.Answers.{Follows, nothing}
+use Rattle.object_ops.specs.Answers.{Follows, nothing, was_done}
 use Rattle.object_acts.specs.declared.objects.Object.{Object}
 use Rattle.object_acts.specs.declared.objects.Body.{Body}
 use Rattle.object_acts.specs.declared.objects.Body.TheVariants.{Group, Dataset, Datatype}
-use Rattle.object_acts.specs.Objects.{unmarked, unmarked_body, empty_group}
+use Rattle.object_acts.specs.Objects.{unmarked, unmarked_body, empty_group, Objects}
 use Rattle.object_acts.specs.Trees.{body_tree, object_tree}
 use Rattle.chunk_owner.specs.Slots.Changed.{ChangesAt}
-use Rattle.chunk_owner.specs.Lanes.{Objects, set_at, at_id}
-use Rattle.chunk_owner.specs.Acts.{missing, held, seen, read_by, reading, is_done, left, changed_by, changing, removed, removing}
+use Rattle.chunk_owner.specs.Lanes.{set_at, at_id}
+use Rattle.chunk_owner.specs.Acts.{missing, held, seen, read_by, reading, left, changed_by, changing, removed, removing}
 
 -- to put in what is there changes nothing
 insert_same : (m : Objects) (k : Id) (v : Object) → get m k ≡ Some v → insert m k v ≡ m
@@ -136,11 +136,11 @@ changes_root g id f m n y reply (Err e) own root none done left_there h = h
 
 -- ---- an object is put where none was
 
-pub puts_refused : (m : Objects) (id : Id) (o : Object) (reply : Reply) → get m id ≡ None → is_done reply ≡ false → m ≡ set_at m id (left None (reply, o)).1
+pub puts_refused : (m : Objects) (id : Id) (o : Object) (reply : Reply) → get m id ≡ None → was_done reply ≡ false → m ≡ set_at m id (left None (reply, o)).1
 puts_refused m id o (Done status body) none e = absurd (cc)
 puts_refused m id o (Refused r) none e = sym (own_set m id None none)
 
-pub puts_done : (m n : Objects) (id : Id) (o : Object) (reply : Reply) → n ≡ insert m id o → is_done reply ≡ true → n ≡ set_at m id (left None (reply, o)).1
+pub puts_done : (m n : Objects) (id : Id) (o : Object) (reply : Reply) → n ≡ insert m id o → was_done reply ≡ true → n ≡ set_at m id (left None (reply, o)).1
 puts_done m n id o (Done status body) put e = put
 puts_done m n id o (Refused r) put e = absurd (cc)
 

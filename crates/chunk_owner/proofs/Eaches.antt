@@ -12,8 +12,8 @@ use Rattle.object_ids.proofs.IdOrders.{id_order_once, id_order_total, tied_ids}
 use Rattle.object_acts.specs.declared.objects.Object.{Object}
 use Rattle.object_acts.specs.declared.objects.Body.{Body}
 use Rattle.object_acts.specs.declared.objects.Body.TheVariants.{Group, Dataset, Datatype}
-use Rattle.object_acts.specs.Objects.{unmarked, unmarked_body, kind_of_body, IsSoundBody, IsOfKind}
-use Rattle.chunk_owner.specs.Lanes.{Objects, shown, Each, AreOfKind}
+use Rattle.object_acts.specs.Objects.{unmarked, unmarked_body, kind_of_body, IsSoundBody, IsOfKind, Objects}
+use Rattle.chunk_owner.specs.Lanes.{shown, Each, AreOfKind}
 
 here : (b : Bool) (v o : Object) (w : Option Object) (P : Type 0) → (b ≡ true → v ≡ o → P) → (w ≡ Some o → P) → cond b (Some v) w ≡ Some o → P
 here true v o w P new old e = new refl (let same : Some v ≡ Some o = e in cc)
@@ -84,7 +84,7 @@ module _ (P Q : Id → Object → Type 0) where
   pub each_marked : ((id : Id) (o : Object) → Q id (unmarked o) → P id o) → (m : Objects) → Each Q (shown m) → Each P m
   each_marked f m each = λ q o e. f q o (each q (unmarked o) (get-shown m q ∙ ap (option_map unmarked) e))
 
-kind-unmarked : (b : Body) → kind_of_body (unmarked_body b) ≡ kind_of_body b
+pub kind-unmarked : (b : Body) → kind_of_body (unmarked_body b) ≡ kind_of_body b
 kind-unmarked (Group links) = refl
 kind-unmarked (Dataset array) = refl
 kind-unmarked (Datatype type) = refl

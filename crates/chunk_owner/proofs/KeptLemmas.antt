@@ -19,10 +19,10 @@ use Rattle.object_ops.specs.declared.replies.Reply.TheVariants.{Done, Refused}
 use Rattle.object_ops.specs.Answers.{Follows}
 use Rattle.object_ops.specs.Parts.{id_of}
 use Rattle.object_acts.specs.declared.objects.Object.{Object}
-use Rattle.object_acts.specs.Objects.{unmarked}
+use Rattle.object_acts.specs.Objects.{unmarked, Objects}
 use Rattle.object_acts.specs.Acts.{change_of, link_put, on_links, reads_object, reply_of}
 use Rattle.object_acts.proofs.LawLemmas.{Keeps}
-use Rattle.chunk_owner.specs.Lanes.{Objects, shown, at_id}
+use Rattle.chunk_owner.specs.Lanes.{shown, at_id}
 use Rattle.chunk_owner.specs.Acts.{act, acted, changed_by, changing, left, link_to, linking, make_act, making, missing, on_touched, reading, removed, removing, seen, touched}
 use Rattle.chunk_owner.specs.Laws.{RefusalsLeaveAll, ReadsLeaveAll, OthersAreLeft, OthersAreUnlinked}
 use Rattle.chunk_owner.proofs.AtIds.{answers_here, own_set, removing-foreign}

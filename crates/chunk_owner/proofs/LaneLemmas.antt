@@ -1,12 +1,13 @@
 -- Where the slots of a lane stand, and the objects in them.
 use Rattle.std.proofs.Common.{◌≡◌, ◌≢◌, ◌⊎◌, ⊎_elim, ℕ, ◌<◌, ◌==◌, true, false, cond, Option, Some, None, is_some, OnOk, OnErr, Result, Ok, Err, option_map, refl, sym, ap, subst, ◌∙◌}
 use Rattle.std.specs.FinMap.{empty, get, insert, get-empty, same_map}
+use Rattle.std.proofs.lemmas.Option.{none-some}
 use Rattle.object_ids.specs.IdOrder.{id_order}
 use Rattle.object_ids.specs.IdValues.{Id}
 use Rattle.object_ids.specs.Ids.{lane_of}
 use Rattle.object_ids.proofs.IdOrders.{id_order_once, id_order_total}
 use Rattle.object_acts.specs.declared.objects.Object.{Object}
-use Rattle.object_acts.specs.Objects.{unmarked, IsOfKind}
+use Rattle.object_acts.specs.Objects.{unmarked, IsOfKind, Objects}
 use Rattle.chunk_owner.specs.declared.slots.slot.Mark.{Mark}
 use Rattle.chunk_owner.specs.declared.slots.slot.Mark.TheVariants.{Kept, Changed, Dropped}
 use Rattle.chunk_owner.specs.declared.slots.slot.Slot.{Slot}
@@ -15,8 +16,7 @@ use Rattle.chunk_owner.specs.Slots.Slots.{HasSameIds, Slots, object_by, object_o
 use Rattle.chunk_owner.specs.Slots.Slots.{AreOfKind as AreSlotsOfKind}
 use Rattle.chunk_owner.proofs.OfSlots.Placed.{everywhere}
 use Rattle.chunk_owner.proofs.OfSlots.Standing.{get-objects_of, objects-insert}
-use Rattle.chunk_owner.proofs.OfSlots.LaneCuts.{none_is}
-use Rattle.chunk_owner.specs.Lanes.{AreHome, AreOfKind, AreShown, AreSlotsOf, Each, Forgets, IsWhole, Objects, StandsIn, StaysHome, StayHome, seen_lane, shown}
+use Rattle.chunk_owner.specs.Lanes.{AreHome, AreOfKind, AreShown, AreSlotsOf, Each, Forgets, IsWhole, StandsIn, StaysHome, StayHome, seen_lane, shown}
 use Rattle.chunk_owner.specs.Acts.{IsTouchedIn}
 use Rattle.chunk_owner.proofs.Eaches.{get-shown, option-unmarked, unmarked_kind}
 
@@ -25,7 +25,7 @@ use Rattle.chunk_owner.proofs.Eaches.{get-shown, option-unmarked, unmarked_kind}
 pub home_same_ids : (m n : Slots) (id : Id) → HasSameIds m n → StaysHome id m n
 home_same_ids m n id same lane lanes is home q s there = at (get m q) refl where
   at : (o : Option Slot) → get m q ≡ o → lane_of lanes q ≡ lane
-  at None e = none_is s (sym (same q e) ∙ there)
+  at None e = absurd (none-some s (sym (same q e) ∙ there))
   at (Some t) e = home q t e
 
 pub home_others : (m n : Slots) (id : Id) → ((q : Id) → q ≢ id → get n q ≡ get m q) → StaysHome id m n
@@ -49,7 +49,7 @@ slots_still lane lanes m n same kinds were = record { below = were.below; home =
   home_at : (q : Id) (s : Slot) → get n q ≡ Some s → lane_of lanes q ≡ lane
   home_at q s there = at (get m q) refl where
     at : (o : Option Slot) → get m q ≡ o → lane_of lanes q ≡ lane
-    at None e = none_is s (sym (same q e) ∙ there)
+    at None e = absurd (none-some s (sym (same q e) ∙ there))
     at (Some t) e = were.home q t e
 
 pub slots_put : (lane lanes : ℕ) (m n : Slots) (id : Id) → lane_of lanes id ≡ lane → ((q : Id) → q ≢ id → get n q ≡ get m q) → AreSlotsOfKind n → AreSlotsOf lane lanes m → AreSlotsOf lane lanes n
@@ -58,8 +58,8 @@ slots_put lane lanes m n id is others kinds were = record { below = were.below; 
 pub slots_empty : (lane lanes : ℕ) (m : Slots) → m ≡ empty → lane < lanes → AreSlotsOf lane lanes m
 slots_empty lane lanes m none small = subst (λ (w : Slots). AreSlotsOf lane lanes w) (sym none) (record {
   below = small;
-  home = λ q s e. none_is s (sym (get-empty id_order q) ∙ e);
-  kinds = λ q s e. none_is s (sym (get-empty id_order q) ∙ e);
+  home = λ q s e. absurd (none-some s (sym (get-empty id_order q) ∙ e));
+  kinds = λ q s e. absurd (none-some s (sym (get-empty id_order q) ∙ e));
 })
 
 -- ---- the objects in them

@@ -11,11 +11,12 @@ use Rattle.object_ops.specs.declared.refusals.Refusal.TheVariants.{NoObject, Gon
 use Rattle.object_ops.specs.declared.replies.Reply.{Reply}
 use Rattle.object_ops.specs.declared.replies.Reply.TheVariants.{Refused}
 use Rattle.object_acts.specs.declared.objects.Object.{Object}
-use Rattle.chunk_owner.specs.Lanes.{Objects, set_at}
+use Rattle.chunk_owner.specs.Lanes.{set_at}
 use Rattle.chunk_owner.specs.Acts.{is_used, missing, act, on_touched, read_by, changed_by, touched}
 use Rattle.chunk_owner.specs.Laws.{GoneWhereGiven, NoObjectElsewhere, OthersAreHidden, OthersStay, WasGiven}
 use Rattle.chunk_owner.proofs.AtIds.{seen_foreign}
 use Rattle.containers.proofs.Plain.{passed_over}
+use Rattle.object_acts.specs.Objects.{Objects}
 
 is_gone : (b : Bool) (id : Id) → cond b (Gone id) (NoObject id) ≡ Gone id → b ≡ true
 is_gone true id e = refl

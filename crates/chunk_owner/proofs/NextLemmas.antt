@@ -8,7 +8,7 @@ use Rattle.object_ids.specs.IdValues.{Id}
 use Rattle.object_ids.specs.IdOrder.{id_order}
 use Rattle.object_ids.proofs.IdOrders.{id_order_once, id_order_total}
 use Rattle.object_acts.specs.declared.objects.Object.{Object}
-use Rattle.chunk_owner.specs.Lanes.{Objects}
+use Rattle.object_acts.specs.Objects.{Objects}
 
 same_or : (r : Ordering) (P : Type 0) → (r ≡ Less → P) → (r ≡ Equal → P) → (r ≡ Greater → P) → P
 same_or Less P l e g = l refl

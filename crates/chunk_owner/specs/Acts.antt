@@ -1,5 +1,5 @@
 -- What one step of a request answers, and what it leaves of the object that it touches.
-use Rattle.std.specs.Prelude.{◌≡◌, ℕ, Bool, true, false, ◌&&◌, ◌||◌, ◌==◌, nat_lt, Option, Some, None, IsSomeAnd, if◌then◌else◌}
+use Rattle.std.specs.Prelude.{◌≡◌, ℕ, Bool, ◌&&◌, ◌||◌, ◌==◌, nat_lt, Option, Some, None, IsSomeAnd, if◌then◌else◌}
 use Rattle.std.specs.FinMap.{get}
 use Rattle.object_ids.specs.IdValues.{Id}
 use Rattle.object_ids.specs.IdOrder.{id_eq}
@@ -19,10 +19,10 @@ use Rattle.object_ops.specs.declared.refusals.Refusal.TheVariants.{NoObject, Gon
 use Rattle.object_ops.specs.Answers.{nothing}
 use Rattle.object_ops.specs.Parts.{id_of, kind_made}
 use Rattle.object_acts.specs.declared.objects.Object.{Object}
-use Rattle.object_acts.specs.Objects.{empty_group, made}
+use Rattle.object_acts.specs.Objects.{empty_group, made, Objects}
 use Rattle.object_acts.specs.Trees.{object_tree}
 use Rattle.object_acts.specs.Acts.{reply_of, change_of, reads_object, on_links, link_put}
-use Rattle.chunk_owner.specs.Lanes.{Objects, at_id}
+use Rattle.chunk_owner.specs.Lanes.{at_id}
 
 -- ---- an id without an object
 
@@ -50,10 +50,6 @@ read_by f absent (Some o) = f o
 
 abbrev pub reading : Grant → Id → (Object → Reply) → Option Object → Reply × Option Object
 reading g id f o = (read_by f (missing g id) (seen g id o), o)
-
-abbrev pub is_done : Reply → Bool
-is_done (Done status body) = true
-is_done (Refused r) = false
 
 -- what follows is kept, but a root that isn't held stays so where the change is refused
 abbrev pub left : Option Object → Reply × Object → Reply × Option Object

@@ -1,18 +1,14 @@
 -- What an owner is: its lane, how many lanes there are, its objects by their ids, and what the next cut writes of them.
 use Rattle.std.specs.Prelude.{◌≡◌, ℕ, ◌<◌, ◌==◌, Option, Some, None, if◌then◌else◌}
-use Rattle.std.specs.FinMap.{FinMap, get, insert, remove}
+use Rattle.std.specs.FinMap.{get, insert, remove}
 use Rattle.containers.specs.TextMaps.Keyed.{with_values}
-use Rattle.object_ids.specs.IdOrder.{id_order}
 use Rattle.object_ids.specs.IdValues.{Id}
 use Rattle.object_ids.specs.Ids.{lane_of}
 use Rattle.object_acts.specs.declared.objects.Object.{Object}
-use Rattle.object_acts.specs.Objects.{unmarked, IsOfKind}
+use Rattle.object_acts.specs.Objects.{unmarked, IsOfKind, Objects}
 use Rattle.chunk_owner.specs.declared.slots.slot.Slot.{Slot}
 use Rattle.chunk_owner.specs.Slots.Slots.{Slots, objects_of}
 use Rattle.chunk_owner.specs.Slots.Slots.{AreOfKind as AreSlotsOfKind}
-
-abbrev pub Objects : Type 0
-Objects = FinMap id_order Object
 
 -- the objects as requests see them
 abbrev pub shown : Objects → Objects

@@ -16,8 +16,9 @@ use Rattle.object_ops.specs.declared.refusals.Refusal.TheVariants.{NoObject, Gon
 use Rattle.object_ops.specs.Parts.{id_of}
 use Rattle.object_acts.specs.declared.objects.Object.{Object}
 use Rattle.object_acts.specs.Acts.{reads_object}
-use Rattle.chunk_owner.specs.Lanes.{Objects, shown}
+use Rattle.chunk_owner.specs.Lanes.{shown}
 use Rattle.chunk_owner.specs.Acts.{missing, reading, changing, touched, acted}
+use Rattle.object_acts.specs.Objects.{Objects}
 
 -- an id of the domain, from an earlier run, or from this one and below the next serial
 abbrev pub WasGiven : Grant → Id → Type 0

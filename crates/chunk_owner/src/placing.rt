@@ -2,7 +2,7 @@
 
 ghost use Rattle.std.specs.Prelude.{◌≡◌, [], None};
 ghost use Rattle.std.specs.FinMap.{get};
-ghost use Rattle.object_ops.specs.Answers.{Follows};
+ghost use Rattle.object_ops.specs.Answers.{Follows, was_done};
 ghost use Rattle.object_ops.specs.Conditions.{IsSoundMake};
 ghost use Rattle.object_acts.specs.Arrays.Marked.{IsDone};
 ghost use Rattle.object_acts.specs.Objects.{made, unmarked, IsOfKind, IsTrackedBody};
@@ -12,7 +12,7 @@ ghost use Rattle.chunk_owner.specs.Slots.Marking.{AddsMarks};
 ghost use Rattle.chunk_owner.specs.Slots.Slots.{AreOfKind, IsMarkedIn, StillSays, objects_of};
 ghost use Rattle.chunk_owner.specs.declared.slots.slot.Mark.TheVariants.{Changed};
 ghost use Rattle.chunk_owner.specs.Lanes.{at_id, set_at, StaysHome};
-ghost use Rattle.chunk_owner.specs.Acts.{is_done, left, placing};
+ghost use Rattle.chunk_owner.specs.Acts.{left, placing};
 
 use crate::slots::{Slot, put};
 use object_acts::{Object, object_json};
@@ -21,7 +21,7 @@ use object_ops::{Make, Reply};
 use std::alloc::{AllocError, Global};
 
 fn is_done(reply: &Reply) -> bool
-    ensures { result ≡ is_done reply.now }
+    ensures { result ≡ was_done reply.now }
 {
     match reply {
         Reply::Done { .. } => true,

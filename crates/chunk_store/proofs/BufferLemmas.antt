@@ -1,5 +1,5 @@
 -- The bytes of cells in the buffers of chunks, and what one more chunk changes.
-use Rattle.std.proofs.Common.{◌≡◌, ℕ, ◌+◌, ◌*◌, ◌<◌, ◌≤◌, ◌⊎◌, true, false, is_some, bytes_eq, List, length, take, drop, option_map, Option, Some, None, inl, inr, refl, sym, ap, subst, ◌∙◌, arith, true≢false}
+use Rattle.std.proofs.Common.{◌≡◌, ℕ, ◌+◌, ◌*◌, ◌<◌, ◌≤◌, ◌⊎◌, true, false, is_some, bytes_eq, List, length, take, drop, option_map, Option, Some, None, inl, inr, sym, ap, subst, ◌∙◌, arith, true≢false}
 use Rattle.std.specs.Option.{option_map_or}
 use Rattle.std.specs.BTreeMap.{BTreeMap, get_by}
 use Rattle.std.proofs.lemmas.Nat.{mul-le}
@@ -80,15 +80,6 @@ module _ (m n : Chunks) (k : List ℕ) (h : Held) (each : (i : List ℕ) → fin
 
   pub put_has : (i : List ℕ) → has n i ≡ put (has m) k true i
   put_has i = ap is_some (each i) ∙ put_through is_some (find_in m) k (Some h) i
-
-  pub put_there : has n k ≡ true
-  put_there = ap is_some (put_found k refl)
-
-  pub put_more : (i : List ℕ) → has m i ≡ true → has n i ≡ true
-  put_more i there = same_or i k (has n i ≡ true) (λ e. ap is_some (put_found i e)) (λ apart. ap is_some (put_other i apart) ∙ there)
-
-  pub put_keys : has m k ≡ true → (i : List ℕ) → has n i ≡ has m i
-  put_keys there i = same_or i k (has n i ≡ has m i) (λ e. ap is_some (put_found i e) ∙ sym (ap (has m) e ∙ there)) (λ apart. ap is_some (put_other i apart))
 
   pub put_full : (f : Frame) → length h.bytes.items ≡ chunk_bytes f → AreFull m f → AreFull n f
   put_full f long full i = same_or i k (IsFull (chunk_bytes f) (find_in n i))

@@ -1,7 +1,6 @@
 -- Chunks of an array, and the map that keeps its cells.
 use Rattle.std.proofs.Common.{◌≡◌, ℕ, zero, suc, ◌+◌, ◌*◌, ◌-◌, ◌/◌, ◌%◌, mod-lt, suc-mul, mul_comm, ◌<◌, ◌≤◌, ◌&&◌, ◌↔◌, Bool, IsTrue, true, false, cond, nat_eq, nat_lt, bytes_eq, eqb-true, eq-eqb, List, [], ◌∷◌, length, drop, get_or, All, Option, Result, Ok, Err, IfOk, refl, sym, ap, subst, ◌∙◌, ◌⊎◌, inl, inr, arith}
 use Rattle.std.specs.List.{flat_map}
-use Rattle.std.specs.BTreeMap.{BTreeMap}
 use Rattle.std.specs.Cmp.{both_ways}
 use Rattle.std.specs.declared.vec.Vec.{Vec}
 use Rattle.std.specs.declared.alloc.Global.{Global}
@@ -9,8 +8,8 @@ use Rattle.std.proofs.lemmas.Bool.{cases_Bool, cases_lt, and_parts}
 use Rattle.std.proofs.lemmas.Bool.Decides.{nat_tests}
 use Rattle.std.proofs.lemmas.List.{drop-drop, length-drop}
 use Rattle.std.proofs.lemmas.List.Elements.{All-tail}
-use Rattle.std.proofs.lemmas.Nat.{le-div, mod-mul-add, mul-le}
-use Rattle.std.proofs.Math.Nat.{div-mul-le_self, mul-div_cancel_left}
+use Rattle.std.proofs.lemmas.Nat.{mod-mul-add, mul-le}
+use Rattle.std.proofs.Math.Nat.{mul-div_cancel_left}
 use Rattle.std.proofs.lemmas.Slice.Eq.{bytes_eq-Decides}
 use Rattle.std.proofs.Math.Bool.{and-false}
 use Rattle.hdf_types.specs.Elems.{Elem}
@@ -37,13 +36,11 @@ use Rattle.chunk_store.specs.Indexes.{IsIndex}
 use Rattle.chunk_store.specs.Kept.{IsKept, given_fill}
 use Rattle.chunk_store.specs.Marks.{in_grid, shown, content, body_of, body_value, IsChunkOf, with_chunk}
 use Rattle.chunk_store.proofs.GridLemmas.{value-tabulated, tabulated_same}
-use Rattle.chunk_store.proofs.KeptLemmas.{absent_blank, absent_value, given_blank, whole_view}
+use Rattle.chunk_store.proofs.KeptLemmas.{absent_blank, absent_value, given_blank, whole_view, Cells}
 use Rattle.chunk_store.proofs.CutLemmas.{lies_rank, flat_same}
 use Rattle.chunk_store.proofs.TrackLemmas.{rank_of, cell_of_chunk}
 use Rattle.chunk_store.proofs.InstallLemmas.{cell_there}
-
-abbrev Cells : Type 0
-Cells = BTreeMap (List ℕ) (Vec ℕ Global)
+use Rattle.chunk_store.proofs.TouchLemmas.{div_up}
 
 -- ---- which chunks there are
 
@@ -98,9 +95,6 @@ blank_next s cells bs blank k at here before now j low = elim (cases_lt j k) [
       subst (λ (n : ℕ). lies_in (get_or cells n []) s ≡ false → piece_at (length blank) n bs ≡ blank) (sym same) (λ off. now (sym (ap (λ x. lies_in x s) here) ∙ off))
 ]
 
-div_most : (x y n : ℕ) → 0 < n → x ≤ y → x / n ≤ y / n
-div_most x y n some h = le-div (x / n) y n some (omega (arith, div-mul-le_self x n, h))
-
 -- where the last cell of a chunk is inside, each cell is
 pub last_inside : (ns qs ds : List ℕ) (k : ℕ) → All IsChunkDim ns → k < cell_count ns → IsInside (cell_at qs (cell_count ns - 1) ns) ds → IsInside (cell_at qs k ns) ds
 last_inside [] [] ds k a low h = h
@@ -113,7 +107,7 @@ last_inside (suc m ∷ ns) (q ∷ qs) (d ∷ ds) k a low h =
     let some : 0 < cell_count ns = one_cell ns rest in
     let whole : suc m * cell_count ns - 1 ≡ m * cell_count ns + (cell_count ns - 1) = omega (arith, suc-mul m (cell_count ns), some) in
     let last : (suc m * cell_count ns - 1) % cell_count ns ≡ cell_count ns - 1 = ap (λ x. x % cell_count ns) whole ∙ mod-mul-add m (cell_count ns) (cell_count ns - 1) (omega (arith, some)) in
-    let axis = div_most k (suc m * cell_count ns - 1) (cell_count ns) some (omega (arith, low)) in
+    let axis = div_up k (suc m * cell_count ns - 1) (cell_count ns) some (omega (arith, low)) in
     (omega (arith, h.0, axis), last_inside ns qs ds (k % cell_count ns) rest (mod-lt k some) (subst (λ (j : ℕ). IsInside (cell_at qs j ns) ds) last h.1))
 
 pub last_lies : (s : Shape) (chunk i at : List ℕ) → All IsChunkDim chunk → get_or (chunk_cells i chunk) (cell_count chunk - 1) [] ≡ at → lies_in at s ≡ true

@@ -30,7 +30,7 @@ use Rattle.chunk_store.proofs.PickLemmas.{picked_inside}
 use Rattle.chunk_store.proofs.GridLemmas.{value-tabulated, tabulated_same, reads_same}
 use Rattle.chunk_store.proofs.WriteLemmas.{written_on, written_each, read_encoded}
 
-abbrev Cells : Type 0
+abbrev pub Cells : Type 0
 Cells = BTreeMap (List ℕ) (Vec ℕ Global)
 
 -- ---- what callers see

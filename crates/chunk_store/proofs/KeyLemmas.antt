@@ -58,14 +58,9 @@ put_same f k v e q = elim (put_cases f k v q) [
 pub some_from : {A : Type 0} (o : Option A) (x : A) → o ≡ Some x → is_some o ≡ true
 some_from o x e = ap is_some e
 
--- ---- one more key, with the blank
+-- ---- one more key
 
-module _ (m n : BTreeMap (List ℕ) (Vec ℕ Global)) (k : List ℕ) (v : Vec ℕ Global) (h : (q : List ℕ) → find_in n q ≡ put (find_in m) k (Some v) q) where
-  pub added_same : (blank : List ℕ) → v.items ≡ blank → has m k ≡ false → (q : List ℕ) → value_in n blank q ≡ value_in m blank q
-  added_same blank e none q =
-      let items = λ (o : Option (Vec ℕ Global)). option_map_or (λ w. w.items) o blank in
-      ap items (h q) ∙ put_through items (find_in m) k (Some v) q ∙ put_same (λ p. items (find_in m p)) k v.items (ap items (none_of (find_in m k) none) ∙ sym e) q
-
+module _ {X : Type 0} (m n : BTreeMap (List ℕ) X) (k : List ℕ) (v : X) (h : (q : List ℕ) → find_in n q ≡ put (find_in m) k (Some v) q) where
   pub added_there : has n k ≡ true
   added_there = ap is_some (h k ∙ put_here (find_in m) k (Some v))
 
@@ -81,13 +76,20 @@ module _ (m n : BTreeMap (List ℕ) (Vec ℕ Global)) (k : List ℕ) (v : Vec �
     | inr other ↦ inr (sym (ap is_some other) ∙ sym (ap is_some (h q)) ∙ there)
   ]
 
+  pub written_keys : has m k ≡ true → (q : List ℕ) → has n q ≡ has m q
+  written_keys there q = ap is_some (h q) ∙ put_through is_some (find_in m) k (Some v) q ∙ put_same (λ p. is_some (find_in m p)) k true there q
+
+-- what stands at it, where nothing stood the blank
+module _ (m n : BTreeMap (List ℕ) (Vec ℕ Global)) (k : List ℕ) (v : Vec ℕ Global) (h : (q : List ℕ) → find_in n q ≡ put (find_in m) k (Some v) q) where
+  pub added_same : (blank : List ℕ) → v.items ≡ blank → has m k ≡ false → (q : List ℕ) → value_in n blank q ≡ value_in m blank q
+  added_same blank e none q =
+      let items = λ (o : Option (Vec ℕ Global)). option_map_or (λ w. w.items) o blank in
+      ap items (h q) ∙ put_through items (find_in m) k (Some v) q ∙ put_same (λ p. items (find_in m p)) k v.items (ap items (none_of (find_in m k) none) ∙ sym e) q
+
   pub written_value : (blank q : List ℕ) → value_in n blank q ≡ put (value_in m blank) k v.items q
   written_value blank q =
       let items = λ (o : Option (Vec ℕ Global)). option_map_or (λ w. w.items) o blank in
       ap items (h q) ∙ put_through items (find_in m) k (Some v) q
-
-  pub written_keys : has m k ≡ true → (q : List ℕ) → has n q ≡ has m q
-  written_keys there q = ap is_some (h q) ∙ put_through is_some (find_in m) k (Some v) q ∙ put_same (λ p. is_some (find_in m p)) k true there q
 
 pub value_found : (m : BTreeMap (List ℕ) (Vec ℕ Global)) (q blank : List ℕ) (o : Option (Vec ℕ Global)) → o ≡ get_by (list_order q) m → option_map_or (λ w. w.items) o blank ≡ value_in m blank q
 value_found m q blank o e = ap (λ (p : Option (Vec ℕ Global)). option_map_or (λ w. w.items) p blank) (e ∙ find-get m q)

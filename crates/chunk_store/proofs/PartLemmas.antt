@@ -2,7 +2,6 @@
 use Rattle.std.proofs.Common.{◌≡◌, ℕ, ◌*◌, ◌<◌, ◌≤◌, Bool, true, false, cond, is_some, bytes_eq, List, [], ◌∷◌, length, get_or, option_map, Option, Some, None, IsSome, IfSome, refl, sym, ap, subst, ◌∙◌, inl, inr, arith}
 use Rattle.std.specs.Option.{option_map_or}
 use Rattle.std.specs.List.{AllByRecursion, flat_map}
-use Rattle.std.specs.BTreeMap.{BTreeMap}
 use Rattle.std.specs.Map.{keys_of, lookup}
 use Rattle.std.specs.declared.vec.Vec.{Vec}
 use Rattle.std.specs.declared.alloc.Global.{Global}
@@ -47,9 +46,7 @@ use Rattle.chunk_store.proofs.PickLemmas.{picked_inside}
 use Rattle.chunk_store.proofs.TrackLemmas.{begun_tracked, cell_of_chunk, rank_of, resize_tracked, write_tracked, written_other}
 use Rattle.chunk_store.proofs.WriteLemmas.{read_encoded, written_each, written_on}
 use Rattle.json_trees.proofs.ListLemmas.{all_weaker}
-
-abbrev pub Chunks : Type 0
-Chunks = BTreeMap (List ℕ) Held
+use Rattle.chunk_store.proofs.BufferLemmas.{Chunks}
 
 -- ---- flags
 

@@ -9,12 +9,12 @@ use Rattle.shapes.specs.Places.{cell_count, IsInside, coordinates}
 use Rattle.shapes.specs.Shapes.{IsSound, LiesIn, cells_of, count_of}
 use Rattle.shapes.proofs.CellLemmas.{cells_length, count_small, cells_inside as all_inside}
 use Rattle.hyperslab.specs.declared.Slab.{Slab}
-use Rattle.hyperslab.specs.Selected.{IsSlab, axes_of, extents, is_at}
-use Rattle.hyperslab.proofs.SelectLemmas.{selected_count}
+use Rattle.hyperslab.specs.Selected.{axes_of, extents, is_at}
 use Rattle.chunk_store.specs.declared.picks.Picks.{Picks}
 use Rattle.chunk_store.specs.declared.picks.Picks.TheVariants as picks
-use Rattle.hyperslab.specs.Selected.{SlabIn, slab_cells}
+use Rattle.hyperslab.specs.Selected.{slab_cells}
 use Rattle.chunk_store.specs.Picked.{cells_from, picked, PicksIn}
+use Rattle.hyperslab.proofs.CellLemmas.{cells_counted}
 
 -- ---- each member of a list
 
@@ -65,18 +65,13 @@ places_length from many s h =
     let room : many ≤ length (drop from (cells_of s)) = rw (length-drop from (cells_of s), cells_length s) (omega arith) in
     sym (length-take-le many (drop from (cells_of s)) room)
 
-pub slab_length : (b : Slab) (s : Shape) → IsSlab b → SlabIn b s → length (slab_cells b s) ≡ cell_count (extents b)
-slab_length b Null h k = sym k
-slab_length b Scalar h k = selected_count (axes_of b) [] h.sound k
-slab_length b (Simple dims limits) h k = selected_count (axes_of b) dims h.sound k
-
 -- ---- at what the code has matched
 
 pub many_places : (p : Picks) (from many : ℕ) (s : Shape) → p ≡ picks.Places from many → PicksIn p s → many ≡ length (picked p s)
 many_places p from many s e = subst (λ (x : Picks). PicksIn x s → many ≡ length (picked x s)) (sym e) (λ h. places_length from many s h)
 
 pub slab_below : (p : Picks) (b : Slab) (s : Shape) (k : ℕ) → p ≡ picks.Slab b → PicksIn p s → k < length (picked p s) → k < cell_count (extents b)
-slab_below p b s k e = subst (λ (x : Picks). PicksIn x s → k < length (picked x s) → k < cell_count (extents b)) (sym e) (λ h low. rw (slab_length b s h.0 h.1) at low)
+slab_below p b s k e = subst (λ (x : Picks). PicksIn x s → k < length (picked x s) → k < cell_count (extents b)) (sym e) (λ h low. rw (cells_counted b s h.0 h.1) at low)
 
 pub place_small : (p : Picks) (from many : ℕ) (s : Shape) (k : ℕ) → p ≡ picks.Places from many → IsSound s → PicksIn p s → k < length (picked p s) → (from + k < 2 ^ 64) × (from + k < count_of s)
 place_small p from many s k e sound =

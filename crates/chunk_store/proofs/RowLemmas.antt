@@ -16,6 +16,7 @@ use Rattle.chunk_store.specs.Stretches.{IsNumber, IsStretch, row_left}
 use Rattle.chunk_store.specs.declared.stretches.Stretch.{Stretch}
 use Rattle.chunk_store.proofs.CutLemmas.{lies_rank}
 use Rattle.chunk_store.proofs.PickLemmas.{places_length}
+use Rattle.hyperslab.proofs.SelectLemmas.{lies_inside}
 
 -- the cell `j` numbers behind on the last axis
 moved : List ℕ → ℕ → List ℕ
@@ -78,11 +79,6 @@ row_some (x ∷ y ∷ ys) (d ∷ ds) (n ∷ ms) on ns e = row_some (y ∷ ys) ds
 
 -- ---- the row of a shape's cell
 
-in_dims : (at : List ℕ) (s : Shape) → LiesIn at s → IsInside at (dims_of s)
-in_dims at Null h = absurd h
-in_dims at Scalar h = h
-in_dims at (Simple dims limits) h = h
-
 in_shape : (at to : List ℕ) (s : Shape) → LiesIn at s → IsInside to (dims_of s) → LiesIn to s
 in_shape at to Null h on = absurd h
 in_shape at to Scalar h on = on
@@ -91,7 +87,7 @@ in_shape at to (Simple dims limits) h on = on
 row_cell : (s : Shape) (chunk at : List ℕ) (p j : ℕ) → All IsChunkDim chunk → length chunk ≡ length (dims_of s) → LiesIn at s → place at (dims_of s) ≡ p → j < row_left at (dims_of s) chunk
     → (cell_of s (p + j) ≡ moved at j) × IsMoved at (dims_of s) chunk j (moved at j)
 row_cell s chunk at p j ns rank lies here low =
-    let to = row_moved at (dims_of s) chunk j (in_dims at s lies) ns rank low in
+    let to = row_moved at (dims_of s) chunk j (lies_inside at s lies) ns rank low in
     let there : p + j ≡ place (moved at j) (dims_of s) = ap (λ n. n + j) (sym here) ∙ sym to.number in
     (ap (cell_of s) there ∙ cell-place s (moved at j) (in_shape at (moved at j) s lies to.inside), to)
 
@@ -109,7 +105,7 @@ moved_number chunk at to dims j t rank index offset h = record {
 pub row_stretch : (s : Shape) (chunk at : List ℕ) (p left : ℕ) (t : Stretch) → IsChunk chunk → length chunk ≡ length (dims_of s) → LiesIn at s → place at (dims_of s) ≡ p
     → t.index ≡ quotients at chunk → t.offset ≡ offset_of at chunk → t.len ≡ min (row_left at (dims_of s) chunk) left → 1 ≤ left → p + left ≤ count_of s → IsStretch chunk t (cells_from p t.len s)
 row_stretch s chunk at p left t c rank lies here index offset len some inside =
-    let row = row_some at (dims_of s) chunk (in_dims at s lies) c.dims rank in
+    let row = row_some at (dims_of s) chunk (lies_inside at s lies) c.dims rank in
     let many : t.len ≡ length (cells_from p t.len s) = places_length p t.len s (omega (arith, len, inside)) in
     record {
       some = omega (arith, len, row, some);

@@ -27,11 +27,11 @@ use Rattle.chunk_store.specs.Slabs.{IsChunkRead, IsChunkWritten, IsThere}
 use Rattle.chunk_store.specs.Touched.{AreTouched, touched_at, touched_count}
 use Rattle.chunk_store.specs.declared.buffers.Frame.{Frame}
 use Rattle.chunk_store.specs.declared.buffers.Held.{Held}
-use Rattle.chunk_store.proofs.KeyLemmas.{put_here}
+use Rattle.chunk_store.proofs.KeyLemmas.{put_here, written_keys}
 use Rattle.chunk_store.proofs.TrackLemmas.{by_index, written_other}
 use Rattle.chunk_store.proofs.ValueLemmas.{written_last}
 use Rattle.chunk_store.proofs.MarkLemmas.{noted_next, touched_here}
-use Rattle.chunk_store.proofs.BufferLemmas.{Chunks, found_bytes, found_full, put_bytes, kept_bytes, put_else, put_flag, put_full, put_keys, same_or}
+use Rattle.chunk_store.proofs.BufferLemmas.{Chunks, found_bytes, found_full, put_bytes, kept_bytes, put_else, put_flag, put_full, same_or}
 
 -- ---- the first cell of a chunk
 
@@ -248,7 +248,7 @@ module _ (f : Frame) (s : Slab) (origin i : List ℕ) (b : IsChunkBox f s origin
         ∙ sym (found_bytes m f q i (Some old) (sym same) found))
         (kept_bytes m n i new each f q);
     full = put_full m n i new each f (len ∙ found_full m f i old full found) full;
-    keys = put_keys m n i new each (ap is_some found);
+    keys = written_keys m n i new each (ap is_some found);
     flags = λ j. put_flag m n i new each j ∙ ap (λ c. put (flag_at m) i (Some c) j) dirty;
   }
 

@@ -8,14 +8,14 @@ use Rattle.std.proofs.lemmas.List.{drop_more, drop_all, append_assoc, append-nil
 use Rattle.std.proofs.lemmas.List.Elements.{All-nil, All-cons, All-head, All-tail}
 use Rattle.shapes.specs.Places.{cell_count, digits_by, IsInside, place}
 use Rattle.shapes.specs.declared.TheConstants.{MAX_EXTENT}
-use Rattle.shapes.proofs.PlaceLemmas.{place_below, place_once, some_factor}
+use Rattle.shapes.proofs.PlaceLemmas.{place_below, some_factor}
 use Rattle.shapes.proofs.CellLemmas.{digits_in}
 use Rattle.hyperslab.specs.Selected.{AreAxes, IsAxis, IsSlab, axes_of, extent, extents, point}
 use Rattle.hyperslab.specs.declared.Slab.{Slab}
 use Rattle.hyperslab.specs.Numbered.{Side, extent_of, wide_of}
 use Rattle.hyperslab.proofs.SelectLemmas.{point_below}
 use Rattle.hyperslab.proofs.AxisLemmas.{axis_with}
-use Rattle.hyperslab.proofs.CellLemmas.{cell_placed}
+use Rattle.hyperslab.proofs.CellLemmas.{cell_placed, digits_back}
 use Rattle.hyperslab.proofs.BoxLemmas.{axis_of, low_of, extents_to, wides}
 use Rattle.hyperslab.proofs.SideLemmas.{IsSided, sided, got, no_side, lo_of, hi_of, by_of, sound_at}
 use Rattle.chunk_layout.specs.Chunks.{IsChunk, IsChunkDim, quotients}
@@ -49,7 +49,7 @@ chunk_near s t k = rw (le-leb s.axis.by s.wide k) refl
 chunk_far : (s : Side) (t : ℕ) → s.wide < s.axis.by → chunk_at s t ≡ (s.axis.lo + t * s.axis.by) / s.wide
 chunk_far s t k = rw (not_near s k) refl
 
-div_up : (a b w : ℕ) → 0 < w → a ≤ b → a / w ≤ b / w
+pub div_up : (a b w : ℕ) → 0 < w → a ≤ b → a / w ≤ b / w
 div_up a b w h k = le-div (a / w) b w h (omega (arith, div-mul-le_self a w))
 
 pub slots_few : (s : Side) → 1 ≤ s.wide → slots_of s ≤ extent_of s
@@ -179,11 +179,6 @@ touched_index s chunk b h k l m =
     let dims = subst (λ ns. All IsChunkDim ns) parts.side k.dims in
     let lies = digits_in (map slots_of ss) b m in
     subst (λ ns. IsIndex ns (touched_at s chunk b)) (sym parts.side) (index_from ss (digits_by (map slots_of ss) b) parts.sound dims lies.0)
-
-digits_back : (ks ms : List ℕ) → IsInside ks ms → digits_by ms (place ks ms) ≡ ks
-digits_back ks ms h =
-    let lies = digits_in ms (place ks ms) (place_below ks ms h) in
-    place_once (digits_by ms (place ks ms)) ks ms lies.0 h lies.1
 
 pub touched : (s : Slab) (chunk : List ℕ) → IsSlab s → IsChunk chunk → length chunk ≡ length s.start → AreTouched s chunk
 touched s chunk h k l =

@@ -1,5 +1,5 @@
 -- A catalogue stays one when a node is put.
-use Rattle.std.proofs.Common.{◌≡◌, ◌≢◌, ◌⊎◌, inl, inr, ⊎_elim, ℕ, ◌+◌, ◌<◌, ◌≤◌, ◌^◌, Bool, true, false, cond, is_some, List, length, Option, Some, None, IsSome, option_map, refl, ap, sym, subst, ◌∙◌, arith, true≢false, lit<, lit≤, lt_irrefl, lt_of_lt_of_le}
+use Rattle.std.proofs.Common.{◌≡◌, ◌≢◌, ◌⊎◌, inl, inr, ⊎_elim, ℕ, ◌+◌, ◌<◌, ◌≤◌, ◌^◌, true, false, cond, is_some, List, length, Option, Some, None, IsSome, option_map, refl, ap, sym, subst, ◌∙◌, arith, true≢false, lit<, lit≤, lt_irrefl, lt_of_lt_of_le}
 use Rattle.std.specs.Ordering.{eq_by_cmp}
 use Rattle.std.specs.Cmp.Lexicographic.{nat_list_cmp_total}
 use Rattle.std.specs.FinMap.{FinMap, empty, get, insert, len, get-insert, get-empty, len-insert, len-empty}
@@ -14,7 +14,7 @@ use Rattle.object_ids.proofs.PathLemmas.{parent_of-shorter}
 use Rattle.domains.specs.declared.classes.Node.{Node}
 use Rattle.domains.specs.declared.classes.NodeClass.{NodeClass}
 use Rattle.domains.specs.declared.classes.NodeClass.TheVariants.{Folder, Domain}
-use Rattle.domains.specs.Contents.{most_nodes, Contents, IsCatalogue, IsFolderAt, IsDomainAt, IsGroupOf, HasChildren, HasRoot, IsFree, IsNumberFree, IsPlace, MayStandAt, NumberFits, class_at, only_root, raised, with_node}
+use Rattle.domains.specs.Contents.{most_nodes, Contents, IsCatalogue, IsFolderAt, IsDomainAt, IsGroupOf, HasChildren, HasRoot, IsFree, IsNumberFree, IsPlace, MayStandAt, NumberFits, class_at, only_root, raised, with_node, is_domain}
 use Rattle.containers.proofs.TextMaps.TextOrders.{itself}
 
 unfoldable pub IsOther : List ℕ → List ℕ → Type 0
@@ -196,10 +196,6 @@ nothing = record { nodes = empty; next = 1 }
 nothing_at : (q : List ℕ) (class : NodeClass) → class_at nothing q ≡ Some class → ⊥
 unfolding nothing
 nothing_at q class at = true≢false (ap is_some (sym at ∙ ap (option_map (λ n. n.class)) (get-empty text_order q)))
-
-is_domain : NodeClass → Bool
-is_domain Folder = false
-is_domain (Domain number id) = true
 
 module _ (node : Node) (folder : node.class ≡ Folder) where
   no_domain : (number : ℕ) (id : ObjectId) → node.class ≡ Domain number id → ⊥

@@ -7,7 +7,7 @@
 --     MayStandAt, NumberFits, IsNumberFree, HasRoot      what put_node asks of a node
 --     IsPlace      where a node may be added
 --     with_node c path node      c with the node at the path
-use Rattle.std.specs.Prelude.{◌≡◌, ◌≢◌, ◌⊎◌, ℕ, ◌+◌, ◌<◌, ◌≤◌, ◌^◌, max, List, Option, Some, None, IsSome, option_map}
+use Rattle.std.specs.Prelude.{◌≡◌, ◌≢◌, ◌⊎◌, ℕ, ◌+◌, ◌<◌, ◌≤◌, ◌^◌, max, List, Option, Some, None, IsSome, option_map, Bool, true, false}
 use Rattle.std.specs.FinMap.{FinMap, empty as no_nodes, get, insert, len}
 use Rattle.containers.specs.TextMaps.Keyed.{text_order}
 use Rattle.object_ids.specs.Paths.{parent_of, path_of, root_path}
@@ -32,6 +32,10 @@ IsFolderAt c path = class_at c path ≡ Some Folder
 
 abbrev pub IsDomainAt : Contents → List ℕ → ℕ → ObjectId → Type 0
 IsDomainAt c path number root = class_at c path ≡ Some (Domain number root)
+
+abbrev pub is_domain : NodeClass → Bool
+is_domain Folder = false
+is_domain (Domain number root) = true
 
 -- a node stands right below the path
 abbrev pub HasChildren : Contents → List ℕ → Type 0

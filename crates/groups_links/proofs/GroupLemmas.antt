@@ -3,7 +3,7 @@ use Rattle.std.proofs.Common.{◌≡◌, ◌<◌, ◌≤◌, ℕ, ◌&&◌, List
 use Rattle.std.proofs.lemmas.Bool.{le-leb, ltb-true, and_parts}
 use Rattle.std.specs.Cmp.{Equal-is}
 use Rattle.std.specs.Cmp.Lexicographic.{nat_list_cmp_total}
-use Rattle.std.specs.FinMap.{FinMap, contains_key, empty, get, insert, len, remove, get-empty, get-insert, get-remove, len-empty, same_map}
+use Rattle.std.specs.FinMap.{contains_key, empty, get, insert, len, remove, get-empty, get-insert, get-remove, len-empty, same_map}
 use Rattle.std.specs.List.{list_all}
 use Rattle.std.specs.Ordering.{eq_by_cmp}
 use Rattle.containers.specs.TextMaps.Keyed.{text_order}
@@ -13,13 +13,10 @@ use Rattle.object_ids.specs.Puts.{Blames, put_fault}
 use Rattle.object_ids.specs.declared.puts.PutFault.{PutFault}
 use Rattle.object_ids.specs.declared.puts.PutFault.TheVariants.{Taken, Limit}
 use Rattle.object_ids.proofs.PutLemmas.{insert_most, remove_most}
-use Rattle.groups_links.specs.GroupLinks.{AreLinks, most_links}
+use Rattle.groups_links.specs.GroupLinks.{AreLinks, most_links, Titles}
 use Rattle.groups_links.specs.Targets.{IsSoundLink}
 use Rattle.groups_links.specs.Titles.{IsGoodTitle, most_of_title}
 use Rattle.groups_links.specs.declared.target.LinkTo.{LinkTo}
-
-abbrev Group : Type 0
-Group = FinMap text_order LinkTo
 
 -- ---- titles
 
@@ -55,7 +52,7 @@ module _ (P : List ℕ → LinkTo → Type 0) where
   here_or_before false q k v w link same here before e = before e
 
   -- what holds of the new link and of all before it
-  insert_all : (m : Group) (k : List ℕ) (v : LinkTo) → P k v → ((q : List ℕ) (link : LinkTo) → get m q ≡ Some link → P q link)
+  insert_all : (m : Titles) (k : List ℕ) (v : LinkTo) → P k v → ((q : List ℕ) (link : LinkTo) → get m q ≡ Some link → P q link)
       → (q : List ℕ) (link : LinkTo) → get (insert m k v) q ≡ Some link → P q link
   insert_all m k v here before q link e =
       here_or_before (eq_by_cmp text_order q k) q k v (get m q) link (λ b. exact_texts q k ((Equal-is (text_order q k)).0 b)) here (before q link)
@@ -65,11 +62,11 @@ module _ (P : List ℕ → LinkTo → Type 0) where
   still_there true w link e = let none : None ≡ Some link = e in absurd (cc)
   still_there false w link e = e
 
-  remove_all : (m : Group) (k : List ℕ) → ((q : List ℕ) (link : LinkTo) → get m q ≡ Some link → P q link)
+  remove_all : (m : Titles) (k : List ℕ) → ((q : List ℕ) (link : LinkTo) → get m q ≡ Some link → P q link)
       → (q : List ℕ) (link : LinkTo) → get (remove m k) q ≡ Some link → P q link
   remove_all m k before q link e = before q link (still_there (eq_by_cmp text_order q k) (get m q) link (sym (get-remove nat_list_cmp_total m k q) ∙ e))
 
-pub insert_links : (m : Group) (k : List ℕ) (v : LinkTo) → len m < most_links → IsGoodTitle k → is_name most_of_title k ≡ true → IsSoundLink v → AreLinks m → AreLinks (insert m k v)
+pub insert_links : (m : Titles) (k : List ℕ) (v : LinkTo) → len m < most_links → IsGoodTitle k → is_name most_of_title k ≡ true → IsSoundLink v → AreLinks m → AreLinks (insert m k v)
 insert_links m k v few title name sound held = record {
   few = insert_most most_links m k v few;
   titled = insert_all (λ q _. IsGoodTitle q) m k v title held.titled;
@@ -77,7 +74,7 @@ insert_links m k v few title name sound held = record {
   sound = insert_all (λ _ link. IsSoundLink link) m k v sound held.sound;
 }
 
-pub remove_links : (m : Group) (k : List ℕ) → AreLinks m → AreLinks (remove m k)
+pub remove_links : (m : Titles) (k : List ℕ) → AreLinks m → AreLinks (remove m k)
 remove_links m k held = record {
   few = remove_most most_links m k held.few;
   titled = remove_all (λ q _. IsGoodTitle q) m k held.titled;
@@ -92,7 +89,7 @@ room_left false true e = refl
 room_left false false e = absurd (cc)
 
 -- a put that was done or refused
-pub put_links : (r : Result (Unit {0}) PutFault) (old new : Group) (k : List ℕ) (v : LinkTo) → IsGoodTitle k → is_name most_of_title k ≡ true → IsSoundLink v → AreLinks old
+pub put_links : (r : Result (Unit {0}) PutFault) (old new : Titles) (k : List ℕ) (v : LinkTo) → IsGoodTitle k → is_name most_of_title k ≡ true → IsSoundLink v → AreLinks old
     → OnOk r (new ≡ insert old k v) → OnErr r (new ≡ old) → Blames r (put_fault most_links old k) → AreLinks new
 put_links (Ok x) old new k v title name sound held ok err why =
     let few = ltb-true (len old) most_links (room_left (contains_key old k) (nat_lt (len old) most_links) why) in
@@ -105,7 +102,7 @@ gone : (b : Bool) (w : Option LinkTo) → (b ≡ true → w ≡ None) → cond b
 gone true w none = sym (none refl)
 gone false w none = refl
 
-pub remove_none : (m : Group) (k : List ℕ) → get m k ≡ None → remove m k ≡ m
+pub remove_none : (m : Titles) (k : List ℕ) → get m k ≡ None → remove m k ≡ m
 remove_none m k none = same_map nat_list_cmp_total exact_texts (remove m k) m (λ q.
     get-remove nat_list_cmp_total m k q
     ∙ gone (eq_by_cmp text_order q k) (get m q) (λ b. ap (get m) (exact_texts q k ((Equal-is (text_order q k)).0 b)) ∙ none))

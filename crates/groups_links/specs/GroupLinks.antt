@@ -11,6 +11,9 @@ use Rattle.groups_links.specs.declared.target.LinkTo.{LinkTo}
 abbrev pub most_links : ℕ
 most_links = 65536
 
+abbrev pub Titles : Type 0
+Titles = FinMap text_order LinkTo
+
 -- what holds of the links of each group: how many there are, and that each title and each link can be read again
 pub record AreLinks (links : FinMap text_order LinkTo) : Type 0 where
   pub few : len links ≤ most_links

@@ -20,6 +20,7 @@ use Rattle.hdf_types.proofs.NameLemmas.{distinct_told}
 use Rattle.hdf_types.proofs.TypeLemmas.{name_read, member_read, node_sound, fields_sound, node_read, fields_read}
 use Rattle.hdf_types.proofs.CauseLemmas.{member_at_place, node_err}
 use Rattle.hdf_types.proofs.FirstFaultLemmas.{class_read, sized_read, compound_told, first_again_is}
+use Rattle.hdf_types.proofs.FieldLemmas.{fields_deep}
 
 -- ---- a name that stands again
 
@@ -56,11 +57,6 @@ again_found ns k h = by_found (first_again 0 [] ns) refl
 
 in_fields : (l : ℕ) (p : List ℕ) (d : Data) (ds : List Data) (f : Fault) → IsCompound d ds → fields_at l p ds ≡ Err f → node_at l p d ≡ Err f
 in_fields l p d ds f h e = compound_told l p d ds h ∙ ap (λ r. r >>= λ fs. Ok (compound fs)) e
-
-deep_found : (l : ℕ) (p : List ℕ) (ds : List Data) → l ≡ 0 → fields_at l p ds ≡ Err (fault p TooDeep)
-unfolding fields_at
-deep_found zero p ds e = refl
-deep_found (suc l) p ds e = absurd (omega (arith, e))
 
 many_found : (l : ℕ) (p : List ℕ) (ds : List Data) → 1 ≤ l → 64 < length ds → fields_at l p ds ≡ Err (fault p TooMany)
 unfolding fields_at listed_at
@@ -135,7 +131,7 @@ length_found p d l n h wrong =
 cause_found : (l : ℕ) (p : List ℕ) (d : Data) (c : Cause) → HasCause l d c → node_at l p d ≡ Err (fault p c)
 cause_found l p d NotAType h = outside_found l p d h
 cause_found l p d (Unsupported c) h = class_read l p d c h
-cause_found l p d TooDeep h = in_fields l p d h.0 (fault p TooDeep) h.1 (deep_found l p h.0 h.2)
+cause_found l p d TooDeep h = in_fields l p d h.0 (fault p TooDeep) h.1 (fields_deep l p h.0 h.2)
 cause_found l p d TooMany h = in_fields l p d h.0 (fault p TooMany) h.1 (many_found l p h.0 h.2 h.3)
 cause_found l p d BadLength h = length_found p d l h.0 h.1 h.2
 cause_found l p d (DupField k) h = in_fields l p d h.0 (fault p (DupField k)) h.1.0 (again_in l p h.0 h.2.0 k h.1.1 h.1.2 h.2.1 h.2.2)

@@ -12,9 +12,9 @@ use Rattle.hdf_types.specs.Elems.{Elem}
 use Rattle.hdf_types.specs.declared.types.ElemType.{ElemType}
 use Rattle.hdf_types.specs.Views.{elem}
 use Rattle.hdf_types.specs.Faults.{Fault, Fails as TypeFails, fault}
-use Rattle.hdf_types.specs.Reading.{size_of}
+use Rattle.hdf_types.specs.Reading.{size_of, type_of}
 use Rattle.hdf_types.specs.Printed.{type_tree}
-use Rattle.hdf_types.proofs.TypeLemmas.{type_read}
+use Rattle.hdf_types.proofs.TypeLemmas.{type_read, type_told}
 use Rattle.hdf_types.proofs.PrintLemmas.{reads_back as type_back}
 use Rattle.shapes.specs.declared.Shape.{Shape}
 use Rattle.shapes.specs.declared.printing.Form.{Form}
@@ -26,6 +26,10 @@ use Rattle.hdf_values.specs.declared.attributes.AttributeFault.TheVariants.{NoMe
 use Rattle.hdf_values.specs.Attributes.{Content, IsAttribute, IsSoundAttribute, content_tree, IsTypeAt, IsValueAt, most_bytes, type_fault, attribute_of, type_or, typed_at, shape_or, value_or, valued_at, sized_at}
 use Rattle.hdf_values.specs.Shaped.{value_tree}
 use Rattle.hdf_values.proofs.ShapedLemmas.{value_read, value_back}
+use Rattle.hdf_types.specs.Types.{IsSoundType}
+use Rattle.shapes.specs.declared.ShapeFault.{ShapeFault}
+use Rattle.hdf_values.specs.declared.faults.ValueFault.{ValueFault}
+use Rattle.hdf_types.proofs.SoundLemmas.{sound_type}
 
 -- a fault of the type is the attribute's
 
@@ -77,3 +81,21 @@ pub content_back : (c : Content) (form : Form) (with_value : Bool) (d : Data) �
 content_back c form with_value d sound w is =
     let same = is ∙ ap (content_tree c form) w in
     ap attribute_of same ∙ printed_back (content_tree c form true) c form sound refl refl refl
+
+-- ---- what passes each test
+
+pub type_ok : (r : Result Elem Fault) (e : Elem) → type_or r ≡ Ok e → r ≡ Ok e
+type_ok (Ok x) e h = let same : x ≡ e = cc in ap Ok same
+type_ok (Err f) e h = cc
+
+pub shape_ok : (r : Result Shape ShapeFault) (s : Shape) → shape_or r ≡ Ok s → r ≡ Ok s
+shape_ok (Ok x) s h = let same : x ≡ s = cc in ap Ok same
+shape_ok (Err f) s h = cc
+
+pub value_ok : (r : Result (List ℕ) ValueFault) (bs : List ℕ) → value_or r ≡ Ok bs → r ≡ Ok bs
+value_ok (Ok x) bs h = let same : x ≡ bs = cc in ap Ok same
+value_ok (Err f) bs h = cc
+
+pub typed_sound : (o : Option Data) (e : Elem) → typed_at o ≡ Ok e → IsSoundType e
+typed_sound None e h = cc
+typed_sound (Some d) e h = sound_type d e (type_told d e (type_ok (type_of d) e h))

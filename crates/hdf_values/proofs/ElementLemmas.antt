@@ -7,18 +7,16 @@ use Rattle.serde_json.specs.Data.{Data, number, string, array}
 use Rattle.serde_json.specs.Find.{of_integer}
 use Rattle.serde_json.specs.View.{items_of}
 use Rattle.json_trees.specs.Trees.{list_of}
-use Rattle.hdf_types.specs.declared.Pad.{Pad}
-use Rattle.hdf_types.specs.declared.Pad.TheVariants.{NullTerm, NullPad, SpacePad}
 use Rattle.hdf_types.specs.Elems.{Elem, int, text, compound, FieldList, no_fields, field}
 use Rattle.hdf_types.specs.Reading.{size_of, fields_size}
 use Rattle.hdf_types.specs.Types.{IsFormed, AreFormed}
 use Rattle.hdf_values.specs.declared.faults.Misfit.{Misfit}
 use Rattle.hdf_values.specs.declared.faults.Misfit.TheVariants.{OutOfRange}
 use Rattle.hdf_values.specs.Integers.{integer_in, int_bytes, int_value}
-use Rattle.hdf_values.specs.Texts.{padded, without_end, fill, most_of}
+use Rattle.hdf_values.specs.Texts.{padded, without_end, fill}
 use Rattle.hdf_values.specs.Elements.{Fits, FitFields, bytes_of, fields_bytes, normal, fields_normal, decoded, fields_decoded, zero_of, zeros_of, encoded, fields_encoded, int_encoded, misfit_or, joined}
 use Rattle.hdf_values.proofs.IntegerLemmas.{range_read, length-int_bytes, value-bytes, zero_in_range}
-use Rattle.hdf_values.proofs.TextLemmas.{text_read, length-padded, kept-padded, fits_kept, utf8_kept, padded_again, empty_fits}
+use Rattle.hdf_values.proofs.TextLemmas.{text_read, length-padded, kept-padded, fits_kept, utf8_kept, padded_again, empty_fits, most_short}
 
 -- ---- words
 
@@ -29,11 +27,6 @@ list_of-items_of (d ∷ ds) = ap (λ xs. d ∷ xs) (list_of-items_of ds)
 pub integer_in-number : (z : ℤ) → integer_in (number (of_integer z)) ≡ Some z
 integer_in-number (pos n) = refl
 integer_in-number (negsuc n) = refl
-
-most_le : (p : Pad) (n : ℕ) → most_of p n ≤ n
-most_le NullTerm n = omega arith
-most_le NullPad n = omega arith
-most_le SpacePad n = omega arith
 
 -- ---- a value has the size of its type
 
@@ -103,7 +96,7 @@ mutual
       subst P (sym h.1) (ap (λ o. option_map_or (int_bytes t) o []) (integer_in-number h.0))
   bytes_of-normal (text t) d h =
       let P = λ (x : Data). bytes_of (text t) (normal (text t) x) ≡ bytes_of (text t) x in
-      let short : length h.0 ≤ t.len = omega (arith, h.3.short, most_le t.pad t.len) in
+      let short : length h.0 ≤ t.len = omega (arith, h.3.short, most_short t.pad t.len) in
       subst P (sym h.1) (padded_again t h.0 short)
   bytes_of-normal (compound fs) d h =
       let P = λ (x : Data). bytes_of (compound fs) (normal (compound fs) x) ≡ bytes_of (compound fs) x in

@@ -1,8 +1,7 @@
 -- Elements read one after another, and the room taken for them.
-use Rattle.std.proofs.Common.{◌≡◌, ℕ, ◌+◌, ◌*◌, ◌≤◌, true, false, List, [], ◌∷◌, ◌++◌, length, take, drop, get_or, Some, None, Result, Ok, Err, inl, inr, refl, sym, ap, subst, ◌∙◌, arith}
+use Rattle.std.proofs.Common.{◌≡◌, ℕ, ◌+◌, ◌*◌, ◌≤◌, true, List, [], ◌∷◌, ◌++◌, length, take, drop, get_or, Some, None, Result, Ok, Err, inl, inr, refl, sym, ap, subst, ◌∙◌, arith}
 use Rattle.std.specs.Prelude.{◌==◌}
 use Rattle.std.specs.List.{AllByRecursion}
-use Rattle.std.proofs.lemmas.Bool.{false≢true}
 use Rattle.std.proofs.lemmas.List.{append_assoc, append-nil, take_all}
 use Rattle.std.proofs.lemmas.Nat.{mul-le}
 use Rattle.serde_json.specs.Data.{Data}
@@ -31,10 +30,6 @@ kept_front old rest n m e h =
     rw whole (first_piece n old rest (sym e))
 
 -- ---- reading member by member
-
-pub some_extent : (dims : List ℕ) → false ≡ (length dims == 0) → 1 ≤ length dims
-some_extent [] e = absurd (false≢true e)
-some_extent (n ∷ ns) e = omega arith
 
 pub no_list : (e : Elem) (dims : List ℕ) (p : ℕ) (d : Data) → 1 ≤ length dims → list_in d ≡ None → nested_from e dims p d ≡ Err (NotOfType p)
 no_list e [] p d h k = absurd (omega arith)

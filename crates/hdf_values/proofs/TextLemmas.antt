@@ -63,7 +63,7 @@ text_read t s h = rw (le-ltb (most_of t.pad t.len) (length s) h.short, set_read 
 
 -- ---- what fills up
 
-most_short : (p : Pad) (len : ℕ) → most_of p len ≤ len
+pub most_short : (p : Pad) (len : ℕ) → most_of p len ≤ len
 most_short NullTerm len = omega arith
 most_short NullPad len = omega arith
 most_short SpacePad len = omega arith

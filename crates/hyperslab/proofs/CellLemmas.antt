@@ -93,7 +93,7 @@ point_once (n ∷ ks) (m ∷ ls) (x ∷ xs) h k l e =
 pub cell_selected : (s : Slab) (k : ℕ) → IsSlab s → k < cell_count (extents s) → is_at (axes_of s) (cell_at s k) ≡ true
 cell_selected s k h l = point_at (digits_by (extents s) k) (axes_of s) h.sound (digits_in (extents s) k l).0
 
-digits_back : (ks ms : List ℕ) → IsInside ks ms → digits_by ms (place ks ms) ≡ ks
+pub digits_back : (ks ms : List ℕ) → IsInside ks ms → digits_by ms (place ks ms) ≡ ks
 digits_back ks ms h =
     let lies = digits_in ms (place ks ms) (place_below ks ms h) in
     place_once (digits_by ms (place ks ms)) ks ms lies.0 h lies.1

@@ -9,8 +9,8 @@ use Rattle.object_ids.specs.declared.limits.LimitKind.TheVariants as limit
 use Rattle.object_ids.specs.declared.puts.PutFault.{PutFault}
 use Rattle.object_ids.specs.declared.puts.PutFault.TheVariants as put
 use Rattle.object_ids.specs.Puts.{put_fault}
-use Rattle.attributes.specs.AttributeMaps.{most_attributes}
-use Rattle.groups_links.specs.GroupLinks.{most_links}
+use Rattle.attributes.specs.AttributeMaps.{most_attributes, AttributeMap}
+use Rattle.groups_links.specs.GroupLinks.{most_links, Titles}
 use Rattle.groups_links.specs.declared.target.LinkTo.{LinkTo}
 use Rattle.chunk_store.specs.Grids.{Grid}
 use Rattle.object_ops.specs.declared.ops.Part.{Part}
@@ -26,7 +26,7 @@ use Rattle.object_acts.specs.declared.objects.Object.{Object}
 use Rattle.object_acts.specs.declared.objects.Body.{Body}
 use Rattle.object_acts.specs.declared.objects.Body.TheVariants.{Group, Dataset, Datatype}
 use Rattle.object_acts.specs.Objects.{bare, unmarked, unmarked_body}
-use Rattle.object_acts.specs.Acts.{Titles, Names, put_in, drop_from, link_put, attribute_put, on_links, on_array, on_attributes, change_of}
+use Rattle.object_acts.specs.Acts.{put_in, drop_from, link_put, attribute_put, on_links, on_array, on_attributes, change_of}
 
 -- a refusal stands beside what was there before
 abbrev pub Keeps : {S : Type 0} → S → Reply × S → Type 0
@@ -51,20 +51,20 @@ drop_kept {X = X} name m = at (contains_key m name) where
 
 -- ---- objects
 
-links_kept : (id : Id) (f : Titles → Reply × Titles) (names : Names) (body : Body) → ((links : Titles) → Keeps links (f links))
+links_kept : (id : Id) (f : Titles → Reply × Titles) (names : AttributeMap) (body : Body) → ((links : Titles) → Keeps links (f links))
     → Keeps (record { attributes = names; body = body }) (on_links id f names body)
 links_kept id f names (Group links) kept refusal e = ap (λ (t : Titles). record { attributes = names; body = Group t }) (kept links refusal e)
 links_kept id f names (Dataset array) kept refusal e = refl
 links_kept id f names (Datatype type) kept refusal e = refl
 
-array_kept : (id : Id) (f : Grid → Reply × Grid) (names : Names) (body : Body) → ((g : Grid) → Keeps g (f g))
+array_kept : (id : Id) (f : Grid → Reply × Grid) (names : AttributeMap) (body : Body) → ((g : Grid) → Keeps g (f g))
     → Keeps (record { attributes = names; body = unmarked_body body }) (on_array id f names (unmarked_body body))
 array_kept id f names (Group links) kept refusal e = refl
 array_kept id f names (Dataset array) kept refusal e = ap (λ (g : Grid). record { attributes = names; body = Dataset (bare g) }) (kept array.grid refusal e)
 array_kept id f names (Datatype type) kept refusal e = refl
 
-attributes_kept : (f : Names → Reply × Names) (o : Object) → ((names : Names) → Keeps names (f names)) → Keeps o (on_attributes f o)
-attributes_kept f o kept refusal e = ap (λ (names : Names). record { attributes = names; body = o.body }) (kept o.attributes refusal e)
+attributes_kept : (f : AttributeMap → Reply × AttributeMap) (o : Object) → ((names : AttributeMap) → Keeps names (f names)) → Keeps o (on_attributes f o)
+attributes_kept f o kept refusal e = ap (λ (names : AttributeMap). record { attributes = names; body = o.body }) (kept o.attributes refusal e)
 
 pub link_kept : (id : Id) (title : List ℕ) (link : LinkTo) (o : Object) → Keeps o (on_links id (link_put title link) o.attributes o.body)
 link_kept id title link o = links_kept id (link_put title link) o.attributes o.body

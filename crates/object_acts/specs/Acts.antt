@@ -12,10 +12,11 @@ use Rattle.object_ids.specs.Puts.{put_fault}
 use Rattle.shapes.specs.declared.printing.Form.TheVariants.{Rest}
 use Rattle.hdf_values.specs.declared.attributes.Attribute.{Attribute}
 use Rattle.hdf_values.specs.Attributes.{content}
+pub use Rattle.attributes.specs.AttributeMaps.{AttributeMap}
 use Rattle.attributes.specs.AttributeMaps.{most_attributes}
 use Rattle.attributes.specs.AttributeTrees.{attribute_tree, attributes_list}
 use Rattle.groups_links.specs.declared.target.LinkTo.{LinkTo}
-use Rattle.groups_links.specs.GroupLinks.{most_links}
+use Rattle.groups_links.specs.GroupLinks.{most_links, Titles}
 use Rattle.groups_links.specs.Printed.{link_tree, links_list}
 use Rattle.chunk_store.specs.Grids.{Grid}
 use Rattle.object_ops.specs.declared.ops.Op.{Op}
@@ -30,12 +31,6 @@ use Rattle.object_acts.specs.declared.objects.Body.TheVariants.{Group, Dataset, 
 use Rattle.object_acts.specs.Objects.{bare}
 use Rattle.object_acts.specs.Trees.{object_tree}
 use Rattle.object_acts.specs.Arrays.Arrays.{value_read, points_read, shape_read, type_read, value_written, shape_changed}
-
-abbrev pub Titles : Type 0
-Titles = FinMap text_order LinkTo
-
-abbrev pub Names : Type 0
-Names = FinMap text_order Attribute
 
 -- ---- a title or a name is put or taken away
 
@@ -52,7 +47,7 @@ drop_from name m = if contains_key m name then (Done 200 nothing, remove m name)
 abbrev pub link_put : List ℕ → LinkTo → Titles → Reply × Titles
 link_put title link links = put_in most_links limit.Links title link links (put_fault most_links links title)
 
-abbrev pub attribute_put : List ℕ → Attribute → Names → Reply × Names
+abbrev pub attribute_put : List ℕ → Attribute → AttributeMap → Reply × AttributeMap
 attribute_put name attribute names = put_in most_attributes limit.Attributes name attribute names (put_fault most_attributes names name)
 
 -- ---- what is read
@@ -62,7 +57,7 @@ abbrev pub one_read : {X : Type 0} → (List ℕ → X → Data) → List ℕ �
 one_read tree name None = Refused (NoName name)
 one_read tree name (Some x) = Done 200 (tree name x)
 
-abbrev pub attribute_read : List ℕ → Names → Reply
+abbrev pub attribute_read : List ℕ → AttributeMap → Reply
 attribute_read name names = one_read (λ n a. attribute_tree n (content a) Rest true) name (get names name)
 
 abbrev pub link_read : List ℕ → Titles → Reply
@@ -94,17 +89,17 @@ reply_of root op o = Done 200 nothing
 
 -- ---- what is changed
 
-abbrev pub on_links : Id → (Titles → Reply × Titles) → Names → Body → Reply × Object
+abbrev pub on_links : Id → (Titles → Reply × Titles) → AttributeMap → Body → Reply × Object
 on_links id f names (Group links) = ((f links).0, record { attributes = names; body = Group (f links).1 })
 on_links id f names (Dataset array) = (Refused (NoObject id), record { attributes = names; body = Dataset array })
 on_links id f names (Datatype type) = (Refused (NoObject id), record { attributes = names; body = Datatype type })
 
-abbrev pub on_array : Id → (Grid → Reply × Grid) → Names → Body → Reply × Object
+abbrev pub on_array : Id → (Grid → Reply × Grid) → AttributeMap → Body → Reply × Object
 on_array id f names (Group links) = (Refused (NoObject id), record { attributes = names; body = Group links })
 on_array id f names (Dataset array) = ((f array.grid).0, record { attributes = names; body = Dataset (bare (f array.grid).1) })
 on_array id f names (Datatype type) = (Refused (NoObject id), record { attributes = names; body = Datatype type })
 
-abbrev pub on_attributes : (Names → Reply × Names) → Object → Reply × Object
+abbrev pub on_attributes : (AttributeMap → Reply × AttributeMap) → Object → Reply × Object
 on_attributes f o = ((f o.attributes).0, record { attributes = (f o.attributes).1; body = o.body })
 
 -- what is answered to an operation that changes an object, and the object that follows; the last case is for all others, which `changes_object` leaves out

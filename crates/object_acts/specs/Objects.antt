@@ -1,6 +1,6 @@
 -- What an object is.
 use Rattle.std.specs.Prelude.{◌≡◌, ℕ, List, []}
-use Rattle.std.specs.FinMap.{empty}
+use Rattle.std.specs.FinMap.{empty, FinMap}
 use Rattle.hdf_types.specs.Views.{elem}
 use Rattle.hdf_types.specs.Types.{IsSoundType}
 use Rattle.object_ids.specs.declared.ids.Kind.{Kind}
@@ -12,6 +12,7 @@ use Rattle.object_ops.specs.declared.ops.Make.TheVariants as make
 use Rattle.object_acts.specs.declared.objects.Object.{Object}
 use Rattle.object_acts.specs.declared.objects.Body.{Body}
 use Rattle.object_acts.specs.declared.objects.Body.TheVariants.{Group, Dataset, Datatype}
+use Rattle.object_ids.specs.IdOrder.{id_order}
 
 -- an array of which nothing is known to have changed
 abbrev pub bare : Grid → Stored
@@ -25,6 +26,10 @@ unmarked_body (Datatype type) = Datatype type
 -- an object as requests see it: it doesn't matter which chunks of its array have changed
 abbrev pub unmarked : Object → Object
 unmarked o = record { attributes = o.attributes; body = unmarked_body o.body }
+
+-- objects by their ids
+abbrev pub Objects : Type 0
+Objects = FinMap id_order Object
 
 -- ---- new objects
 

@@ -9,7 +9,7 @@ use Rattle.object_acts.specs.declared.objects.Object.{Object}
 use Rattle.object_acts.specs.declared.objects.Body.{Body}
 use Rattle.object_acts.specs.declared.objects.Body.TheVariants.{Group, Dataset, Datatype}
 use Rattle.object_acts.proofs.OfExact.Floats.{attributes_exact, creation_exact, links_exact, neither, shape_exact, type_exact}
-use Rattle.object_records.specs.Objects.{body_tree, object_body, object_tree}
+use Rattle.object_records.specs.Objects.{body_tree, object_body, object_tree, IsKeptBody}
 
 -- no number of an object's tree has a fraction or an exponent
 pub object_exact : (o : Object) → has_float (object_tree o) ≡ false
@@ -36,3 +36,8 @@ tree_unmarked o = at o.body where
 pub body_unmarked : (o : Object) → object_body (unmarked o) ≡ object_body o
 unfolding object_body
 body_unmarked o = ap compact_text (tree_unmarked o)
+
+pub kept_unmarked : (b : Body) → IsKeptBody b → IsKeptBody (unmarked_body b)
+kept_unmarked (Group links) kept = kept
+kept_unmarked (Dataset array) kept = kept
+kept_unmarked (Datatype type) kept = kept

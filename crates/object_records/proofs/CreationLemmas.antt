@@ -1,6 +1,7 @@
 -- The creation properties of an array spell its chunk and its fill.
-use Rattle.std.proofs.Common.{◌≡◌, ℕ, Bool, true, if◌then◌else◌, List, [], ◌∷◌, map, length, Option, Some, None, option_map, option_and_then, Result, Ok, Err, codes, refl, sym, ap, subst, ◌∙◌, arith}
+use Rattle.std.proofs.Common.{◌≡◌, ℕ, Bool, true, if◌then◌else◌, List, [], ◌∷◌, map, Option, Some, None, option_map, option_and_then, Result, Ok, Err, codes, refl, sym, ap, subst, ◌∙◌}
 use Rattle.std.specs.List.{AllZip}
+use Rattle.std.proofs.lemmas.List.{nil_from_length}
 use Rattle.serde_json.specs.Data.{Data, object}
 use Rattle.serde_json.specs.Find.{get}
 use Rattle.serde_json.specs.View.{items_of}
@@ -20,8 +21,7 @@ use Rattle.chunk_layout.specs.Asked.{IsAnswer, asked_of}
 use Rattle.chunk_layout.specs.declared.Layout.{Layout}
 use Rattle.chunk_layout.specs.declared.LayoutFault.{LayoutFault}
 use Rattle.chunk_layout.specs.Layouts.{Fits, IsWhole as IsWholeNumber}
-use Rattle.chunk_layout.specs.DefaultChunks.Halving.{default_chunk}
-use Rattle.chunk_layout.proofs.DefaultChunks.HalvingLemmas.{default_only}
+use Rattle.chunk_layout.proofs.DefaultChunks.HalvingLemmas.{default_only, no_default}
 use Rattle.chunk_layout.proofs.LayoutLemmas.{asked_read}
 use Rattle.chunk_store.specs.Grids.{Grid, IsWhole, blank_of}
 use Rattle.object_acts.specs.Arrays.Creation.{creation_tree, fill_members, layout_members, layout_tree}
@@ -36,23 +36,14 @@ chunk_answered size dims (Ok (Some chunk)) layout h = let same : layout ≡ reco
 
 -- ---- creation properties
 
-numbers_spelled : (ns : List ℕ) → SpellsList IsWholeNumber (numbers_tree Rest ns) ns
+pub numbers_spelled : (ns : List ℕ) → SpellsList IsWholeNumber (numbers_tree Rest ns) ns
 numbers_spelled ns = (items_of (map (limit_tree Rest) ns), refl, subst (λ (ds : List Data). AllZip IsWholeNumber ds ns) (sym (list_of-items_of (map (limit_tree Rest) ns))) (each ns))
   where
     each : (ms : List ℕ) → AllZip IsWholeNumber (map (limit_tree Rest) ms) ms
     each [] = tt
     each (m ∷ ms) = (refl, each ms)
 
--- an array without axes has a chunk without axes
-no_axis : (chunk : List ℕ) → length chunk ≡ 0 → [] ≡ chunk
-no_axis [] e = refl
-no_axis (n ∷ ns) e = absurd (omega arith)
-
-no_default : (size : ℕ) → default_chunk size [] ≡ []
-unfolding default_chunk
-no_default size = refl
-
-abbrev tree_of : Elem → Shape → List ℕ → Option (List ℕ) → Data
+abbrev pub tree_of : Elem → Shape → List ℕ → Option (List ℕ) → Data
 tree_of e s chunk fill = object (fill_members e fill (layout_members s chunk))
 
 -- where there is no axis nothing is asked for
@@ -69,8 +60,8 @@ asked_scalar e chunk (Some bs) = refl
 -- what is asked for
 asked_back : (e : Elem) (s : Shape) (chunk : List ℕ) (fill : Option (List ℕ)) → Fits (size_of e) (dims_of s) chunk
     → chunk_or (size_of e) (dims_of s) (asked_of (tree_of e s chunk fill) (dims_of s) (size_of e)) ≡ Some chunk
-asked_back e Null chunk fill h = ap (chunk_or (size_of e) []) (asked_null e chunk fill) ∙ ap Some (no_default (size_of e) ∙ no_axis chunk h.rank)
-asked_back e Scalar chunk fill h = ap (chunk_or (size_of e) []) (asked_scalar e chunk fill) ∙ ap Some (no_default (size_of e) ∙ no_axis chunk h.rank)
+asked_back e Null chunk fill h = ap (chunk_or (size_of e) []) (asked_null e chunk fill) ∙ ap Some (no_default (size_of e) ∙ sym (nil_from_length chunk h.rank))
+asked_back e Scalar chunk fill h = ap (chunk_or (size_of e) []) (asked_scalar e chunk fill) ∙ ap Some (no_default (size_of e) ∙ sym (nil_from_length chunk h.rank))
 asked_back e (Simple dims limits) chunk fill h = ap (chunk_or (size_of e) dims) (asks fill)
   where
     asks : (fill : Option (List ℕ)) → asked_of (tree_of e (Simple dims limits) chunk fill) dims (size_of e) ≡ Ok (Some chunk)

@@ -145,12 +145,12 @@ object_back o names body =
 
 -- ---- depths
 
-names_depth : (m : FinMap text_order Attribute) → AreAttributes m → depth (attributes_list m Document true) ≤ 38
+pub names_depth : (m : FinMap text_order Attribute) → AreAttributes m → depth (attributes_list m Document true) ≤ 38
 names_depth m held = attributes_deep m Document true (λ name a e.
     let sound = held.sound name a e in
     sound_shallow (elem a.elem) a.shape sound.kind sound.shape)
 
-properties_depth : (e : Elem) (s : Shape) (chunk : List ℕ) (fill : Option (List ℕ)) → IsSoundType e → depth (object (fill_members e fill (layout_members s chunk))) ≤ 5
+pub properties_depth : (e : Elem) (s : Shape) (chunk : List ℕ) (fill : Option (List ℕ)) → IsSoundType e → depth (object (fill_members e fill (layout_members s chunk))) ≤ 5
 properties_depth e Null chunk None sound = omega arith
 properties_depth e Null chunk (Some bs) sound = omega (arith, element_deep e bs, sound.nested)
 properties_depth e Scalar chunk None sound = omega arith

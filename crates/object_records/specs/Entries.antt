@@ -6,16 +6,13 @@ use Rattle.hdf_types.specs.Elems.{Elem}
 use Rattle.hdf_types.specs.Views.{elem}
 use Rattle.shapes.specs.declared.Shape.{Shape}
 use Rattle.hdf_values.specs.Attributes.{Content, content}
-use Rattle.groups_links.specs.declared.target.LinkTo.{LinkTo}
 use Rattle.object_acts.specs.declared.objects.Object.{Object}
 use Rattle.object_acts.specs.declared.objects.Body.{Body}
 use Rattle.object_acts.specs.declared.objects.Body.TheVariants.{Group, Dataset, Datatype}
+use Rattle.groups_links.specs.GroupLinks.{Titles}
 
 abbrev pub Names : Type 0
 Names = FinMap text_order Content
-
-abbrev pub Titles : Type 0
-Titles = FinMap text_order LinkTo
 
 -- of a group its links; of a dataset its type, shape, chunk and fill, but not its cells, which have records of their own; of a
 -- committed datatype its type

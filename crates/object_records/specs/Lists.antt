@@ -9,11 +9,11 @@ use Rattle.object_ids.specs.Names.{is_name}
 use Rattle.object_ids.specs.Puts.{put_fault}
 use Rattle.hdf_values.specs.Attributes.{Content, attribute_of}
 use Rattle.attributes.specs.AttributeMaps.{longest_name, most_attributes}
-use Rattle.groups_links.specs.GroupLinks.{most_links}
+use Rattle.groups_links.specs.GroupLinks.{most_links, Titles}
 use Rattle.groups_links.specs.Targets.{link_in}
 use Rattle.groups_links.specs.Titles.{most_of_title}
 use Rattle.groups_links.specs.declared.target.LinkTo.{LinkTo}
-use Rattle.object_records.specs.Entries.{Names, Titles}
+use Rattle.object_records.specs.Entries.{Names}
 
 -- what was read, where there is no fault
 abbrev pub no_fault : {A E : Type 0} → Result A E → Option A

@@ -21,7 +21,7 @@ use Rattle.register.specs.Kept.{IsHeldNode, IsRegisterMarked, the_run, the_next,
 use Rattle.register.specs.Cutting.{AddsRegister, AreAdded, IsAmong, IsDueNode, IsDueOne, IsNodeBody, IsRightNode, IsRightOne, OfEither, is_of_all, is_of_paths}
 use Rattle.containers.proofs.Passing.{by_bool, contrary}
 use Rattle.register.proofs.Parts.{AreApart}
-use Rattle.register.proofs.PathWalks.{same_path}
+use Rattle.register.proofs.OfInstalled.NodeKeys.{key_path}
 
 -- ---- where the last record of a key says what stands there
 
@@ -82,7 +82,7 @@ numbers_apart c m run r s h g same = absurd (let e : run_key ≡ next_key = sym 
 pub nodes_apart : (c : Contents) (m : Marked) → AreApart (IsRightNode c (is_of_all c m)) (IsRightNode c (is_of_paths c m)) (IsDueNode (is_of_all c m)) (IsDueNode (is_of_paths c m))
 nodes_apart c m r s h g same =
     not_both (contains_key m.paths g.0) m.all (contains_key c.nodes g.0)
-    (subst (λ (p : List ℕ). is_of_all c m p ≡ true) (same_path h.0 g.0 (sym h.2 ∙ same ∙ g.2)) h.1) g.1
+    (subst (λ (p : List ℕ). is_of_all c m p ≡ true) (key_path h.0 g.0 (sym h.2 ∙ same ∙ g.2)) h.1) g.1
 
 module _ (run : ℕ) (c : Contents) (m : Marked) where
   abbrev Right : Record → Type 0
@@ -128,7 +128,7 @@ module _ (run : ℕ) (c : Contents) (m : Marked) where
   next_said r (inr (inr h)) same = absurd (no_next h.0 (sym same ∙ h.2))
 
   at_path : (path : List ℕ) (r : Record) (p : List ℕ) → r.0 ≡ node_key p → IsNodeBody (get c.nodes p) r.1 → r.0 ≡ node_key path → IsHeldNode (get c.nodes path) (kept_body r.1)
-  at_path path r p is body same = subst (λ (q : List ℕ). IsHeldNode (get c.nodes q) (kept_body r.1)) (same_path p path (sym is ∙ same)) (held_node (get c.nodes p) r.1 body)
+  at_path path r p is body same = subst (λ (q : List ℕ). IsHeldNode (get c.nodes q) (kept_body r.1)) (key_path p path (sym is ∙ same)) (held_node (get c.nodes p) r.1 body)
 
   node_said : (path : List ℕ) (r : Record) → Right r → r.0 ≡ node_key path → IsHeldNode (get c.nodes path) (kept_body r.1)
   node_said path r (inl (inl h)) same = absurd (no_run path (sym (ap (λ (x : Record). x.0) h.1) ∙ same))

@@ -3,20 +3,16 @@ use Rattle.std.proofs.Common.{◌≡◌, ℕ, Bool, true, false, not, cond, is_s
 use Rattle.std.specs.Cmp.Lexicographic.{nat_list_cmp_total}
 use Rattle.std.specs.FinMap.{FinMap, contains_key, empty, get, insert, remove, get-empty, get-insert, get-remove, same_map}
 use Rattle.std.specs.Ordering.{eq_by_cmp}
+use Rattle.std.proofs.lemmas.Option.{none-some, same_Some}
 use Rattle.containers.specs.TextMaps.Keyed.{text_order}
 use Rattle.containers.proofs.TextMaps.KeyedMaps.{exact_texts}
 use Rattle.object_ids.specs.Paths.{path_of}
 use Rattle.register.specs.Marks.{ArePaths, Marked, taken_back}
 use Rattle.containers.proofs.TextMaps.TextOrders.{same_key}
-
-some_is : (a b : Bool) → Some a ≡ Some b → b ≡ a
-some_is a b e = cc
-
-none_is : {P : Type 0} (a : Bool) → None ≡ Some a → P
-none_is a e = absurd (cc)
+use Rattle.containers.proofs.Plain.{none_of}
 
 pub none_marked : (paths : FinMap text_order Bool) → paths ≡ empty → ArePaths paths
-none_marked paths e path mark at = none_is mark (sym (get-empty text_order path) ∙ ap (λ (m : FinMap text_order Bool). get m path) (sym e) ∙ at)
+none_marked paths e path mark at = absurd (none-some mark (sym (get-empty text_order path) ∙ ap (λ (m : FinMap text_order Bool). get m path) (sym e) ∙ at))
 
 module _ (paths : FinMap text_order Bool) (path : List ℕ) (all : ArePaths paths) where
   pub one_more : (new : FinMap text_order Bool) → path_of path ≡ Some path → new ≡ insert paths path true → ArePaths new
@@ -25,7 +21,7 @@ module _ (paths : FinMap text_order Bool) (path : List ℕ) (all : ArePaths path
     found b t = ap (λ x. cond x (Some true) (get paths q)) (sym t) ∙ sym (get-insert nat_list_cmp_total paths path true q) ∙ ap (λ (m : FinMap text_order Bool). get m q) (sym e) ∙ at
 
     by : (b : Bool) → eq_by_cmp text_order q path ≡ b → (mark ≡ true) × (path_of q ≡ Some q)
-    by true t = (some_is true mark (found true t), subst (λ (x : List ℕ). path_of x ≡ Some x) (sym (same_key q path t)) is)
+    by true t = (sym (same_Some true mark (found true t)), subst (λ (x : List ℕ). path_of x ≡ Some x) (sym (same_key q path t)) is)
     by false t = all q mark (found false t)
 
   pub one_less : (new : FinMap text_order Bool) → new ≡ remove paths path → ArePaths new
@@ -34,7 +30,7 @@ module _ (paths : FinMap text_order Bool) (path : List ℕ) (all : ArePaths path
     found b t = ap (λ x. cond x None (get paths q)) (sym t) ∙ sym (get-remove nat_list_cmp_total paths path q) ∙ ap (λ (m : FinMap text_order Bool). get m q) (sym e) ∙ at
 
     by : (b : Bool) → eq_by_cmp text_order q path ≡ b → (mark ≡ true) × (path_of q ≡ Some q)
-    by true t = none_is mark (found true t)
+    by true t = absurd (none-some mark (found true t))
     by false t = all q mark (found false t)
 
   -- a path that is marked once more
@@ -45,16 +41,12 @@ module _ (paths : FinMap text_order Bool) (path : List ℕ) (all : ArePaths path
     at q true t = ap (λ x. Some x) (sym (all path mark there).0) ∙ sym there ∙ ap (get paths) (sym (same_key q path t))
     at q false t = refl
 
-  none_there : (o : Option Bool) → is_some o ≡ false → o ≡ None
-  none_there None e = refl
-  none_there (Some mark) e = absurd (cc)
-
   -- a path that is marked and then not
   mark_undone : is_some (get paths path) ≡ false → remove (insert paths path true) path ≡ paths
   mark_undone none = same_map nat_list_cmp_total exact_texts _ _ (λ q. get-remove nat_list_cmp_total (insert paths path true) path q
       ∙ ap (λ o. cond (eq_by_cmp text_order q path) None o) (get-insert nat_list_cmp_total paths path true q) ∙ at q (eq_by_cmp text_order q path) refl) where
         at : (q : List ℕ) (b : Bool) → eq_by_cmp text_order q path ≡ b → cond b None (cond b (Some true) (get paths q)) ≡ get paths q
-        at q true t = sym (ap (get paths) (same_key q path t) ∙ none_there (get paths path) none)
+        at q true t = sym (ap (get paths) (same_key q path t) ∙ none_of (get paths path) none)
         at q false t = refl
 
 -- what is marked can be taken back

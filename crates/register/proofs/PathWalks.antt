@@ -19,9 +19,7 @@ use Rattle.object_records.specs.Keys.Keys.{node_key}
 use Rattle.register.specs.Cutting.{AddsNodes, AddsWanted, AreAdded, IsAmong, IsDueNode, IsNodeBody, IsRightNode, is_key_wanted, is_of_all, is_of_paths, is_wanted}
 use Rattle.register.specs.Marks.{Marked}
 use Rattle.containers.proofs.Passing.{by_bool, contrary, lt_less}
-
-pub same_path : (p q : List ℕ) → node_key p ≡ node_key q → p ≡ q
-same_path p q e = cc
+use Rattle.register.proofs.OfInstalled.NodeKeys.{key_path}
 
 -- ---- behind a path
 
@@ -103,7 +101,7 @@ module _ (c : Contents) {V : Type 0} (keys : FinMap text_order V) (missing : Boo
     } where
       other : (r : Record) → IsLater (Some k) r → r.0 ≢ node_key k
       other r h same = contrary (is_behind text_order (Some k) h.0) ⊥ h.1
-          (subst (λ (p : List ℕ). is_behind text_order (Some k) p ≡ false) (same_path k h.0 (sym same ∙ h.3)) (itself_not k))
+          (subst (λ (p : List ℕ). is_behind text_order (Some k) p ≡ false) (key_path k h.0 (sym same ∙ h.3)) (itself_not k))
 
     without_record : (whole : Bool) (tail : List Record) → is_wanted c missing k ≡ false → IsTail whole (Some k) tail → IsTail whole last tail
     without_record whole tail unwanted t = record {

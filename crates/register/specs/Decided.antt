@@ -10,7 +10,7 @@ use Rattle.access_lists.specs.declared.people.Caller.{Caller}
 use Rattle.access_lists.specs.declared.rights.Rights.{Rights}
 use Rattle.access_lists.specs.InForce.{Entries, has}
 use Rattle.access_lists.specs.EntryTrees.{acl_tree, acls_tree}
-use Rattle.domains.specs.Contents.{Contents, IsDomainAt, with_node}
+use Rattle.domains.specs.Contents.{Contents, IsDomainAt, with_node, is_domain}
 use Rattle.domains.specs.Changes.{make_fault, domain_fault, remove_fault, entry_fault, new_node, new_domain, without_node, with_entry, domain_count}
 use Rattle.domains.specs.NodeTrees.{node_tree, children_tree}
 use Rattle.domains.specs.declared.classes.Node.{Node}
@@ -56,10 +56,6 @@ serial_limit = 2 ^ 40
 abbrev pub is_folder : NodeClass → Bool
 is_folder Folder = true
 is_folder (Domain number root) = false
-
-abbrev pub is_domain : NodeClass → Bool
-is_domain Folder = false
-is_domain (Domain number root) = true
 
 -- a new node needs a folder as the parent, and only a folder has children; objects stand in domains
 abbrev pub fits : Op → NodeClass → Bool

@@ -1,5 +1,5 @@
 -- The text of a sample, line by line.
-use Rattle.std.proofs.Common.{refl, sym, ◌≡◌, ℕ, zero, suc, ◌+◌, ◌*◌, ◌%◌, ◌^◌, List, [], ◌∷◌, ◌++◌, ap, ◌∙◌, arith}
+use Rattle.std.proofs.Common.{refl, sym, ◌≡◌, ℕ, zero, suc, ◌+◌, ◌*◌, ◌%◌, ◌^◌, List, [], ◌∷◌, ◌++◌, ap, ◌∙◌, arith, append_assoc}
 use Rattle.std.specs.List.{flat_map, range_with_len, sum_by}
 use Rattle.std.proofs.lemmas.List.{append-nil}
 use Rattle.std.proofs.lemmas.List.Concat.{flat_map-append}
@@ -67,3 +67,7 @@ told_more n many w new text now line total sum h read pushed is = record {
 pub told_all : (n many : ℕ) (w : World) (text now line : List ℕ) (total : ℕ) → IsTold n many w text total → many ≡ 10 → now ≡ text ++ line → line ≡ total_line total → now ≡ sample_text n
 told_all n many w text now line total h all pushed is =
     pushed ∙ ap (λ (bs : List ℕ). bs ++ line) h.lines ∙ ap (λ (bs : List ℕ). lines_of n many ++ bs) (is ∙ ap total_line h.sums) ∙ text_is n many all
+
+-- two numbers and the words round them, as `format!` joins them
+pub joined : (l a m b e : List ℕ) → l ++ (a ++ (m ++ (b ++ e))) ≡ (((l ++ a) ++ m) ++ b) ++ e
+joined l a m b e = simp append_assoc

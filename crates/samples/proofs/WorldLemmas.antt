@@ -16,7 +16,7 @@ use Rattle.object_ops.specs.declared.ops.Op.{Op}
 use Rattle.object_ops.specs.declared.ops.Op.TheVariants.{GetValue}
 use Rattle.object_acts.specs.declared.objects.Object.{Object}
 use Rattle.chunk_owner.specs.Acts.{acted, on_object}
-use Rattle.chunk_owner.specs.Lanes.{Objects, set_at}
+use Rattle.chunk_owner.specs.Lanes.{set_at}
 use Rattle.domains.specs.Changes.{new_domain, root_of}
 use Rattle.domains.specs.declared.classes.Node.{Node}
 use Rattle.object_ops.specs.Needs.{on_for, path_on}
@@ -31,7 +31,7 @@ use Rattle.object_ids.proofs.IdOrders.{id_order_total}
 use Rattle.object_ops.specs.Answers.{only}
 use Rattle.object_ops.specs.declared.replies.Reply.{Reply}
 use Rattle.object_ops.specs.declared.replies.Reply.TheVariants.{Done}
-use Rattle.object_acts.specs.Objects.{bare}
+use Rattle.object_acts.specs.Objects.{bare, Objects}
 use Rattle.object_acts.specs.declared.objects.Body.TheVariants.{Dataset}
 use Rattle.service_core.specs.Steps.{IsAnswered, World, by_verdict, served, step}
 use Rattle.service_core.specs.declared.answers.What.{What}

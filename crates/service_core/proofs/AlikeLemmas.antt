@@ -24,7 +24,6 @@ use Rattle.object_ops.specs.declared.ops.Request.{Request}
 use Rattle.object_ops.specs.declared.refusals.Refusal.TheVariants.{Limit, NoDomain}
 use Rattle.object_ops.specs.declared.replies.Reply.{Reply}
 use Rattle.object_ops.specs.declared.replies.Reply.TheVariants.{Done}
-use Rattle.chunk_owner.specs.Lanes.{Objects}
 use Rattle.register.specs.Decided.{Door, at_maybe, changed_at, decided, domain_added, domain_made, entry_put, entry_read, fits, folder_made, foreign_in, forgotten, granted, in_domain, make_steps, most_of, node_made, node_removed, object_granted, one_step, owner_of, passed, refused, serial_limit}
 use Rattle.register.specs.Tickets.{Issue}
 use Rattle.register.specs.declared.verdicts.Verdict.{Verdict}
@@ -35,6 +34,7 @@ use Rattle.service_core.specs.Laws.{AreAlike, ReplaysAlike, StepsAlike}
 use Rattle.service_core.specs.Steps.{World, by_verdict, served, started, step, without_domain}
 use Rattle.register.specs.Marks.{Marked}
 use Rattle.service_core.proofs.TurnLemmas.{run_by_steps, run_steps}
+use Rattle.object_acts.specs.Objects.{Objects}
 
 -- what is granted is served by its grant and its steps alone
 served_alike : (op : Op) (i j : Issue) (m : Objects) → j.grant ≡ i.grant → map (λ t. t.step) j.left ≡ map (λ t. t.step) i.left → served op j m ≡ served op i m

@@ -34,8 +34,7 @@ use Rattle.object_ops.specs.declared.refusals.Refusal.{Refusal}
 use Rattle.object_ops.specs.declared.refusals.Refusal.TheVariants.{Limit, NoDomain, NoName, NoObject}
 use Rattle.object_ids.specs.declared.limits.LimitKind.TheVariants as limit
 use Rattle.object_acts.specs.declared.objects.Object.{Object}
-use Rattle.object_acts.specs.Objects.{empty_group}
-use Rattle.chunk_owner.specs.Lanes.{Objects}
+use Rattle.object_acts.specs.Objects.{empty_group, Objects}
 use Rattle.chunk_owner.specs.Acts.{HasFresh, IsStepOf, IsTouchedIn, acted, changed_by, linking, link_to, missing}
 use Rattle.chunk_owner.proofs.KeptLemmas.{touched_named}
 use Rattle.register.proofs.Counting.{length-counted}

@@ -8,12 +8,13 @@ use Rattle.object_ids.specs.IdValues.{Id}
 use Rattle.object_ids.specs.IdOrder.{id_order}
 use Rattle.object_ids.proofs.IdOrders.{id_order_once, id_order_total, tied_ids}
 use Rattle.object_acts.specs.declared.objects.Object.{Object}
-use Rattle.chunk_owner.specs.Lanes.{Forgets, IsSameLane, Lane, Objects}
+use Rattle.chunk_owner.specs.Lanes.{Forgets, IsSameLane, Lane}
 use Rattle.register.specs.Tickets.{AreEach}
 use Rattle.register.specs.declared.tickets.Turn.{Turn}
 use Rattle.chunk_owner.specs.Owners.Joined.{AreLanes, IsLane, whole}
 use Rattle.service_core.specs.Steps.{without_domain}
 use Rattle.chunk_owner.proofs.OfOwners.WholeLemmas.{get-whole, or_else}
+use Rattle.object_acts.specs.Objects.{Objects}
 
 abbrev absent : Option Object
 absent = None

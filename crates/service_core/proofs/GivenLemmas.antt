@@ -16,10 +16,10 @@ use Rattle.object_ops.specs.declared.grants.Step.TheVariants.{Only, Link, Make a
 use Rattle.object_ops.specs.declared.replies.Reply.{Reply}
 use Rattle.object_ops.specs.declared.replies.Reply.TheVariants.{Refused}
 use Rattle.object_acts.specs.declared.objects.Object.{Object}
-use Rattle.object_acts.specs.Objects.{empty_group}
+use Rattle.object_acts.specs.Objects.{empty_group, Objects}
 use Rattle.object_acts.specs.Acts.{change_of, reads_object, reply_of}
-use Rattle.chunk_owner.specs.Lanes.{Objects, set_at}
-use Rattle.chunk_owner.specs.Acts.{act, changed_by, changing, group_of, is_done, linking, link_to, make_act, missing, on_touched, reading, removed, seen, touched, touched_by_make}
+use Rattle.chunk_owner.specs.Lanes.{set_at}
+use Rattle.chunk_owner.specs.Acts.{act, changed_by, changing, group_of, linking, link_to, make_act, missing, on_touched, reading, removed, seen, touched, touched_by_make}
 use Rattle.chunk_owner.proofs.Eaches.{each_insert, each_remove, stays}
 use Rattle.register.specs.Decided.{Door, fresh_given, serial_limit}
 use Rattle.register.specs.Tickets.{Issue}
@@ -31,6 +31,7 @@ use Rattle.service_core.specs.declared.answers.What.TheVariants.{Replied, Denied
 use Rattle.service_core.specs.Steps.{AreGiven, IsGiven, Obeys, StopsIn, run_on, served, started, step_taken, without_domain}
 use Rattle.service_core.specs.Worlds.{IsFreshId}
 use Rattle.service_core.proofs.ForgetLemmas.{get-without}
+use Rattle.object_ops.specs.Answers.{was_done}
 
 -- ids of one number, run and serial are given together
 pub given_same : (d : Door) (id root : Id) → id_eq id root ≡ true → IsGiven d root → IsGiven d id
@@ -108,7 +109,7 @@ module _ (d : Door) (g : Grant) (root : IsGiven d g.root) (fresh : (id : Id) →
 
   run_given : (op : Op) (p : Reply × Objects) (ts : List Turn) → AreGiven d p.1 → AreGiven d (run_on g op p ts).1
   run_given op p [] all = all
-  run_given op p (t ∷ ts) all = run_or op (is_done p.0) (run_on g op (step_taken g op t.step p.1) ts) p (run_given op (step_taken g op t.step p.1) ts (step_given op t.step p.1 all)) all
+  run_given op p (t ∷ ts) all = run_or op (was_done p.0) (run_on g op (step_taken g op t.step p.1) ts) p (run_given op (step_taken g op t.step p.1) ts (step_given op t.step p.1 all)) all
 
   stop_given : (op : Op) (ts : List Turn) (m new : Objects) → StopsIn g op ts m new → AreGiven d m → AreGiven d new
   stop_given op ts m new stops all = subst (AreGiven d) (sym stops.stands) (run_given op (started m) stops.front all)

@@ -28,8 +28,8 @@ use Rattle.object_ops.specs.declared.replies.Reply.{Reply}
 use Rattle.object_ops.specs.declared.replies.Reply.TheVariants.{Done, Refused}
 use Rattle.object_ops.specs.declared.refusals.Refusal.{Refusal}
 use Rattle.object_ops.specs.declared.refusals.Refusal.TheVariants.{Limit, NoDomain}
-use Rattle.chunk_owner.specs.Acts.{acted, is_done}
-use Rattle.chunk_owner.specs.Lanes.{AreShown, Objects}
+use Rattle.chunk_owner.specs.Acts.{acted}
+use Rattle.chunk_owner.specs.Lanes.{AreShown}
 use Rattle.chunk_owner.specs.Laws.{RefusalsLeaveAll}
 use Rattle.register.specs.Decided.{Door, at_maybe, changed_at, decided, domain_added, domain_made, entry_put, entry_read, fits, folder_made, foreign_in, forgotten, grant_of, granted, in_domain, make_steps, most_of, node_made, node_removed, object_granted, one_step, owner_of, passed, refused, serial_limit}
 use Rattle.register.specs.Tickets.{Issue}
@@ -39,24 +39,26 @@ use Rattle.register.specs.declared.verdicts.Verdict.TheVariants as verdict
 use Rattle.service_core.specs.declared.answers.What.TheVariants.{Replied, Denied}
 use Rattle.service_core.specs.Keeps.{DenialsKeep, KeepsAll, RefusalsKeep}
 use Rattle.service_core.specs.Steps.{by_verdict, run_on, served, started, step_taken}
+use Rattle.object_acts.specs.Objects.{Objects}
+use Rattle.object_ops.specs.Answers.{was_done}
 
 -- ---- the steps of a request
 
 -- these steps aren't refused, once those before them are done
 abbrev Succeed : Grant → Op → List Turn → Type 0
-Succeed g op ts = (p : Reply × Objects) → is_done p.0 ≡ true → is_done (run_on g op p ts).0 ≡ true
+Succeed g op ts = (p : Reply × Objects) → was_done p.0 ≡ true → was_done (run_on g op p ts).0 ≡ true
 
 -- only the first step can be refused
 abbrev FirstDecides : Grant → Op → List Turn → Type 0
 FirstDecides g op [] = Unit {0}
 FirstDecides g op (t ∷ ts) = Succeed g op ts
 
-stays : (g : Grant) (op : Op) (q : Reply × Objects) (ts : List Turn) → is_done q.0 ≡ false → run_on g op q ts ≡ q
+stays : (g : Grant) (op : Op) (q : Reply × Objects) (ts : List Turn) → was_done q.0 ≡ false → run_on g op q ts ≡ q
 stays g op q [] e = refl
 stays g op q (t ∷ ts) e = ap (λ b. cond b (run_on g op (step_taken g op t.step q.1) ts) q) e
 
-refused_done : (r : Reply) (refusal : Refusal) → r ≡ Refused refusal → is_done r ≡ true → ⊥
-refused_done r refusal e done = let no : false ≡ true = sym (ap is_done e) ∙ done in absurd (cc)
+refused_done : (r : Reply) (refusal : Refusal) → r ≡ Refused refusal → was_done r ≡ true → ⊥
+refused_done r refusal e done = let no : false ≡ true = sym (ap was_done e) ∙ done in absurd (cc)
 
 module _ (kept : RefusalsLeaveAll) (m : Objects) (seen : AreShown m) where
   first_kept : (g : Grant) (op : Op) (o : Option Step) (refusal : Refusal) → (step_taken g op o m).0 ≡ Refused refusal → (step_taken g op o m).1 ≡ m
@@ -66,7 +68,7 @@ module _ (kept : RefusalsLeaveAll) (m : Objects) (seen : AreShown m) where
       subst Keeps seen (kept g op s m refusal) e
 
   after_first : (g : Grant) (op : Op) (q : Reply × Objects) (ts : List Turn) → Succeed g op ts → ((refusal : Refusal) → q.0 ≡ Refused refusal → q.1 ≡ m)
-      → (done : Bool) → is_done q.0 ≡ done → (refusal : Refusal) → (run_on g op q ts).0 ≡ Refused refusal → (run_on g op q ts).1 ≡ m
+      → (done : Bool) → was_done q.0 ≡ done → (refusal : Refusal) → (run_on g op q ts).0 ≡ Refused refusal → (run_on g op q ts).1 ≡ m
   after_first g op q ts all first true done refusal e = absurd (refused_done _ refusal e (all q done))
   after_first g op q ts all first false done refusal e =
       let same = stays g op q ts done in ap (λ p. p.1) same ∙ first refusal (sym (ap (λ p. p.0) same) ∙ e)
@@ -74,7 +76,7 @@ module _ (kept : RefusalsLeaveAll) (m : Objects) (seen : AreShown m) where
   run_kept : (g : Grant) (op : Op) (ts : List Turn) → FirstDecides g op ts → (refusal : Refusal) → (run_on g op (started m) ts).0 ≡ Refused refusal → (run_on g op (started m) ts).1 ≡ m
   run_kept g op [] all refusal e = refl
   run_kept g op (t ∷ ts) all refusal e =
-      let q = step_taken g op t.step m in after_first g op q ts all (first_kept g op t.step) (is_done q.0) refl refusal e
+      let q = step_taken g op t.step m in after_first g op q ts all (first_kept g op t.step) (was_done q.0) refl refusal e
 
 -- ---- what is decided
 
@@ -85,7 +87,7 @@ Granting d op issue new = KeepsAll op d new × FirstDecides issue.grant op issue
 -- the verdict leaves the register but for what is granted
 abbrev Leaving : Door → Op → Verdict × Door → Type 0
 Leaving d op (verdict.Granted issue, new) = Granting d op issue new
-Leaving d op (verdict.Answered answer, new) = is_done answer ≡ true
+Leaving d op (verdict.Answered answer, new) = was_done answer ≡ true
 Leaving d op (verdict.Denied right, new) = new ≡ passed d
 Leaving d op (verdict.Refused refusal, new) = new ≡ passed d
 Leaving d op (verdict.NoMemory, new) = Unit {0}
@@ -138,7 +140,7 @@ module _ (d : Door) where
   object_left op number root None = step_left op number root (id_of op)
   object_left op number root (Some target) = refl
 
-  one_more : (b : Bool) (p q : Reply × Objects) → b ≡ true → is_done p.0 ≡ true → is_done (cond b p q).0 ≡ true
+  one_more : (b : Bool) (p q : Reply × Objects) → b ≡ true → was_done p.0 ≡ true → was_done (cond b p q).0 ≡ true
   one_more true p q e done = done
   one_more false p q e done = absurd (cc)
 
@@ -150,7 +152,7 @@ module _ (d : Door) where
       let fresh : Id = record { kind = kind_made make; domain = number; run = d.run; serial = d.serial } in
       let g : Grant = grant_of (record d { serial = d.serial + 1 }) number root (Some fresh) in (
         record { catalogue = refl; run = refl; places = refl; serial = inr (refl, refl) },
-        λ p done. one_more (is_done p.0) (step_taken g (MakeObject make (Some place)) (Some Making) p.1) p done refl,
+        λ p done. one_more (was_done p.0) (step_taken g (MakeObject make (Some place)) (Some Making) p.1) p done refl,
       )
 
   make_or : (make : Make) (number : ℕ) (root : Id) (place : Option LinkPlace) (few : Bool)

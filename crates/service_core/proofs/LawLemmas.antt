@@ -28,7 +28,7 @@ use Rattle.object_ops.specs.declared.replies.Reply.{Reply}
 use Rattle.object_ops.specs.declared.replies.Reply.TheVariants.{Done}
 use Rattle.object_acts.specs.declared.objects.Object.{Object}
 use Rattle.chunk_owner.specs.Acts.{act, acted, on_touched}
-use Rattle.chunk_owner.specs.Lanes.{Objects, at_id}
+use Rattle.chunk_owner.specs.Lanes.{at_id}
 use Rattle.chunk_owner.proofs.KeptLemmas.{touched_named}
 use Rattle.register.specs.Decided.{Door, at_maybe, changed_at, decided, forgotten, node_removed, passed}
 use Rattle.register.specs.Grants.{HasSteps, IfGranted, IsIssueOf}
@@ -46,6 +46,7 @@ use Rattle.service_core.proofs.TurnLemmas.{run_by_steps, run_steps}
 use Rattle.service_core.proofs.DecideLemmas.{no_id}
 use Rattle.chunk_owner.proofs.OfOwners.WholeLemmas.{get-set_at}
 use Rattle.containers.proofs.Plain.{passed_over}
+use Rattle.object_acts.specs.Objects.{Objects}
 
 -- ---- places
 

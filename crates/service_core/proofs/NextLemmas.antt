@@ -7,11 +7,12 @@ use Rattle.object_ids.specs.IdValues.{Id}
 use Rattle.object_ids.specs.IdOrder.{id_order}
 use Rattle.object_ids.proofs.IdOrders.{id_order_once, id_order_total}
 use Rattle.object_acts.specs.declared.objects.Object.{Object}
-use Rattle.chunk_owner.specs.Lanes.{Lane, Objects}
+use Rattle.chunk_owner.specs.Lanes.{Lane}
 use Rattle.chunk_owner.specs.Owners.Joined.{whole}
 use Rattle.service_core.specs.Worlds.{lesser}
 use Rattle.chunk_owner.proofs.OfOwners.WholeLemmas.{get-push, or_else}
 use Rattle.containers.proofs.Passing.{lt_less}
+use Rattle.object_acts.specs.Objects.{Objects}
 
 module _ (m one other : Objects) (is : (q : Id) → get m q ≡ or_else (get one q) (get other q)) (after : Option Id) where
   none_in : (q : Id) → get one q ≡ None → get other q ≡ None → get m q ≡ None

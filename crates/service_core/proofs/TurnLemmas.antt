@@ -4,11 +4,11 @@ use Rattle.object_ops.specs.declared.ops.Op.{Op}
 use Rattle.object_ops.specs.declared.grants.Grant.{Grant}
 use Rattle.object_ops.specs.declared.grants.Step.{Step}
 use Rattle.object_ops.specs.declared.replies.Reply.{Reply}
-use Rattle.chunk_owner.specs.Acts.{is_done}
-use Rattle.chunk_owner.specs.Lanes.{Objects}
 use Rattle.register.specs.declared.tickets.Turn.{Turn}
 use Rattle.service_core.specs.Steps.{StopsIn, Takes, run_on, started, step_taken}
 use Rattle.service_core.specs.Turns.{AreReady, IsReadyAt}
+use Rattle.object_acts.specs.Objects.{Objects}
+use Rattle.object_ops.specs.Answers.{was_done}
 
 -- what was done of some turns, and what is left
 pub record SoFar (g : Grant) (op : Op) (all : List Turn) (old : Objects) (reply : Reply) (m : Objects) (left : List Turn) : Type 0 where
@@ -17,30 +17,30 @@ pub record SoFar (g : Grant) (op : Op) (all : List Turn) (old : Objects) (reply 
   pub done : run_on g op (started old) front ≡ (reply, m)
 
 module _ (g : Grant) (op : Op) where
-  pub stopped : (p : Reply × Objects) (ts : List Turn) → is_done p.0 ≡ false → run_on g op p ts ≡ p
+  pub stopped : (p : Reply × Objects) (ts : List Turn) → was_done p.0 ≡ false → run_on g op p ts ≡ p
   stopped p [] e = refl
   stopped p (t ∷ ts) e = ap (λ b. cond b (run_on g op (step_taken g op t.step p.1) ts) p) e
 
-  went : (p : Reply × Objects) (t : Turn) (ts : List Turn) → is_done p.0 ≡ true → run_on g op p (t ∷ ts) ≡ run_on g op (step_taken g op t.step p.1) ts
+  went : (p : Reply × Objects) (t : Turn) (ts : List Turn) → was_done p.0 ≡ true → run_on g op p (t ∷ ts) ≡ run_on g op (step_taken g op t.step p.1) ts
   went p t ts e = ap (λ b. cond b (run_on g op (step_taken g op t.step p.1) ts) p) e
 
-  append_by : (p q : Reply × Objects) (xs ys : List Turn) (b : Bool) → is_done p.0 ≡ b → run_on g op q (xs ++ ys) ≡ run_on g op (run_on g op q xs) ys
+  append_by : (p q : Reply × Objects) (xs ys : List Turn) (b : Bool) → was_done p.0 ≡ b → run_on g op q (xs ++ ys) ≡ run_on g op (run_on g op q xs) ys
       → cond b (run_on g op q (xs ++ ys)) p ≡ run_on g op (cond b (run_on g op q xs) p) ys
   append_by p q xs ys true e h = h
   append_by p q xs ys false e h = sym (stopped p ys e)
 
   run_on-append : (p : Reply × Objects) (xs ys : List Turn) → run_on g op p (xs ++ ys) ≡ run_on g op (run_on g op p xs) ys
   run_on-append p [] ys = refl
-  run_on-append p (x ∷ xs) ys = append_by p (step_taken g op x.step p.1) xs ys (is_done p.0) refl (run_on-append (step_taken g op x.step p.1) xs ys)
+  run_on-append p (x ∷ xs) ys = append_by p (step_taken g op x.step p.1) xs ys (was_done p.0) refl (run_on-append (step_taken g op x.step p.1) xs ys)
 
   -- only the steps of turns matter
   abbrev pub run_steps : Reply × Objects → List (Option Step) → Reply × Objects
   run_steps p [] = p
-  run_steps p (s ∷ ss) = cond (is_done p.0) (run_steps (step_taken g op s p.1) ss) p
+  run_steps p (s ∷ ss) = cond (was_done p.0) (run_steps (step_taken g op s p.1) ss) p
 
   pub run_by_steps : (p : Reply × Objects) (ts : List Turn) → run_on g op p ts ≡ run_steps p (map (λ t. t.step) ts)
   run_by_steps p [] = refl
-  run_by_steps p (t ∷ ts) = ap (λ (q : Reply × Objects). cond (is_done p.0) q p) (run_by_steps (step_taken g op t.step p.1) ts)
+  run_by_steps p (t ∷ ts) = ap (λ (q : Reply × Objects). cond (was_done p.0) q p) (run_by_steps (step_taken g op t.step p.1) ts)
 
   taken : (E : Type 0) (o : Option Step) (m new : Objects) (r : Reply) → Takes {E = E} g op o m (Ok r) new → step_taken g op o m ≡ (r, new)
   taken E None m new r h = sym h
@@ -50,7 +50,7 @@ module _ (g : Grant) (op : Op) where
     pub begun : SoFar g op all old (started old).0 old all
     begun = record { front = []; split = refl; done = refl }
 
-    pub more : (E : Type 0) (reply r : Reply) (m new : Objects) (left rest : List Turn) (t : Turn) → left ≡ t ∷ rest → is_done reply ≡ true → Takes {E = E} g op t.step m (Ok r) new
+    pub more : (E : Type 0) (reply r : Reply) (m new : Objects) (left rest : List Turn) (t : Turn) → left ≡ t ∷ rest → was_done reply ≡ true → Takes {E = E} g op t.step m (Ok r) new
         → SoFar g op all old reply m left → SoFar g op all old r new rest
     more E reply r m new left rest t is done h s = record {
       front = s.front ++ t ∷ [];
@@ -66,7 +66,7 @@ module _ (g : Grant) (op : Op) where
     wants None m new e h = absurd h
     wants (Some step) m new e h = (refl, h)
 
-    pub short : {E : Type 0} (reply : Reply) (m new : Objects) (left rest : List Turn) (t : Turn) (e : E) → left ≡ t ∷ rest → is_done reply ≡ true → Takes g op t.step m (Err e) new
+    pub short : {E : Type 0} (reply : Reply) (m new : Objects) (left rest : List Turn) (t : Turn) (e : E) → left ≡ t ∷ rest → was_done reply ≡ true → Takes g op t.step m (Err e) new
         → SoFar g op all old reply m left → StopsIn g op all old new
     short reply m new left rest t e is done h s =
         let w = wants t.step m new e h in
@@ -76,7 +76,7 @@ module _ (g : Grant) (op : Op) where
           rest = rest;
           split = s.split ∙ ap (λ ts. s.front ++ ts) is;
           step = w.0;
-          reached = ap (λ p. is_done p.0) s.done ∙ done;
+          reached = ap (λ p. was_done p.0) s.done ∙ done;
           stands = w.1 ∙ sym (ap (λ p. p.1) s.done);
         }
 
@@ -86,8 +86,8 @@ module _ (g : Grant) (op : Op) where
     ready_now m left rest t is h = let all = subst (λ (ts : List Turn). AreReady n g op m ts) is h in (all.0, all.1)
 
     pub ready_next : (E : Type 0) (m new : Objects) (r : Reply) (left rest : List Turn) (t : Turn) → left ≡ t ∷ rest → AreReady n g op m left → Takes {E = E} g op t.step m (Ok r) new
-        → is_done r ≡ true → AreReady n g op new rest
+        → was_done r ≡ true → AreReady n g op new rest
     ready_next E m new r left rest t is h said done =
         let all = subst (λ (ts : List Turn). AreReady n g op m ts) is h in
         let same = taken E t.step m new r said in
-        subst (λ (x : Objects). AreReady n g op x rest) (ap (λ p. p.1) same) (all.2 (ap (λ p. is_done p.0) same ∙ done))
+        subst (λ (x : Objects). AreReady n g op x rest) (ap (λ p. p.1) same) (all.2 (ap (λ p. was_done p.0) same ∙ done))

@@ -7,7 +7,7 @@ use Rattle.object_acts.specs.declared.objects.Object.{Object}
 use Rattle.domains.specs.Contents.{IsCatalogue}
 use Rattle.access_lists.specs.declared.people.Caller.{Caller}
 use Rattle.object_ops.specs.declared.ops.Request.{Request}
-use Rattle.chunk_owner.specs.Lanes.{Lane, Objects}
+use Rattle.chunk_owner.specs.Lanes.{Lane}
 use Rattle.chunk_owner.proofs.Eaches.{each_empty, each_insert}
 use Rattle.register.specs.Decided.{Decides, Door, IsDenial, IsDoor, decided}
 use Rattle.register.specs.declared.verdicts.Verdict.{Verdict}
@@ -22,6 +22,7 @@ use Rattle.service_core.specs.Worlds.{IsBuilt, IsNew}
 use Rattle.service_core.proofs.GivenLemmas.{obeys_given}
 use Rattle.chunk_owner.proofs.OfOwners.WholeLemmas.{at_home}
 use Rattle.service_core.proofs.DecideLemmas.{decides_is, given_later}
+use Rattle.object_acts.specs.Objects.{Objects}
 
 module _ (d new : Door) (m left : Objects) (caller : Caller) (request : Request) where
   abbrev old_world : World

@@ -4,7 +4,7 @@ use Rattle.std.specs.FinMap.{get}
 use Rattle.object_ids.specs.IdValues.{Id}
 use Rattle.access_lists.specs.declared.people.Caller.{Caller}
 use Rattle.domains.specs.Contents.{IsDomainAt}
-use Rattle.object_ops.specs.Answers.{nothing}
+use Rattle.object_ops.specs.Answers.{nothing, was_done}
 use Rattle.object_ops.specs.Parts.{id_of}
 use Rattle.object_ops.specs.declared.grants.Grant.{Grant}
 use Rattle.object_ops.specs.declared.grants.Step.TheVariants.{Only, Link, Make as Making}
@@ -16,8 +16,8 @@ use Rattle.object_ops.specs.declared.ops.Request.{Request}
 use Rattle.object_ops.specs.declared.replies.Reply.{Reply}
 use Rattle.object_ops.specs.declared.replies.Reply.TheVariants.{Done}
 use Rattle.object_acts.specs.declared.objects.Object.{Object}
-use Rattle.chunk_owner.specs.Acts.{act, acted, is_done}
-use Rattle.chunk_owner.specs.Lanes.{Forgets, Objects}
+use Rattle.chunk_owner.specs.Acts.{act, acted}
+use Rattle.chunk_owner.specs.Lanes.{Forgets}
 use Rattle.register.specs.Decided.{decided}
 use Rattle.register.specs.Tickets.{Issue}
 use Rattle.register.specs.declared.verdicts.Verdict.TheVariants.{Granted}
@@ -25,6 +25,7 @@ use Rattle.service_core.specs.declared.answers.What.TheVariants.{Replied}
 use Rattle.service_core.specs.Replays.{AreSteps, Call}
 use Rattle.service_core.specs.declared.answers.Answer.{Answer}
 use Rattle.service_core.specs.Steps.{Steps, World, replay, step}
+use Rattle.object_acts.specs.Objects.{Objects}
 
 -- ---- places, tickets and marks
 
@@ -65,7 +66,7 @@ pub record Gives (w : World) (caller : Caller) (request : Request) (p : Reply ×
 
 -- an object is made where its link was done
 abbrev pub then_made : Grant → Op → Reply × Objects → Reply × Objects
-then_made g op p = if is_done p.0 then acted g op Making p.1 else p
+then_made g op p = if was_done p.0 then acted g op Making p.1 else p
 
 abbrev pub LinkedThenMade : Type 0
 LinkedThenMade = (w : World) (caller : Caller) (request : Request) (issue : Issue) (make : Make) (place : LinkPlace) → IsGranted w caller request issue → request.op ≡ MakeObject make (Some place)

@@ -4,7 +4,7 @@ use Rattle.std.specs.FinMap.{entries, from_entries}
 use Rattle.std.specs.List.{filter}
 use Rattle.object_ids.specs.IdValues.{Id}
 use Rattle.access_lists.specs.declared.people.Caller.{Caller}
-use Rattle.object_ops.specs.Answers.{Follows, nothing}
+use Rattle.object_ops.specs.Answers.{Follows, nothing, was_done}
 use Rattle.object_ops.specs.declared.ops.Request.{Request}
 use Rattle.object_ops.specs.declared.ops.Op.{Op}
 use Rattle.object_ops.specs.declared.ops.Op.TheVariants.{DropNode}
@@ -12,8 +12,8 @@ use Rattle.object_ops.specs.declared.grants.Grant.{Grant}
 use Rattle.object_ops.specs.declared.grants.Step.{Step}
 use Rattle.object_ops.specs.declared.replies.Reply.{Reply}
 use Rattle.object_ops.specs.declared.replies.Reply.TheVariants as reply
-use Rattle.chunk_owner.specs.Lanes.{AreOfKind, AreShown, Each, Objects}
-use Rattle.chunk_owner.specs.Acts.{acted, is_done}
+use Rattle.chunk_owner.specs.Lanes.{AreOfKind, AreShown, Each}
+use Rattle.chunk_owner.specs.Acts.{acted}
 use Rattle.register.specs.Tickets.{Issue}
 use Rattle.register.specs.Decided.{Door, IsDenial, IsGivenOut, decided, is_of_nodes, passed}
 use Rattle.register.specs.declared.tickets.Turn.{Turn}
@@ -22,6 +22,7 @@ use Rattle.register.specs.declared.verdicts.Verdict.TheVariants as verdict
 use Rattle.service_core.specs.declared.answers.What.{What}
 use Rattle.service_core.specs.declared.answers.What.TheVariants.{Replied, Denied, NoMemory}
 use Rattle.service_core.specs.declared.answers.Answer.{Answer}
+use Rattle.object_acts.specs.Objects.{Objects}
 
 -- the catalogue with what was given out, and the objects of all lanes
 pub record World : Type 0 where
@@ -38,7 +39,7 @@ step_taken g op (Some step) m = acted g op step m
 -- the steps in order, up to the first that is refused
 abbrev pub run_on : Grant → Op → Reply × Objects → List Turn → Reply × Objects
 run_on g op p [] = p
-run_on g op p (t ∷ ts) = if is_done p.0 then run_on g op (step_taken g op t.step p.1) ts else p
+run_on g op p (t ∷ ts) = if was_done p.0 then run_on g op (step_taken g op t.step p.1) ts else p
 
 abbrev pub started : Objects → Reply × Objects
 started m = (reply.Done 200 nothing, m)
@@ -82,7 +83,7 @@ pub record StopsIn (g : Grant) (op : Op) (turns : List Turn) (old new : Objects)
   pub rest : List Turn
   pub split : turns ≡ front ++ short ∷ rest
   pub step : IsSome short.step
-  pub reached : is_done (run_on g op (started old) front).0 ≡ true
+  pub reached : was_done (run_on g op (started old) front).0 ≡ true
   pub stands : new ≡ (run_on g op (started old) front).1
 
 abbrev pub StopsAt : Op → Verdict → Objects → Objects → Type 0

@@ -5,13 +5,14 @@ use Rattle.object_ops.specs.declared.ops.Op.{Op}
 use Rattle.object_ops.specs.declared.ops.Op.TheVariants.{DropNode}
 use Rattle.object_ops.specs.declared.grants.Grant.{Grant}
 use Rattle.object_ops.specs.declared.grants.Step.{Step}
-use Rattle.chunk_owner.specs.Lanes.{Objects}
-use Rattle.chunk_owner.specs.Acts.{is_done, touched, HasFresh, IsStepOf, IsTouchedIn}
+use Rattle.chunk_owner.specs.Acts.{touched, HasFresh, IsStepOf, IsTouchedIn}
 use Rattle.register.specs.Tickets.{AreEach, Issue}
 use Rattle.register.specs.declared.tickets.Turn.{Turn}
 use Rattle.register.specs.declared.verdicts.Verdict.{Verdict}
 use Rattle.register.specs.declared.verdicts.Verdict.TheVariants.{Granted}
 use Rattle.service_core.specs.Steps.{step_taken}
+use Rattle.object_acts.specs.Objects.{Objects}
+use Rattle.object_ops.specs.Answers.{was_done}
 
 -- the step is one of the request's, its object is of the lane, and what it makes has an id without an object
 pub record IsReady (lanes lane : ℕ) (g : Grant) (op : Op) (s : Step) (m : Objects) : Type 0 where
@@ -27,7 +28,7 @@ IsReadyAt lanes lane g op (Some step) m = IsReady lanes lane g op step m
 abbrev pub AreReady : ℕ → Grant → Op → Objects → List Turn → Type 0
 AreReady lanes g op m [] = Unit {0}
 AreReady lanes g op m (t ∷ ts) =
-    (t.lane < lanes) × IsReadyAt lanes t.lane g op t.step m × (is_done (step_taken g op t.step m).0 ≡ true → AreReady lanes g op (step_taken g op t.step m).1 ts)
+    (t.lane < lanes) × IsReadyAt lanes t.lane g op t.step m × (was_done (step_taken g op t.step m).0 ≡ true → AreReady lanes g op (step_taken g op t.step m).1 ts)
 
 -- the removal of a domain has a turn in each lane
 abbrev pub AreServable : ℕ → Op → Issue → Objects → Type 0

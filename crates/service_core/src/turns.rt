@@ -2,9 +2,9 @@
 
 ghost use Rattle.std.specs.Prelude.{◌≡◌, ◌<◌, [], List, length, Some, true};
 ghost use Rattle.object_ids.specs.declared.ids.Kind.TheVariants.{Group};
-ghost use Rattle.object_ops.specs.Answers.{Follows};
+ghost use Rattle.object_ops.specs.Answers.{Follows, was_done};
 ghost use Rattle.object_ops.specs.Conditions.{IsSoundOp};
-ghost use Rattle.chunk_owner.specs.Acts.{acted, is_done};
+ghost use Rattle.chunk_owner.specs.Acts.{acted};
 ghost use Rattle.register.specs.Tickets.{AreEach};
 ghost use Rattle.chunk_owner.specs.Owners.Joined.{AreLanes, whole};
 ghost use Rattle.chunk_owner.specs.Owners.Records.{LanesStillSay};
@@ -17,7 +17,7 @@ use register::{Tickets, Turn};
 use std::alloc::{AllocError, Global};
 
 fn is_done(reply: &Reply) -> bool
-    ensures { result ≡ is_done reply.now }
+    ensures { result ≡ was_done reply.now }
 {
     match reply {
         Reply::Done { .. } => true,

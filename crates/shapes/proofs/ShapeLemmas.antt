@@ -19,7 +19,7 @@ use Rattle.shapes.specs.declared.ShapeFault.TheVariants.{Rank, TooLarge}
 use Rattle.shapes.specs.declared.TheConstants.{MAX_RANK, MAX_EXTENT, MAX_CELLS}
 use Rattle.shapes.specs.Places.{room_of}
 use Rattle.shapes.specs.Extents.{IsExtent, IsLimit, SpellsList, SpellsDims, extents_in, limits_in, dims_in}
-use Rattle.shapes.specs.Shapes.{IsWithin, IsFitting, IsSound, HasWord, HasDims, SpellsSimple, limits_tree, IsShape, IsResized, is_over, first_over, over_or_room, fitted_of, grid_of, limited_of, simple_of, plain_of, word_of, worded_of, shape_of, resized_of, IsDims}
+use Rattle.shapes.specs.Shapes.{IsWithin, IsFitting, IsSound, HasWord, HasDims, SpellsSimple, limits_tree, IsShape, IsResized, is_over, first_over, over_or_room, fitted_of, grid_of, limited_of, simple_of, plain_of, word_of, worded_of, shape_of, resized_of, IsDims, dims_of}
 use Rattle.shapes.specs.Spelled.{few_of}
 use Rattle.shapes.specs.Printed.{limit_tree, numbers_tree, shape_tree}
 use Rattle.shapes.specs.declared.printing.Form.{Form}
@@ -353,3 +353,8 @@ printed_shape (Simple dims maxdims) form h =
 
 pub reads_back : (s : Shape) (form : Form) (d : Data) → IsSound s → d ≡ shape_tree s form → shape_of (Some d) None ≡ Ok s
 reads_back s form d sound e = ap (λ t. shape_of (Some t) None) e ∙ shape_read (Some (shape_tree s form)) None s (printed_shape s form sound)
+
+pub few_dims : (shape : Shape) → IsSound shape → length (dims_of shape) ≤ MAX_RANK
+few_dims Null h = omega arith
+few_dims Scalar h = omega arith
+few_dims (Simple dims limits) h = h.fitting.few_axes

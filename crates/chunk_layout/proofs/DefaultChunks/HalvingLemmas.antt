@@ -45,3 +45,8 @@ default_is size dims =
 -- a default chunk is this one
 pub default_only : (size : ℕ) (dims chunk : List ℕ) → IsDefault size dims chunk → default_chunk size dims ≡ chunk
 default_only size dims chunk is = one_end size (at_least_one dims) (default_chunk size dims) chunk (default_is size dims) is
+
+-- an array without axes has a chunk without axes
+pub no_default : (size : ℕ) → default_chunk size [] ≡ []
+unfolding default_chunk
+no_default size = refl

@@ -18,11 +18,11 @@ use Rattle.object_acts.specs.declared.objects.Body.TheVariants as body
 use Rattle.object_acts.specs.Objects.{kind_of_body}
 use Rattle.object_records.specs.Keys.Keys.{IsChunk, chunk, chunk_key, object_key, key_of, Subject, IsSubject}
 use Rattle.object_records.specs.Keys.Keys.{the_run, node, object, next_number}
-use Rattle.object_records.proofs.OfKeys.KeyLaws.{same_subject}
+use Rattle.object_records.proofs.OfKeys.KeyLaws.{same_subject, objects_once}
 use Rattle.chunk_owner.specs.declared.slots.slot.Mark.{Mark}
 use Rattle.chunk_owner.specs.declared.slots.slot.Slot.{Slot}
 use Rattle.chunk_owner.specs.Slots.Slots.{AreChunksIn, HasRecord, Says, chunks_at, is_index}
-use Rattle.chunk_owner.proofs.OfSlots.KeyFacts.{chunk_id_once, chunk_index_once, numbers_index, object_once}
+use Rattle.chunk_owner.proofs.OfSlots.KeyFacts.{chunk_id_once, chunk_index_once, numbers_index}
 use Rattle.containers.proofs.Passing.{by_bool, contrary}
 use Rattle.chunk_owner.specs.Installs.Records.{IsOfLane}
 use Rattle.containers.specs.TextMaps.Fronts.{held_by}
@@ -32,7 +32,7 @@ use Rattle.containers.proofs.TextMaps.Fronts.{said_here, said_else}
 
 pub object_elsewhere : (lane lanes : ℕ) (key : List ℕ) (found : Id) → InRange found → object_key found ≡ key → (lane_of lanes found ≡ lane → ⊥)
     → (id : Id) → InRange id → lane_of lanes id ≡ lane → object_key id ≡ key → ⊥
-object_elsewhere lane lanes key found range is other id mine own same = other (ap (λ (x : Id). lane_of lanes x) (object_once found id range mine (is ∙ sym same)) ∙ own)
+object_elsewhere lane lanes key found range is other id mine own same = other (ap (λ (x : Id). lane_of lanes x) (objects_once found id range mine (is ∙ sym same)) ∙ own)
 
 abbrev dataset_of : Id → Subject → Id
 dataset_of a (chunk id i) = id

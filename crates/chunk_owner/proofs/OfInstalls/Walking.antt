@@ -17,7 +17,7 @@ use Rattle.object_acts.specs.declared.objects.Body.TheVariants as body
 use Rattle.object_acts.specs.Objects.{IsOfKind, IsTrackedBody, kind_of_body, unmarked_body}
 use Rattle.object_records.specs.Keys.Keys.{IsChunk, IsSubject, Subject, chunk_key, key_of, object_key}
 use Rattle.object_records.specs.Keys.Keys.{the_run, node, object, chunk, next_number}
-use Rattle.object_records.proofs.OfKeys.KeyLaws.{same_subject}
+use Rattle.object_records.proofs.OfKeys.KeyLaws.{same_subject, objects_once}
 use Rattle.object_records.specs.Entries.{Entry, entry_of, kept_of}
 use Rattle.object_records.specs.Objects.{IsKeptBody, object_of_body}
 use Rattle.chunk_owner.specs.declared.slots.slot.Mark.{Mark}
@@ -25,7 +25,7 @@ use Rattle.chunk_owner.specs.declared.slots.slot.Mark.TheVariants as marks
 use Rattle.chunk_owner.specs.declared.slots.slot.Slot.{Slot}
 use Rattle.chunk_owner.specs.Slots.Slots.{AreChunksIn, AreOfKind, AreStill, Describes, HasNoChunks, HasRecord, IsRecordOf, IsStill, Says, Slots, chunks_at, is_index, object_by, object_of}
 use Rattle.chunk_owner.proofs.OfSlots.KeptSlots.{put_here, put_others}
-use Rattle.chunk_owner.proofs.OfSlots.KeyFacts.{index_numbers, object_no_chunk, object_once}
+use Rattle.chunk_owner.proofs.OfSlots.KeyFacts.{index_numbers, object_no_chunk}
 use Rattle.containers.proofs.Passing.{by_bool}
 use Rattle.chunk_owner.specs.Installs.Records.{AreSound, IsBad, IsBadChunk, IsBadObject, IsFault, IsOfLane, IsWholeObject, KeepsRules, grid_at, grid_of}
 use Rattle.object_records.specs.InstallFaults.{MatchFault}
@@ -39,6 +39,7 @@ use Rattle.containers.proofs.TextMaps.Fronts.{all_held, held_before, held_here, 
 use Rattle.chunk_owner.proofs.OfInstalls.LaneKeys.{by_id, chunk_more, chunk_of_other, chunks_else, object_first, of_no_lane, said_again}
 use Rattle.chunk_owner.proofs.OfInstalls.Taking.{chunk_told, chunk_untold, chunks_said, grid_told, installed_taken, record_taken}
 use Rattle.containers.proofs.TextMaps.TextOrders.{same_key, differ}
+use Rattle.object_records.proofs.BodyLemmas.{kept_unmarked}
 
 -- ---- nothing was walked over
 
@@ -140,7 +141,7 @@ module _ (lanes lane run next : ℕ) (held : Held) (rest : List Record) (e : Rec
         says = by_id (λ q. InRange q → lane_of lanes q ≡ lane → Says (get (insert slots id s) q) q after) id
             (λ r o. subst (λ (x : Option Slot). Says x id after) (sym (put_here slots id s)) now_said)
             (λ q other r o. subst (λ (x : Option Slot). Says x q after) (sym (put_others slots id s q other))
-            (said_again q (held_by w.front) after (said_else held w.front rest e w.split (object_key q) (λ same. other (object_once q id r range (same ∙ sym key))))
+            (said_again q (held_by w.front) after (said_else held w.front rest e w.split (object_key q) (λ same. other (objects_once q id r range (same ∙ sym key))))
             (λ dataset. untouched q) (get slots q) (kinds_there q) (w.says q r o)));
         own = by_id (λ q. (t : Slot) → get (insert slots id s) q ≡ Some t → InRange q × (lane_of lanes q ≡ lane)) id (λ t there. (range, own)) (λ q other t there. w.own q t (sym (put_others slots id s q other) ∙ there));
         installed = by_id (λ q. (t : Slot) → get (insert slots id s) q ≡ Some t → IsInstalled q t) id
@@ -235,11 +236,6 @@ fault_named P key BadRecord of_installs.NoMemory names bad = tt
 fault_named P key NoMemory (of_installs.BadRecord k) names bad = absurd names
 fault_named P key NoMemory of_installs.NoMemory names bad = tt
 
-whole_unmarked : (b : Body) → IsKeptBody b → IsKeptBody (unmarked_body b)
-whole_unmarked (body.Group links) whole = whole
-whole_unmarked (body.Dataset array) whole = whole
-whole_unmarked (body.Datatype type) whole = whole
-
 pub unmarked_once : (b : Body) → unmarked_body (unmarked_body b) ≡ unmarked_body b
 unmarked_once (body.Group links) = refl
 unmarked_once (body.Dataset array) = refl
@@ -248,7 +244,7 @@ unmarked_once (body.Datatype type) = refl
 whole_at : (id : Id) (o : Option Slot) → ((s : Slot) → o ≡ Some s → IsInstalled id s) → IsWholeObject (object_of o)
 whole_at id None is = tt
 whole_at id (Some s) is = subst (λ (m : Mark). IsWholeObject (object_by m s.object)) (sym (is s refl).mark) (
-  whole_unmarked s.object.body (is s refl).whole,
+  kept_unmarked s.object.body (is s refl).whole,
   λ k. record { attributes = s.object.attributes; body = unmarked_once s.object.body k },
 )
 

@@ -7,7 +7,7 @@ use Rattle.std.proofs.lemmas.List.{drop-set-lt, get_or-drop, get_or-set_same, le
 use Rattle.object_ids.specs.IdValues.{Id}
 use Rattle.object_ids.specs.Ids.{lane_of}
 use Rattle.object_acts.specs.declared.objects.Object.{Object}
-use Rattle.object_acts.specs.Objects.{unmarked}
+use Rattle.object_acts.specs.Objects.{unmarked, Objects}
 use Rattle.flush_journal.specs.Records.{Held, Record, put_all}
 use Rattle.flush_journal.specs.Cuts.Cuts.{AppendsEach, AreApart, IsCut, IsEither}
 use Rattle.flush_journal.proofs.OfCuts.CutLemmas.{all_more, appends_as, appends_more, appends_none, in_turn}
@@ -18,7 +18,7 @@ use Rattle.chunk_owner.specs.declared.slots.slot.Slot.{Slot}
 use Rattle.chunk_owner.specs.Slots.Slots.{AreStill, IsMarked, object_by, object_of}
 use Rattle.chunk_owner.proofs.OfSlots.LaneCuts.{all_marks}
 use Rattle.chunk_owner.proofs.OfSlots.Standing.{get-objects_of}
-use Rattle.chunk_owner.specs.Lanes.{IsWhole, Lane, Objects}
+use Rattle.chunk_owner.specs.Lanes.{IsWhole, Lane}
 use Rattle.chunk_owner.specs.Owners.Cutting.{CutsLane, IsStillAt}
 use Rattle.chunk_owner.specs.Owners.Joined.{AreLanes, IsLane, whole}
 use Rattle.chunk_owner.specs.Owners.Records.{AreStillIn, AreUndropped, IsMarkedIn, IsStandingIn, LanesSay}

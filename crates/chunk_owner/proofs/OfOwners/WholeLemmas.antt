@@ -15,8 +15,8 @@ use Rattle.object_ops.specs.declared.ops.Make.{Make}
 use Rattle.object_ops.specs.declared.grants.Grant.{Grant}
 use Rattle.object_ops.specs.declared.replies.Reply.{Reply}
 use Rattle.object_acts.specs.declared.objects.Object.{Object}
-use Rattle.object_acts.specs.Objects.{unmarked}
-use Rattle.chunk_owner.specs.Lanes.{AreShown, Each, IsSameLane, IsWhole, Lane, Objects, set_at}
+use Rattle.object_acts.specs.Objects.{unmarked, Objects}
+use Rattle.chunk_owner.specs.Lanes.{AreShown, Each, IsSameLane, IsWhole, Lane, set_at}
 use Rattle.chunk_owner.specs.Acts.{HasFresh, IsFreshFor, IsTouchedIn, on_touched}
 use Rattle.chunk_owner.proofs.Eaches.{get-shown}
 use Rattle.chunk_owner.specs.Owners.Joined.{AreLanes, IsLane, merged, whole}

@@ -6,7 +6,6 @@ use Rattle.std.specs.Option.{option_map_or}
 use Rattle.std.proofs.lemmas.Slice.Eq.{bytes_eq-Decides}
 use Rattle.std.proofs.lemmas.Bool.{or_right}
 use Rattle.std.proofs.lemmas.List.{map_push}
-use Rattle.chunk_layout.proofs.DefaultLemmas.{few_dims}
 use Rattle.object_ids.specs.IdValues.{Id}
 use Rattle.object_ids.specs.Ids.{InRange}
 use Rattle.object_ids.specs.declared.ids.Kind.TheVariants.{Dataset}
@@ -24,6 +23,7 @@ use Rattle.chunk_owner.specs.Slots.Cutting.{AddsChunks, AreDistinct, chunk_body,
 use Rattle.containers.proofs.Passing.{by_bool, contrary, or_either}
 use Rattle.chunk_owner.proofs.OfSlots.ChunkWalks.{IsWalk, walk_begin, walk_more, walk_end}
 use Rattle.chunk_owner.proofs.OfSlots.KeyFacts.{chunk_index_once, numbers_index, object_no_chunk}
+use Rattle.shapes.proofs.ShapeLemmas.{few_dims}
 
 -- a body, or none for no byte
 body_again : (bytes : List ℕ) → option_map_or (λ body. body) (kept_body bytes) [] ≡ bytes

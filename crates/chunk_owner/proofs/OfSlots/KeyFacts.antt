@@ -22,9 +22,6 @@ abbrev subject_index : Subject → List ℕ
 subject_index (chunk id i) = i
 subject_index s = []
 
-pub object_once : (a b : Id) → InRange a → InRange b → object_key a ≡ object_key b → a ≡ b
-object_once a b ha hb e = ap (subject_id a) (same_subject (object a) (object b) ha hb e)
-
 all_small : (ns : List ℕ) → list_all (λ n. nat_lt n (2 ^ 32)) ns ≡ true → All (λ n. n < 2 ^ 32) ns
 all_small [] e = All-nil (λ n. n < 2 ^ 32)
 all_small (n ∷ ns) e = let b = and_parts (nat_lt n (2 ^ 32)) (list_all (λ n. nat_lt n (2 ^ 32)) ns) e in

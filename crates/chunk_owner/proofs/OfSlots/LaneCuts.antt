@@ -6,7 +6,7 @@ use Rattle.std.specs.Option.{option_map_or}
 use Rattle.std.specs.Ordering.{eq_by_cmp, is_lt, ordering_reverse}
 use Rattle.std.specs.Cmp.{Equal-is}
 use Rattle.std.proofs.lemmas.Cmp.{tied_itself}
-use Rattle.std.proofs.lemmas.Option.{same_Some}
+use Rattle.std.proofs.lemmas.Option.{same_Some, none-some}
 use Rattle.containers.specs.TextMaps.Nexts.{is_behind, left, IsNext}
 use Rattle.object_ids.specs.IdOrder.{id_order}
 use Rattle.object_ids.specs.IdValues.{Id}
@@ -33,14 +33,15 @@ use Rattle.chunk_owner.specs.Slots.Bodies.{IsRecordOf, IsSlotRecord}
 use Rattle.chunk_owner.specs.Slots.Cutting.{AddsAt, AddsFrontAt}
 use Rattle.chunk_owner.specs.Slots.Settled.{BodySettles, Settles, SettlesBy, SlotSettles}
 use Rattle.containers.proofs.Passing.{by_bool, contrary, lt_less, fewer_there, found_find}
-use Rattle.chunk_owner.proofs.OfSlots.KeyFacts.{chunk_id_once, object_no_chunk, object_once}
+use Rattle.chunk_owner.proofs.OfSlots.KeyFacts.{chunk_id_once, object_no_chunk}
 use Rattle.chunk_owner.proofs.OfSlots.SlotBodies.{front_each, slot_each}
 use Rattle.chunk_owner.proofs.OfSlots.SlotCuts.{front_cut, slot_cut}
+use Rattle.object_records.proofs.OfKeys.KeyLaws.{objects_once}
 
 -- ---- keys of one id alone
 
 pub same_id : (a b : Id) → InRange a → InRange b → (m n : Mark) (x y : Body) (key : List ℕ) → IsMarkedIn a m x key → IsMarkedIn b n y key → a ≡ b
-same_id a b ha hb m n x y key (inl f) (inl g) = object_once a b ha hb (sym f.0 ∙ g.0)
+same_id a b ha hb m n x y key (inl f) (inl g) = objects_once a b ha hb (sym f.0 ∙ g.0)
 same_id a b ha hb m n x y key (inl f) (inr g) = absurd (object_no_chunk a b g.0 (sym f.0 ∙ g.1))
 same_id a b ha hb m n x y key (inr f) (inl g) = absurd (object_no_chunk b a f.0 (sym g.0 ∙ f.1))
 same_id a b ha hb m n x y key (inr f) (inr g) = chunk_id_once a b f.0 g.0 ha hb f.3 g.3 f.2 g.2 (sym f.1 ∙ g.1)
@@ -51,7 +52,7 @@ IsKeyApart q key = (key ≢ object_key q) × ((i : List ℕ) → is_index i ≡ 
 
 -- what is marked at one id is apart from each other id
 pub marked_apart : (id q : Id) → InRange id → InRange q → q ≢ id → (m : Mark) (b : Body) (key : List ℕ) → IsMarkedIn id m b key → IsKeyApart q key
-marked_apart id q range mine other m b key (inl h) = (λ same. other (object_once q id mine range (sym same ∙ h.0)), λ i index dataset same. object_no_chunk id q i (sym h.0 ∙ same))
+marked_apart id q range mine other m b key (inl h) = (λ same. other (objects_once q id mine range (sym same ∙ h.0)), λ i index dataset same. object_no_chunk id q i (sym h.0 ∙ same))
 marked_apart id q range mine other m b key (inr h) =
     (λ same. object_no_chunk q id h.0 (sym same ∙ h.1), λ i index dataset same. other (chunk_id_once q id i h.0 mine range dataset h.3 index h.2 (sym same ∙ h.1)))
 
@@ -120,13 +121,10 @@ still_body (body.Group links) y h = subst (λ (z : Body). IsStillBody z) (sym h)
 still_body (body.Dataset array) y h = subst (λ (z : Body). IsStillBody z) (sym h.1) (λ i. ap flagged (h.2.marks i) ∙ clean (in_grid array.grid i) (state array i))
 still_body (body.Datatype type) y h = subst (λ (z : Body). IsStillBody z) (sym h) tt
 
-pub none_is : {P : Type 0} (t : Slot) → None ≡ Some t → P
-none_is t e = absurd (cc)
-
 pub settled_still : (mark : Mark) (s t : Slot) (new : Option Slot) → SettlesBy mark s new → new ≡ Some t → IsStill t
 settled_still Kept s t new h e = subst IsStill (same_Some h.0 t (sym h.1 ∙ e)) (h.2.mark, still_body s.object.body h.0.object.body h.2.body)
 settled_still Changed s t new h e = subst IsStill (same_Some h.0 t (sym h.1 ∙ e)) (h.2.mark, still_body s.object.body h.0.object.body h.2.body)
-settled_still Dropped s t new h e = none_is t (sym h ∙ e)
+settled_still Dropped s t new h e = absurd (none-some t (sym h ∙ e))
 
 body_kind : (x y : Body) → BodySettles x y → (kind_of_body y ≡ kind_of_body x) × (IsSoundBody x → IsSoundBody y)
 body_kind (body.Group links) y h = (ap kind_of_body h, λ sound. subst (λ (z : Body). IsSoundBody z) (sym h) tt)
@@ -139,11 +137,11 @@ kept_kind k s t h of = let b = body_kind s.object.body t.object.body h.body in r
 settled_kind : (k : Kind) (mark : Mark) (s t : Slot) (new : Option Slot) → SettlesBy mark s new → new ≡ Some t → IsOfKind k s.object → IsOfKind k t.object
 settled_kind k Kept s t new h e of = subst (λ (z : Slot). IsOfKind k z.object) (same_Some h.0 t (sym h.1 ∙ e)) (kept_kind k s h.0 h.2 of)
 settled_kind k Changed s t new h e of = subst (λ (z : Slot). IsOfKind k z.object) (same_Some h.0 t (sym h.1 ∙ e)) (kept_kind k s h.0 h.2 of)
-settled_kind k Dropped s t new h e of = none_is t (sym h ∙ e)
+settled_kind k Dropped s t new h e of = absurd (none-some t (sym h ∙ e))
 
 -- without a slot each is of its kind
 pub none_of_kind : AreOfKind empty
-none_of_kind id s e = none_is s (sym (get-empty id_order id) ∙ e)
+none_of_kind id s e = absurd (none-some s (sym (get-empty id_order id) ∙ e))
 
 -- ---- the walk
 
@@ -287,7 +285,7 @@ module _ (old cur : Slots) (first mid new : List Record) (last : Option Id) (far
     added = subst (λ (o : Option Slot). AddsAt id o mid new) here adds
 
     still_before : (q : Id) (t : Slot) → q ≢ id → id_order q id ≡ Less → get cur q ≡ Some t → (b : Bool) → is_behind id_order last q ≡ b → IsStill t
-    still_before q t other less e true behind = none_is t (sym (next.2 q behind less) ∙ e)
+    still_before q t other less e true behind = absurd (none-some t (sym (next.2 q behind less) ∙ e))
     still_before q t other less e false behind = far.still q t behind e
 
   -- the next one was cut in part
@@ -314,7 +312,7 @@ far_whole old cur first new last far base = all_marks (IsMarkedTo old last) (IsM
 pub far_still : (old cur : Slots) (first new : List Record) (last : Option Id) → IsFar old cur first new last → IsNext cur last None → AreStill cur
 far_still old cur first new last far none q s e = at (is_behind id_order last q) refl where
   at : (b : Bool) → is_behind id_order last q ≡ b → IsStill s
-  at true behind = none_is s (sym (none q behind) ∙ e)
+  at true behind = absurd (none-some s (sym (none q behind) ∙ e))
   at false behind = far.still q s behind e
 
 -- ---- as the walk meets them

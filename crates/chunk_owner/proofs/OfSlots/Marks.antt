@@ -1,13 +1,14 @@
 -- What a call marks for the next cut.
 use Rattle.std.proofs.Common.{◌≡◌, ◌≢◌, ◌⊎◌, inl, inr, ℕ, Bool, true, false, not, ◌&&◌, List, Option, Some, None, Result, Ok, Err, IfOk, OnOk, OnErr, refl, sym, ap, subst, ◌∙◌}
 use Rattle.std.specs.FinMap.{get, insert}
+use Rattle.std.proofs.lemmas.Option.{none-some}
 use Rattle.object_ids.specs.IdValues.{Id}
 use Rattle.object_ids.specs.Ids.{InRange}
 use Rattle.object_ops.specs.declared.ops.Op.{Op}
 use Rattle.object_ops.specs.declared.ops.Op.TheVariants.{PutShape, PutValue}
 use Rattle.object_ops.specs.declared.replies.Reply.{Reply}
 use Rattle.chunk_store.specs.Grids.{Grid}
-use Rattle.object_acts.specs.Arrays.Marked.{IsDone, is_cut, is_written, was_done}
+use Rattle.object_acts.specs.Arrays.Marked.{IsDone, is_cut, is_written}
 use Rattle.object_acts.specs.declared.objects.Object.{Object}
 use Rattle.object_acts.specs.declared.objects.Body.{Body}
 use Rattle.object_acts.specs.declared.objects.Body.TheVariants as body
@@ -24,8 +25,9 @@ use Rattle.chunk_owner.specs.Slots.Slots.{IsMarked, IsMarkedIn, IsMeantIn, IsSti
 use Rattle.containers.proofs.Passing.{contrary}
 use Rattle.chunk_owner.proofs.OfSlots.ChangedSlots.{live_object}
 use Rattle.chunk_owner.proofs.OfSlots.KeptSlots.{put_here, put_others}
-use Rattle.chunk_owner.proofs.OfSlots.LaneCuts.{none_is, settled_still}
+use Rattle.chunk_owner.proofs.OfSlots.LaneCuts.{settled_still}
 use Rattle.chunk_owner.proofs.OfSlots.Placed.{everywhere}
+use Rattle.object_ops.specs.Answers.{was_done}
 
 -- ---- at one id, and at each
 
@@ -180,7 +182,7 @@ no_marks id s key still (inl marked) = marked.1 still.0
 no_marks id s key still (inr marked) = no_chunk s.mark s.object.body marked.0 still.0 still.1 marked.4
 
 settled_slot : (o p : Option Slot) (t : Slot) → Settles o p → p ≡ Some t → IsStill t
-settled_slot None p t settles e = none_is t (sym settles ∙ e)
+settled_slot None p t settles e = absurd (none-some t (sym settles ∙ e))
 settled_slot (Some s) p t settles e = settled_still s.mark s t p settles e
 
 pub cut_marks : (m n : Slots) → ((q : Id) → (get n q ≡ get m q) ⊎ Settles (get m q) (get n q)) → (key : List ℕ) → IsMarked n key → IsMarked m key

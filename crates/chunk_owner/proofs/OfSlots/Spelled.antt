@@ -1,6 +1,7 @@
 -- Objects, each part of which can be spelled, one after another.
 use Rattle.std.proofs.Common.{◌≡◌, Bool, true, false, Option, Some, None, Less, refl, sym, ap, ◌∙◌}
 use Rattle.std.specs.FinMap.{get}
+use Rattle.std.proofs.lemmas.Option.{none-some}
 use Rattle.containers.specs.TextMaps.Nexts.{is_behind, IsNext}
 use Rattle.flush_journal.specs.Records.{Held}
 use Rattle.object_ids.specs.IdOrder.{id_order}
@@ -19,9 +20,6 @@ AreSpelledTo slots last = (q : Id) (s : Slot) → is_behind id_order last q ≡ 
 pub none_spelled : (slots : Slots) → AreSpelledTo slots None
 none_spelled slots q s isnt e = contrary true (IsKeptBody s.object.body) refl isnt
 
-none_is : {P : Type 0} (s : Slot) → None ≡ Some s → P
-none_is s e = absurd (cc)
-
 module _ (slots : Slots) (last : Option Id) where
   pub spelled_more : (id : Id) → AreSpelledTo slots last → IsNext slots last (Some id) → ((s : Slot) → get slots id ≡ Some s → IsKeptBody s.object.body) → AreSpelledTo slots (Some id)
   spelled_more id before next here q s isnt e =
@@ -29,14 +27,14 @@ module _ (slots : Slots) (last : Option Id) where
       (λ same. here s (ap (get slots) (sym same) ∙ e))
       (λ other less. earlier less (is_behind id_order last q) refl) where
         earlier : id_order q id ≡ Less → (b : Bool) → is_behind id_order last q ≡ b → IsKeptBody s.object.body
-        earlier less true behind = none_is s (sym (next.2 q behind less) ∙ e)
+        earlier less true behind = absurd (none-some s (sym (next.2 q behind less) ∙ e))
         earlier less false behind = before q s behind e
 
   module _ (spelled : AreSpelledTo slots last) (none : IsNext slots last None) where
     all_spelled : (q : Id) (s : Slot) → get slots q ≡ Some s → IsKeptBody s.object.body
     all_spelled q s e = at (is_behind id_order last q) refl where
       at : (b : Bool) → is_behind id_order last q ≡ b → IsKeptBody s.object.body
-      at true behind = none_is s (sym (none q behind) ∙ e)
+      at true behind = absurd (none-some s (sym (none q behind) ∙ e))
       at false behind = spelled q s behind e
 
     pub all_described : AreOfKind slots

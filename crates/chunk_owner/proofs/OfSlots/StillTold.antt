@@ -19,12 +19,11 @@ use Rattle.object_ops.specs.declared.refusals.Refusal.{Refusal}
 use Rattle.object_ops.specs.declared.replies.Reply.{Reply}
 use Rattle.object_ops.specs.declared.replies.Reply.TheVariants.{Done, Refused}
 use Rattle.object_acts.specs.Arrays.Arrays.{bytes_written, points_written, slab_written, value_written}
-use Rattle.object_acts.specs.Arrays.Marked.{was_done}
 use Rattle.object_acts.specs.declared.objects.Object.{Object}
 use Rattle.object_acts.specs.declared.objects.Body.{Body}
 use Rattle.object_acts.specs.declared.objects.Body.TheVariants as body
 use Rattle.object_acts.specs.Objects.{IsTrackedBody, KeepsTrack, bare, kind_of_body, unmarked, unmarked_body}
-use Rattle.object_acts.specs.Acts.{Names, change_of, link_put, on_array, on_links}
+use Rattle.object_acts.specs.Acts.{change_of, link_put, on_array, on_links, AttributeMap}
 use Rattle.flush_journal.specs.Records.{Held}
 use Rattle.object_records.specs.Entries.{entry_of, kept_of}
 use Rattle.object_records.specs.Objects.{object_of_body}
@@ -35,7 +34,9 @@ use Rattle.chunk_owner.specs.declared.slots.slot.Slot.{Slot}
 use Rattle.chunk_owner.specs.Slots.Changed.{is_outdated, writes_cells}
 use Rattle.chunk_owner.specs.Slots.Slots.{AreChunksIn, HasRecord, Says, chunks_at}
 use Rattle.containers.proofs.Passing.{contrary}
-use Rattle.chunk_owner.proofs.OfSlots.Describing.{entry_unmarked, kind_unmarked}
+use Rattle.chunk_owner.proofs.OfSlots.Describing.{entry_unmarked}
+use Rattle.chunk_owner.proofs.Eaches.{kind-unmarked}
+use Rattle.object_ops.specs.Answers.{was_done}
 
 -- ---- chunks
 
@@ -66,7 +67,7 @@ record Alike (a b : Object) : Type 0 where
 seen_alike : (a b : Object) → unmarked b ≡ unmarked a → Alike a b
 seen_alike a b same = record {
   entry = sym (entry_unmarked b) ∙ ap entry_of same ∙ entry_unmarked a;
-  kind = sym (kind_unmarked b.body) ∙ ap (λ (o : Object). kind_of_body o.body) same ∙ kind_unmarked a.body;
+  kind = sym (kind-unmarked b.body) ∙ ap (λ (o : Object). kind_of_body o.body) same ∙ kind-unmarked a.body;
 }
 
 record_alike : (m : Mark) (a b : Object) (found : Option (List ℕ)) → Alike a b → HasRecord m a found → HasRecord m b found
@@ -105,10 +106,10 @@ value_frame (part.Points points) tree g = points_frame g tree (points_of points 
 frame_kept : (g h : Grid) → SameFrame g h → kept_of (body.Dataset (bare h)) ≡ kept_of (body.Dataset (bare g))
 frame_kept g h same k = kept_of (body.Dataset (record { grid = record { kind = same.kind k; shape = same.shape k; chunk = same.chunk k; fill = same.fill k; values = g.values }; marks = [] }))
 
-entry_with : (names : Names) (a b : Body) → kept_of b ≡ kept_of a → entry_of (record { attributes = names; body = b }) ≡ entry_of (record { attributes = names; body = a })
+entry_with : (names : AttributeMap) (a b : Body) → kept_of b ≡ kept_of a → entry_of (record { attributes = names; body = b }) ≡ entry_of (record { attributes = names; body = a })
 entry_with names a b same k = record { attributes = (entry_of (record { attributes = names; body = a })).attributes; kept = same k }
 
-array_alike : (id : Id) (p : Part) (tree : Data) (names : Names) (b : Body) → Alike (record { attributes = names; body = unmarked_body b }) (on_array id (value_written p tree) names (unmarked_body b)).1
+array_alike : (id : Id) (p : Part) (tree : Data) (names : AttributeMap) (b : Body) → Alike (record { attributes = names; body = unmarked_body b }) (on_array id (value_written p tree) names (unmarked_body b)).1
 array_alike id p tree names (body.Group links) = record { entry = refl; kind = refl }
 array_alike id p tree names (body.Dataset array) = record {
   entry = entry_with names (body.Dataset (bare array.grid)) (body.Dataset (bare (value_written p tree array.grid).1)) (frame_kept array.grid (value_written p tree array.grid).1 (value_frame p tree array.grid));
@@ -119,7 +120,7 @@ array_alike id p tree names (body.Datatype type) = record { entry = refl; kind =
 alike_from : (a b c : Object) → Alike (unmarked a) c → unmarked b ≡ c → Alike a b
 alike_from a b c alike same = record {
   entry = sym (entry_unmarked b) ∙ ap entry_of same ∙ alike.entry ∙ entry_unmarked a;
-  kind = sym (kind_unmarked b.body) ∙ ap (λ (o : Object). kind_of_body o.body) same ∙ alike.kind ∙ kind_unmarked a.body;
+  kind = sym (kind-unmarked b.body) ∙ ap (λ (o : Object). kind_of_body o.body) same ∙ alike.kind ∙ kind-unmarked a.body;
 }
 
 -- a write of cells

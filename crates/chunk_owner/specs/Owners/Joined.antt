@@ -4,7 +4,8 @@ use Rattle.std.specs.FinMap.{empty, entries, get, insert}
 use Rattle.object_ids.specs.IdValues.{Id}
 use Rattle.object_ids.specs.Ids.{lane_of}
 use Rattle.object_acts.specs.declared.objects.Object.{Object}
-use Rattle.chunk_owner.specs.Lanes.{Lane, Objects}
+use Rattle.chunk_owner.specs.Lanes.{Lane}
+use Rattle.object_acts.specs.Objects.{Objects}
 
 -- a map with more entries put in
 abbrev pub merged : List (Id × Object) → Objects → Objects

@@ -10,8 +10,9 @@ use Rattle.chunk_owner.specs.Slots.Bodies.{IsRecordOf, IsUndropped}
 use Rattle.chunk_owner.specs.Slots.Slots.{AreStill, Describes, IsMarked, Says}
 use Rattle.chunk_owner.specs.Installs.Records.{IsFault}
 use Rattle.containers.specs.TextMaps.Fronts.{IsLeast}
-use Rattle.chunk_owner.specs.Lanes.{Lane, Objects}
+use Rattle.chunk_owner.specs.Lanes.{Lane}
 use Rattle.chunk_owner.specs.Owners.Joined.{whole}
+use Rattle.object_acts.specs.Objects.{Objects}
 
 -- what is held says what stands at each id of a lane, but for what changed since the last cut
 abbrev pub LaneSays : Held → Lane → Type 0

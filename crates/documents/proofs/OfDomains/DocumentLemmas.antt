@@ -16,10 +16,10 @@ use Rattle.object_ids.specs.Ids.{InRange, text_of_id}
 use Rattle.object_ids.specs.declared.ids.Kind.{Kind}
 use Rattle.object_ids.specs.declared.ids.Kind.TheVariants.{Group, Dataset, Datatype}
 use Rattle.object_ids.proofs.IdOrders.{same_itself}
-use Rattle.object_acts.specs.Objects.{empty_group}
+use Rattle.object_acts.specs.Objects.{empty_group, Objects}
 use Rattle.object_acts.specs.declared.objects.Object.{Object}
 use Rattle.object_acts.proofs.OfExact.Floats.{neither}
-use Rattle.documents.specs.Domains.Domains.{Objects, held_or_root, object_at}
+use Rattle.documents.specs.Domains.Domains.{held_or_root, object_at}
 use Rattle.documents.specs.Domains.Documents.{collection_tree, is_of, put_each, put_one}
 use Rattle.documents.specs.Domains.Entries.{entry_tree}
 use Rattle.documents.specs.Domains.Laws.{AreInRange, EachAtItsText, HasNoFloats, KeysAreTexts, KeysInOrder, member_at}

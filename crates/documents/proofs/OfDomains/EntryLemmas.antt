@@ -7,12 +7,11 @@ use Rattle.hdf_types.specs.Views.{elem}
 use Rattle.shapes.specs.Shapes.{cells_of}
 use Rattle.shapes.specs.declared.printing.Form.TheVariants.{Document}
 use Rattle.chunk_store.specs.Grids.{reads}
-use Rattle.object_acts.specs.Objects.{unmarked, unmarked_body}
+use Rattle.object_acts.specs.Objects.{unmarked, unmarked_body, Objects}
 use Rattle.object_acts.specs.declared.objects.Object.{Object}
 use Rattle.object_acts.specs.declared.objects.Body.{Body}
 use Rattle.object_acts.specs.declared.objects.Body.TheVariants.{Group, Dataset, Datatype}
 use Rattle.object_acts.proofs.OfExact.Floats.{attributes_exact, creation_exact, link_exact, list_exact, neither, shape_exact, type_exact, value_exact}
-use Rattle.documents.specs.Domains.Domains.{Objects}
 use Rattle.attributes.specs.AttributeTrees.{attributes_list}
 use Rattle.documents.specs.Domains.Entries.{body_tree, entry_tree, is_shown, titled_tree}
 use Rattle.documents.specs.declared.domains.home.Home.{Home}

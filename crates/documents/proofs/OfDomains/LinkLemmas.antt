@@ -3,9 +3,9 @@ use Rattle.std.proofs.Common.{◌≡◌, ℕ, Bool, true, false, cond, List, [],
 use Rattle.std.specs.List.{filter}
 use Rattle.serde_json.specs.Data.{Data}
 use Rattle.groups_links.specs.declared.target.LinkTo.{LinkTo}
-use Rattle.documents.specs.Domains.Domains.{Objects}
 use Rattle.documents.specs.Domains.Entries.{is_shown, link_at, shown_links, titled_tree}
 use Rattle.documents.specs.declared.domains.home.Home.{Home}
+use Rattle.object_acts.specs.Objects.{Objects}
 
 -- one link more
 shown_first : (m : Objects) (h : Home) (e : List ℕ × LinkTo) (es : List (List ℕ × LinkTo))

@@ -1,14 +1,11 @@
 -- The objects of a domain.
 use Rattle.std.specs.Prelude.{Bool, ◌==◌, ◌&&◌, ◌||◌, Option, Some, None, if◌then◌else◌}
-use Rattle.std.specs.FinMap.{FinMap, contains_key, get}
-use Rattle.object_ids.specs.IdOrder.{id_eq, id_order}
+use Rattle.std.specs.FinMap.{contains_key, get}
+use Rattle.object_ids.specs.IdOrder.{id_eq}
 use Rattle.object_ids.specs.IdValues.{Id}
-use Rattle.object_acts.specs.Objects.{empty_group}
+use Rattle.object_acts.specs.Objects.{empty_group, Objects}
 use Rattle.object_acts.specs.declared.objects.Object.{Object}
 use Rattle.documents.specs.declared.domains.home.Home.{Home}
-
-abbrev pub Objects : Type 0
-Objects = FinMap id_order Object
 
 -- a root that isn't held is the empty group
 abbrev pub held_or_root : Home → Id → Option Object → Option Object

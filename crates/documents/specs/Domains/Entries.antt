@@ -1,10 +1,9 @@
 -- The entry of one object in the document of a domain.
 use Rattle.std.specs.Prelude.{ℕ, Bool, true, List, [], ◌∷◌, map, codes, Option, Some, None}
-use Rattle.std.specs.FinMap.{FinMap, entries}
+use Rattle.std.specs.FinMap.{entries}
 use Rattle.std.specs.List.{filter}
 use Rattle.serde_json.specs.Data.{Data, array, object, member, no_members}
 use Rattle.serde_json.specs.View.{items_of}
-use Rattle.containers.specs.TextMaps.Keyed.{text_order}
 use Rattle.hdf_types.specs.Printed.{type_tree}
 use Rattle.hdf_types.specs.Views.{elem}
 use Rattle.shapes.specs.Printed.{shape_tree}
@@ -21,13 +20,12 @@ use Rattle.object_acts.specs.declared.objects.Object.{Object}
 use Rattle.object_acts.specs.declared.objects.Body.{Body}
 use Rattle.object_acts.specs.declared.objects.Body.TheVariants.{Group, Dataset, Datatype}
 use Rattle.object_records.specs.Objects.{datatype_tree, group_tree}
-use Rattle.documents.specs.Domains.Domains.{Objects, is_there}
+use Rattle.documents.specs.Domains.Domains.{is_there}
 use Rattle.documents.specs.declared.domains.home.Home.{Home}
+use Rattle.groups_links.specs.GroupLinks.{Titles}
+use Rattle.object_acts.specs.Objects.{Objects}
 
 -- ---- links
-
-abbrev pub Titles : Type 0
-Titles = FinMap text_order LinkTo
 
 -- a hard link is shown where its target is an object of the domain, and any other always
 abbrev pub is_shown : Objects → Home → LinkTo → Bool

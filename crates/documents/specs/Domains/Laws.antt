@@ -10,10 +10,11 @@ use Rattle.object_ids.specs.IdValues.{Id}
 use Rattle.object_ids.specs.Ids.{InRange, text_of_id}
 use Rattle.object_ids.specs.declared.ids.Kind.{Kind}
 use Rattle.object_acts.specs.declared.objects.Object.{Object}
-use Rattle.documents.specs.Domains.Domains.{Objects, object_at}
+use Rattle.documents.specs.Domains.Domains.{object_at}
 use Rattle.documents.specs.Domains.Documents.{collection_tree, document_tree, is_of}
 use Rattle.documents.specs.Domains.Entries.{entry_tree}
 use Rattle.documents.specs.declared.domains.home.Home.{Home}
+use Rattle.object_acts.specs.Objects.{Objects}
 
 -- each id of the domain is one that an `ObjectId` can be
 pub record AreInRange (m : Objects) (h : Home) : Type 0 where

@@ -9,8 +9,7 @@ pub trait ObjectStore {
     ghost use Rattle.std.specs.FinMap.{get};
     ghost use Rattle.std.specs.Option.{option_copied};
     ghost use Rattle.containers.specs.TextMaps.Nexts.{IsKeyStep};
-    ghost use Rattle.object_acts.specs.Objects.{IsSoundBody, unmarked};
-    ghost use Rattle.documents.specs.Domains.Domains.{Objects};
+    ghost use Rattle.object_acts.specs.Objects.{IsSoundBody, Objects, unmarked};
 
     /// The objects that stand, as those who look see them: which chunks of an array changed doesn't matter.
     ghost objects: { Self → Objects };

@@ -19,26 +19,21 @@ use Rattle.object_ids.specs.Names.{is_name}
 use Rattle.object_ids.specs.Puts.{put_fault}
 use Rattle.object_ids.specs.declared.ids.Kind.{Kind}
 use Rattle.object_ids.specs.declared.puts.PutFault.{PutFault}
-use Rattle.object_ids.specs.declared.puts.PutFault.TheVariants.{Taken, Limit}
 use Rattle.object_ids.proofs.PutLemmas.{insert_most}
 use Rattle.hdf_types.specs.Elems.{Elem}
 use Rattle.hdf_types.specs.Faults as types
-use Rattle.hdf_types.specs.Reading.{size_of, type_of}
+use Rattle.hdf_types.specs.Reading.{size_of}
 use Rattle.hdf_types.specs.Types.{IsSoundType}
-use Rattle.hdf_types.proofs.SoundLemmas.{sound_type}
-use Rattle.hdf_types.proofs.TypeLemmas.{type_told}
 use Rattle.shapes.specs.Shapes.{count_of, shape_of}
 use Rattle.shapes.specs.declared.Shape.{Shape}
 use Rattle.shapes.specs.declared.Shape.TheVariants.{Null, Scalar, Simple}
-use Rattle.shapes.specs.declared.ShapeFault.{ShapeFault}
 use Rattle.shapes.proofs.ShapeLemmas.{shape_sound, shape_told}
-use Rattle.hdf_values.specs.Attributes.{Content, IsSoundAttribute, attribute_of, content, most_bytes, shape_or, sized_at, type_or, typed_at, value_or, valued_at}
+use Rattle.hdf_values.specs.Attributes.{Content, IsSoundAttribute, attribute_of, content, most_bytes, shape_or, sized_at, typed_at, value_or, valued_at}
 use Rattle.hdf_values.specs.Nested.{AreEncoded}
 use Rattle.hdf_values.specs.Shaped.{IsValue}
 use Rattle.hdf_values.specs.Texts.{AreItemTexts, AreTexts}
 use Rattle.hdf_values.specs.declared.attributes.Attribute.{Attribute}
 use Rattle.hdf_values.specs.declared.attributes.AttributeFault.{AttributeFault}
-use Rattle.hdf_values.specs.declared.faults.ValueFault.{ValueFault}
 use Rattle.hdf_values.proofs.ExactlyLemmas.{exactly_value}
 use Rattle.hdf_values.proofs.NestedLemmas.{are_encoded}
 use Rattle.attributes.specs.AttributeMaps.{AreAttributes, AttributeMap, longest_name, most_attributes}
@@ -51,6 +46,8 @@ use Rattle.object_records.specs.Objects.{kept_in, object_in, object_of_body, spe
 use Rattle.chunk_owner.specs.Slots.Slots.{IsRecordOf}
 use Rattle.json_import.proofs.OfAdoption.TextLemmas.{HasTexts, IfFound, ItemsHaveTexts, find_texts, found_map, found_then, texts_read}
 use Rattle.containers.proofs.Plain.{ok_same}
+use Rattle.groups_links.proofs.GroupLemmas.{room_left}
+use Rattle.hdf_values.proofs.AttributeLemmas.{shape_ok, value_ok, typed_sound}
 
 -- ---- one attribute
 
@@ -71,22 +68,6 @@ value_encoded : (e : Elem) (s : Shape) (d : Data) (bs : List ℕ) → IsSoundTyp
 value_encoded e Null d bs sound is = record { whole = omega (arith, ap length is.1); each = tt }
 value_encoded e Scalar d bs sound is = subst (AreEncoded e 1) (append-nil _ ∙ sym is.1) (are_encoded e [] d sound is.0)
 value_encoded e (Simple dims limits) d bs sound is = subst (AreEncoded e (count_of (Simple dims limits))) (sym is.1) (are_encoded e dims d sound is.0)
-
-type_ok : (r : Result Elem types.Fault) (e : Elem) → type_or r ≡ Ok e → r ≡ Ok e
-type_ok (Ok x) e h = let same : x ≡ e = cc in ap Ok same
-type_ok (Err f) e h = cc
-
-shape_ok : (r : Result Shape ShapeFault) (s : Shape) → shape_or r ≡ Ok s → r ≡ Ok s
-shape_ok (Ok x) s h = let same : x ≡ s = cc in ap Ok same
-shape_ok (Err f) s h = cc
-
-value_ok : (r : Result (List ℕ) ValueFault) (bs : List ℕ) → value_or r ≡ Ok bs → r ≡ Ok bs
-value_ok (Ok x) bs h = let same : x ≡ bs = cc in ap Ok same
-value_ok (Err f) bs h = cc
-
-typed_sound : (o : Option Data) (e : Elem) → typed_at o ≡ Ok e → IsSoundType e
-typed_sound None e h = cc
-typed_sound (Some d) e h = sound_type d e (type_told d e (type_ok (type_of d) e h))
 
 valued_encoded : (e : Elem) (s : Shape) (o : Option Data) (bs : List ℕ) → IsSoundType e → IfFound HasTexts o → valued_at e s o ≡ Ok bs → AreEncoded e (count_of s) bs
 valued_encoded e s None bs sound h is = cc
@@ -152,14 +133,9 @@ attribute_found d texts =
     found_then (λ name. is_name longest_name name ≡ true) IsGood _ (name_at (codes "name") longest_name d)
     (λ name good. found_map IsSoundAttribute IsGood (λ c. (name, c)) (no_fault (attribute_of d)) (λ c sound. (good, sound)) (content_found d texts)) (name_found d)
 
-room_at : (there below : Bool) → cond there (Some Taken) (cond below None (Some Limit)) ≡ None → below ≡ true
-room_at true below e = cc
-room_at false true e = refl
-room_at false false e = cc
-
 names_put : (m : Names) (e : List ℕ × Content) → AreNames m → IsGood e → put_fault most_attributes m e.0 ≡ None → AreNames (insert m e.0 e.1)
 names_put m e are good none = record {
-  few = insert_most most_attributes m e.0 e.1 (ltb-true (len m) most_attributes (room_at (contains_key m e.0) (nat_lt (len m) most_attributes) none));
+  few = insert_most most_attributes m e.0 e.1 (ltb-true (len m) most_attributes (room_left (contains_key m e.0) (nat_lt (len m) most_attributes) none));
   named = each_inserted IsNamed m e.0 e.1 good.0 are.named;
   sound = each_inserted IsSoundAt m e.0 e.1 good.1 are.sound;
 }

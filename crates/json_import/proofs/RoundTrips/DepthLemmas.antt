@@ -1,10 +1,10 @@
 -- How deep the document of a domain nests.
-use Rattle.std.proofs.Common.{◌≡◌, ◌≤◌, ◌==◌, ℕ, Bool, true, false, cond, List, [], ◌∷◌, Option, Some, None, Ordering, Less, Equal, Greater, refl, ◌∙◌, arith}
+use Rattle.std.proofs.Common.{◌≡◌, ◌≤◌, ◌==◌, ℕ, Bool, true, false, cond, List, [], ◌∷◌, Some, Ordering, Less, Equal, Greater, refl, ◌∙◌, arith}
 use Rattle.std.specs.List.{AllByRecursion, filter}
 use Rattle.std.specs.Ordering.{match_ordering}
 use Rattle.std.specs.FinMap.{entries, entries_sorted, find, get-entries}
 use Rattle.std.proofs.lemmas.Bool.{and_parts, eqb-true}
-use Rattle.serde_json.specs.Data.{Data, Members, depth, member, members_depth, no_members, object, put}
+use Rattle.serde_json.specs.Data.{Data, Members, depth, member, members_depth, no_members, put}
 use Rattle.serde_json.specs.Read.{max_depth}
 use Rattle.containers.specs.TextMaps.Keyed.{text_order}
 use Rattle.object_ids.specs.IdOrder.{id_order, kind_rank}
@@ -12,54 +12,35 @@ use Rattle.object_ids.specs.IdValues.{Id}
 use Rattle.object_ids.specs.Ids.{text_of_id}
 use Rattle.object_ids.specs.declared.ids.Kind.{Kind}
 use Rattle.object_ids.specs.declared.ids.Kind.TheVariants.{Group as GroupKind, Dataset as DatasetKind, Datatype as DatatypeKind}
-use Rattle.hdf_types.specs.Elems.{Elem}
-use Rattle.hdf_types.specs.Types.{IsSoundType}
 use Rattle.hdf_types.specs.Views.{elem}
 use Rattle.shapes.specs.Shapes.{cells_of}
-use Rattle.shapes.specs.declared.Shape.{Shape}
-use Rattle.shapes.specs.declared.Shape.TheVariants.{Null, Scalar, Simple}
-use Rattle.shapes.specs.declared.printing.Form.TheVariants.{Document, Rest}
+use Rattle.shapes.specs.declared.printing.Form.TheVariants.{Document}
 use Rattle.attributes.specs.AttributeMaps.{AreAttributes, AttributeMap}
 use Rattle.attributes.specs.AttributeTrees.{attributes_list}
 use Rattle.chunk_store.specs.Grids.{reads}
-use Rattle.object_acts.specs.Arrays.Creation.{fill_members, layout_members}
-use Rattle.object_acts.specs.Objects.{empty_group}
+use Rattle.object_acts.specs.Objects.{empty_group, Objects}
 use Rattle.object_acts.specs.declared.objects.Object.{Object}
 use Rattle.object_acts.specs.declared.objects.Body.{Body}
 use Rattle.object_acts.specs.declared.objects.Body.TheVariants.{Group, Dataset, Datatype}
 use Rattle.object_records.specs.Objects.{IsKeptBody}
-use Rattle.object_acts.proofs.OfDepths.Depths.{attributes_deep, each_deep, element_deep, link_deep, numbers_deep, shape_deep, sound_shallow, type_deep, value_deep}
+use Rattle.object_acts.proofs.OfDepths.Depths.{each_deep, link_deep, shape_deep, sound_shallow, type_deep, value_deep}
 use Rattle.documents.specs.Domains.Documents.{collection_tree, document_tree, is_of, put_each, put_one}
-use Rattle.documents.specs.Domains.Domains.{Objects}
 use Rattle.documents.specs.Domains.Entries.{body_tree, entry_tree, is_shown, titled_tree}
 use Rattle.documents.specs.declared.domains.home.Home.{Home}
 use Rattle.documents.proofs.OfDomains.MemberLemmas.{all_within}
 use Rattle.json_import.specs.RoundTrips.Held.{AreSound}
 use Rattle.json_import.proofs.RoundTrips.HeldLemmas.{no_attributes, no_links}
-
-names_deep : (m : AttributeMap) → AreAttributes m → depth (attributes_list m Document true) ≤ 38
-names_deep m held = attributes_deep m Document true (λ name a e.
-    let sound = held.sound name a e in
-    sound_shallow (elem a.elem) a.shape sound.kind sound.shape)
-
-properties_deep : (e : Elem) (s : Shape) (chunk : List ℕ) (fill : Option (List ℕ)) → IsSoundType e
-    → depth (object (fill_members e fill (layout_members s chunk))) ≤ 5
-properties_deep e Null chunk None sound = omega arith
-properties_deep e Null chunk (Some bs) sound = omega (arith, element_deep e bs, sound.nested)
-properties_deep e Scalar chunk None sound = omega arith
-properties_deep e Scalar chunk (Some bs) sound = omega (arith, element_deep e bs, sound.nested)
-properties_deep e (Simple dims limits) chunk None sound = omega (arith, numbers_deep Rest chunk)
-properties_deep e (Simple dims limits) chunk (Some bs) sound = omega (arith, element_deep e bs, sound.nested, numbers_deep Rest chunk)
+use Rattle.object_records.proofs.TreeLemmas.{names_depth, properties_depth}
 
 entry_deep : (m : Objects) (h : Home) (attributes : AttributeMap) (b : Body) → AreAttributes attributes → IsKeptBody b
     → depth (body_tree m h (attributes_list attributes Document true) b) ≤ 39
 entry_deep m h attributes (Group links) held parts =
-    omega (arith, names_deep attributes held, each_deep 1 titled_tree (filter (λ e. is_shown m h e.1) (entries links)) (λ e. link_deep e.0 e.1 Document))
+    omega (arith, names_depth attributes held, each_deep 1 titled_tree (filter (λ e. is_shown m h e.1) (entries links)) (λ e. link_deep e.0 e.1 Document))
 entry_deep m h attributes (Dataset array) held parts =
     let g = array.grid in
     let shallow = sound_shallow g.kind g.shape parts.0.kind parts.0.shape in
-    omega (arith, names_deep attributes held, properties_deep g.kind g.shape g.chunk g.fill parts.0.kind, shape_deep g.shape Document, type_deep g.kind, shallow.nested, shallow.few_axes, value_deep g.kind g.shape (reads g (cells_of g.shape)))
-entry_deep m h attributes (Datatype type) held parts = omega (arith, names_deep attributes held, type_deep (elem type), parts.nested)
+    omega (arith, names_depth attributes held, properties_depth g.kind g.shape g.chunk g.fill parts.0.kind, shape_deep g.shape Document, type_deep g.kind, shallow.nested, shallow.few_axes, value_deep g.kind g.shape (reads g (cells_of g.shape)))
+entry_deep m h attributes (Datatype type) held parts = omega (arith, names_depth attributes held, type_deep (elem type), parts.nested)
 
 put_deep : (n : ℕ) (key : List ℕ) (d : Data) (ms : Members) → depth d ≤ n → members_depth ms ≤ n → members_depth (put key d ms) ≤ n
 put_deep n key d no_members one rest = omega (arith, one)

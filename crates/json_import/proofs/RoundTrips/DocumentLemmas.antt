@@ -22,13 +22,13 @@ use Rattle.chunk_store.specs.Grids.{Grid, reads, value_at, writes}
 use Rattle.chunk_store.specs.Listed.{IsOnce}
 use Rattle.object_ops.specs.Creation.Creations.{creation_of}
 use Rattle.object_ops.specs.Creation.Spelled.{IsCreation}
-use Rattle.object_acts.specs.Objects.{empty_group}
+use Rattle.object_acts.specs.Objects.{empty_group, Objects}
 use Rattle.object_acts.specs.declared.objects.Object.{Object}
 use Rattle.documents.specs.Parts.Arrays.{with_bytes}
 use Rattle.containers.specs.TextMaps.Keyed.{text_order}
 use Rattle.documents.specs.Parts.Ids.{is_id}
 use Rattle.documents.specs.Domains.Documents.{collection_tree, document_tree, put_each}
-use Rattle.documents.specs.Domains.Domains.{Objects, held_or_root, is_there}
+use Rattle.documents.specs.Domains.Domains.{held_or_root, is_there}
 use Rattle.documents.specs.Domains.Entries.{entry_tree}
 use Rattle.documents.specs.Domains.Laws.{AreInRange}
 use Rattle.documents.specs.declared.domains.home.Home.{Home}

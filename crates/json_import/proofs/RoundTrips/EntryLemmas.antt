@@ -30,7 +30,7 @@ use Rattle.documents.specs.Parts.Spelled.{AreAttributesAt, AreLinksAt, AreListed
 use Rattle.documents.specs.Parts.TitleMaps.{TargetMap}
 use Rattle.documents.specs.declared.parts.targets.Target.{Target}
 use Rattle.documents.specs.declared.parts.targets.Target.TheVariants.{Hard, Soft, External}
-use Rattle.documents.specs.Domains.Domains.{Objects, is_there}
+use Rattle.documents.specs.Domains.Domains.{is_there}
 use Rattle.documents.specs.Domains.Entries.{is_shown, links_tree, shown_links, titled_tree}
 use Rattle.documents.specs.declared.domains.home.Home.{Home}
 use Rattle.json_import.specs.Fresh.Names.{Names, id_in}
@@ -39,6 +39,7 @@ use Rattle.json_import.specs.RoundTrips.Renamed.{renamed_target}
 use Rattle.json_import.specs.RoundTrips.Renamed.{text_in as fresh_text}
 use Rattle.json_import.proofs.RoundTrips.ListLemmas.{filter_all, listed_few, listed_found, listed_of}
 use Rattle.json_import.proofs.RoundTrips.PartLemmas.{content_again}
+use Rattle.object_acts.specs.Objects.{Objects}
 
 -- ---- attributes
 

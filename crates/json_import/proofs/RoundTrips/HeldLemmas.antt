@@ -36,7 +36,7 @@ use Rattle.hdf_values.proofs.ElementLemmas.{list_of-items_of}
 use Rattle.attributes.specs.AttributeMaps.{AreAttributes, AttributeMap, most_attributes}
 use Rattle.attributes.specs.AttributeTrees.{attribute_tree, attributes_list, entry_tree as attribute_entry}
 use Rattle.attributes.proofs.MapLemmas.{each_entry}
-use Rattle.groups_links.specs.GroupLinks.{AreLinks, most_links}
+use Rattle.groups_links.specs.GroupLinks.{AreLinks, most_links, Titles}
 use Rattle.groups_links.specs.Targets.{IsSoundLink}
 use Rattle.groups_links.specs.declared.target.LinkTo.{LinkTo}
 use Rattle.groups_links.specs.declared.target.LinkTo.TheVariants as links
@@ -45,7 +45,7 @@ use Rattle.chunk_store.specs.Grids.{Grid, IsWhole, reads, value_at, writes}
 use Rattle.chunk_store.specs.Listed.{IsOnce}
 use Rattle.object_ops.specs.Creation.Creations.{creation_of}
 use Rattle.object_ops.specs.Creation.Spelled.{IsCreation}
-use Rattle.object_acts.specs.Objects.{empty_group, kind_of_body}
+use Rattle.object_acts.specs.Objects.{empty_group, kind_of_body, Objects}
 use Rattle.object_acts.specs.declared.objects.Object.{Object}
 use Rattle.object_acts.specs.declared.objects.Body.{Body}
 use Rattle.object_acts.specs.declared.objects.Body.TheVariants as body
@@ -55,8 +55,8 @@ use Rattle.documents.specs.Parts.Arrays.{with_bytes}
 use Rattle.documents.specs.Parts.Ids.{is_id}
 use Rattle.documents.specs.Parts.Spelled.{AreAttributesAt, AreLinksAt, AreListed, IsNamed, IsTarget, IsTitled}
 use Rattle.documents.specs.Domains.Documents.{collection_tree, document_tree, put_each}
-use Rattle.documents.specs.Domains.Domains.{Objects, held_or_root, is_there}
-use Rattle.documents.specs.Domains.Entries.{Titles, entry_tree, is_shown, links_tree, shown_links, titled_tree}
+use Rattle.documents.specs.Domains.Domains.{held_or_root, is_there}
+use Rattle.documents.specs.Domains.Entries.{entry_tree, is_shown, links_tree, shown_links, titled_tree}
 use Rattle.documents.specs.Domains.Laws.{AreInRange}
 use Rattle.documents.specs.declared.domains.home.Home.{Home}
 use Rattle.documents.proofs.OfDomains.DocumentLemmas.{each_at_its_text, keys_are_texts, keys_in_order}

@@ -10,9 +10,9 @@ use Rattle.object_ids.specs.IdValues.{Id}
 use Rattle.object_ids.specs.Ids.{prefix_of, text_of_id, uuid_of}
 use Rattle.object_ids.specs.declared.ids.Kind.{Kind}
 use Rattle.object_ids.specs.declared.ids.Kind.TheVariants as kind
-use Rattle.object_acts.specs.Objects.{empty_group}
+use Rattle.object_acts.specs.Objects.{empty_group, Objects}
 use Rattle.object_acts.specs.declared.objects.Object.{Object}
-use Rattle.documents.specs.Domains.Domains.{Objects, held_or_root, object_at}
+use Rattle.documents.specs.Domains.Domains.{held_or_root, object_at}
 use Rattle.documents.specs.Domains.Laws.{member_at}
 use Rattle.documents.specs.declared.domains.home.Home.{Home}
 use Rattle.documents.specs.Reader.Objects.{is_length}

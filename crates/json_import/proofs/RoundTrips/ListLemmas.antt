@@ -27,6 +27,7 @@ use Rattle.documents.specs.Reader.Loads.{AreMembers, IsMember}
 use Rattle.json_import.specs.RoundTrips.Renamed.{at_texts}
 use Rattle.containers.proofs.Plain.{halves, less, both_tests}
 use Rattle.containers.proofs.TextMaps.TextOrders.{greater}
+use Rattle.documents.proofs.OfDomains.MemberLemmas.{Rising}
 
 module _ {X : Type 0} where
   -- the entry stands in the list
@@ -174,9 +175,6 @@ module _ {X Y : Type 0} (h : X → Y) (most : ℕ) (R : Data → List ℕ × Y �
 
 -- ---- members of an object that spell entries
 
-abbrev pub Rises : Members → Type 0
-Rises ms = IsStrictlySortedBy text_order (keys_of ms)
-
 -- each member is found at its key
 AreFound : Members → List (List ℕ × Data) → Type 0
 AreFound ms ps = AllByRecursion (λ p. get_member p.0 ms ≡ Some p.1) ps
@@ -196,7 +194,7 @@ later_found l d ms (p ∷ ps) low found =
       later_found l d ms ps low.1 found.1,
     )
 
-all_found : (ms : Members) → Rises ms → AreFound ms (pairs_of ms)
+all_found : (ms : Members) → Rising ms → AreFound ms (pairs_of ms)
 unfolding AreFound IsStrictlySortedBy
 all_found no_members rises = tt
 all_found (member k d ms) rises = (
@@ -213,7 +211,7 @@ member_in (member l e ms) k d is = at (text_order k l) refl is (member_in ms k d
   at Equal tie is later = inl (exact_texts k l tie, sym (same_Some e d is))
   at Greater tie is later = inr (later is)
 
-module _ {X : Type 0} (R : List ℕ → Data → X → Type 0) (ms : Members) (m : FinMap text_order X) (rises : Rises ms)
+module _ {X : Type 0} (R : List ℕ → Data → X → Type 0) (ms : Members) (m : FinMap text_order X) (rises : Rising ms)
     (forth : (k : List ℕ) (x : X) → get m k ≡ Some x → (d : Data) × (get_member k ms ≡ Some d) × R k d x)
     (back : (k : List ℕ) (d : Data) → get_member k ms ≡ Some d → IsSome (get m k))
   where

@@ -1,43 +1,39 @@
 -- Types, shapes, attributes' contents, creation properties and arrays are read again from the trees that are printed of them.
-use Rattle.std.proofs.Common.{◌≡◌, ◌↔◌, ℕ, zero, suc, ◌*◌, ◌<◌, All, true, List, [], ◌∷◌, cond, length, map, inl, inr, nat_le, slice_index_or, Option, Some, None, Result, Ok, Err, codes, refl, sym, ap, subst, ◌∙◌, arith}
-use Rattle.std.specs.List.{AllByRecursion, AllZip}
-use Rattle.std.proofs.lemmas.List.{length-map, take_all, take_at, drop_at}
+use Rattle.std.proofs.Common.{◌≡◌, ◌↔◌, ℕ, zero, suc, ◌*◌, ◌<◌, All, true, List, [], ◌∷◌, cond, length, map, inl, inr, nat_le, slice_index_or, Option, Some, None, Ok, Err, codes, refl, sym, ap, subst, ◌∙◌, arith}
+use Rattle.std.specs.List.{AllByRecursion}
+use Rattle.std.proofs.lemmas.List.{length-map, take_all, take_at, drop_at, nil_from_length}
 use Rattle.serde_json.specs.Data.{Data, object, no_members}
 use Rattle.serde_json.specs.Find.{get}
-use Rattle.serde_json.specs.View.{items_of}
 use Rattle.json_trees.proofs.FaultLemmas.{bind_ok, test_ok}
 use Rattle.hdf_types.specs.Elems.{Elem}
 use Rattle.hdf_types.specs.Faults as types
 use Rattle.hdf_types.specs.Printed.{type_tree}
-use Rattle.hdf_types.specs.Reading.{size_of, type_of}
+use Rattle.hdf_types.specs.Reading.{size_of}
 use Rattle.hdf_types.specs.Types.{IsSoundType}
 use Rattle.hdf_types.proofs.PrintLemmas.{reads_back as type_back}
 use Rattle.hdf_types.proofs.SoundLemmas.{sound_type}
 use Rattle.hdf_types.proofs.TypeLemmas.{type_told}
 use Rattle.shapes.specs.declared.Shape.{Shape}
 use Rattle.shapes.specs.declared.Shape.TheVariants.{Null, Scalar, Simple}
-use Rattle.shapes.specs.declared.ShapeFault.{ShapeFault}
 use Rattle.shapes.specs.declared.printing.Form.TheVariants.{Document, Rest}
-use Rattle.shapes.specs.Extents.{SpellsList}
 use Rattle.shapes.specs.Places.{place}
-use Rattle.shapes.specs.Printed.{limit_tree, numbers_tree, shape_tree}
+use Rattle.shapes.specs.Printed.{numbers_tree, shape_tree}
 use Rattle.shapes.specs.Shapes.{IsShape, IsSound, LiesIn, cells_of, count_of, dims_of, shape_of}
 use Rattle.shapes.proofs.CellLemmas.{cell-place, cell_once, cells_inside, cells_length, place_counted}
 use Rattle.shapes.proofs.ShapeLemmas.{reads_back as shape_back, shape_sound, shape_told}
 use Rattle.hdf_values.specs.Attributes.{Content, IsTypeAt, attribute_of, most_bytes, shape_or, sized_at, type_or, typed_at, value_or, valued_at}
 use Rattle.hdf_values.specs.declared.attributes.AttributeFault.TheVariants.{TooLarge}
-use Rattle.hdf_values.specs.declared.faults.ValueFault.{ValueFault}
 use Rattle.hdf_values.specs.Elements.{IsEncoded, zero_of}
 use Rattle.hdf_values.specs.Nested.{AreEncoded, piece_at}
 use Rattle.hdf_values.specs.Shaped.{value_from, value_tree}
-use Rattle.hdf_values.proofs.ElementLemmas.{list_of-items_of, zero_fits}
+use Rattle.hdf_values.proofs.ElementLemmas.{zero_fits}
 use Rattle.hdf_values.proofs.PieceLemmas.{gathered_encoded, piece-first, piece-later}
 use Rattle.hdf_values.proofs.ShapedLemmas.{value_back}
 use Rattle.chunk_layout.specs.Defaults.{IsDefault}
-use Rattle.chunk_layout.specs.Layouts.{Fits, IsWhole as IsWholeNumber, SpellsChunk}
+use Rattle.chunk_layout.specs.Layouts.{Fits, SpellsChunk}
 use Rattle.chunk_layout.proofs.LayoutLemmas.{spells_fits}
 use Rattle.chunk_layout.specs.DefaultChunks.Halving.{default_chunk}
-use Rattle.chunk_layout.proofs.DefaultChunks.HalvingLemmas.{default_is}
+use Rattle.chunk_layout.proofs.DefaultChunks.HalvingLemmas.{default_is, no_default}
 use Rattle.chunk_store.specs.Grids.{Grid, IsWhole, blank_of, reads, value_at, writes, written}
 use Rattle.chunk_store.specs.Listed.{IsOnce}
 use Rattle.chunk_store.specs.Picked.{cells_from}
@@ -46,11 +42,13 @@ use Rattle.chunk_store.proofs.PickLemmas.{cells_inside as each_inside}
 use Rattle.chunk_store.proofs.SameLemmas.{same_held}
 use Rattle.object_ops.specs.Creation.Creations.{creation_of}
 use Rattle.object_ops.specs.Creation.Spelled.{IsCreation, IsFill, IsNoFilter}
-use Rattle.object_acts.specs.Arrays.Creation.{creation_tree, fill_members, layout_members, layout_tree}
+use Rattle.object_acts.specs.Arrays.Creation.{creation_tree, layout_tree}
 use Rattle.documents.specs.Parts.Arrays.{blank, with_bytes}
 use Rattle.documents.specs.Parts.Spelled.{HasCells, IsArray}
 use Rattle.json_import.proofs.RoundTrips.ValueLemmas.{IsAgain, element_again, fit_again, repeated, repeated_again, repeated_flat, value_again}
 use Rattle.containers.proofs.Plain.{ok_same}
+use Rattle.object_records.proofs.CreationLemmas.{numbers_spelled, tree_of}
+use Rattle.hdf_values.proofs.AttributeLemmas.{shape_ok, value_ok, typed_sound}
 
 -- ---- types and shapes
 
@@ -72,21 +70,6 @@ record IsPrinted (c : Content) : Type 0 where
   pub shape : IsSound c.shape
   pub small : nat_le (count_of c.shape * size_of c.kind) most_bytes ≡ true
   pub value : value_from c.kind c.shape (value_tree c.kind c.shape c.bytes) ≡ Ok c.bytes
-
-typed_sound : (o : Option Data) (e : Elem) → typed_at o ≡ Ok e → IsSoundType e
-typed_sound None e h = absurd cc
-typed_sound (Some d) e h = at (type_of d) refl h where
-  at : (r : Result Elem types.Fault) → type_of d ≡ r → type_or r ≡ Ok e → IsSoundType e
-  at (Ok x) is h = sound_type d e (type_told d e (is ∙ ap Ok (ok_same x e h)))
-  at (Err f) is h = absurd cc
-
-shape_ok : (r : Result Shape ShapeFault) (s : Shape) → shape_or r ≡ Ok s → r ≡ Ok s
-shape_ok (Ok x) s h = ap Ok (ok_same x s h)
-shape_ok (Err f) s h = absurd cc
-
-value_ok : (r : Result (List ℕ) ValueFault) (bs : List ℕ) → value_or r ≡ Ok bs → r ≡ Ok bs
-value_ok (Ok x) bs h = ap Ok (ok_same x bs h)
-value_ok (Err f) bs h = absurd cc
 
 valued_again : (e : Elem) (s : Shape) (o : Option Data) (bs : List ℕ) → IsSoundType e → valued_at e s o ≡ Ok bs
     → value_from e s (value_tree e s bs) ≡ Ok bs
@@ -148,35 +131,16 @@ made_of e s None p kind shape h = subst (IsMade e s) (sym h) (record {
 })
 made_of e s (Some d) p kind shape h = record { fits = spells_fits d s (size_of e) p.0 shape h.chunk; fill = fill_again e (get (codes "fillValue") d) p.1 kind h.fill }
 
-abbrev made_tree : Elem → Shape → List ℕ → Option (List ℕ) → Data
-made_tree e s chunk fill = object (fill_members e fill (layout_members s chunk))
-
--- an array without axes has a chunk without axes
-no_axis : (chunk : List ℕ) → length chunk ≡ 0 → [] ≡ chunk
-no_axis [] e = refl
-no_axis (n ∷ ns) e = absurd (omega arith)
-
-no_default : (size : ℕ) → default_chunk size [] ≡ []
-unfolding default_chunk
-no_default size = refl
-
-numbers_spelled : (ns : List ℕ) → SpellsList IsWholeNumber (numbers_tree Rest ns) ns
-numbers_spelled ns = (items_of (map (limit_tree Rest) ns), refl, subst (λ (ds : List Data). AllZip IsWholeNumber ds ns) (sym (list_of-items_of (map (limit_tree Rest) ns))) (each ns))
-  where
-    each : (ms : List ℕ) → AllZip IsWholeNumber (map (limit_tree Rest) ms) ms
-    each [] = tt
-    each (m ∷ ms) = (refl, each ms)
-
 chunk_spelled : (e : Elem) (s : Shape) (chunk : List ℕ) (fill : Option (List ℕ)) → Fits (size_of e) (dims_of s) chunk
-    → SpellsChunk (made_tree e s chunk fill) (dims_of s) (size_of e) chunk
-chunk_spelled e Null chunk None h = ((_, refl), inl (inl refl, subst (IsDefault (size_of e) []) (no_default (size_of e) ∙ no_axis chunk h.rank) (default_is (size_of e) [])))
-chunk_spelled e Null chunk (Some bs) h = ((_, refl), inl (inl refl, subst (IsDefault (size_of e) []) (no_default (size_of e) ∙ no_axis chunk h.rank) (default_is (size_of e) [])))
-chunk_spelled e Scalar chunk None h = ((_, refl), inl (inl refl, subst (IsDefault (size_of e) []) (no_default (size_of e) ∙ no_axis chunk h.rank) (default_is (size_of e) [])))
-chunk_spelled e Scalar chunk (Some bs) h = ((_, refl), inl (inl refl, subst (IsDefault (size_of e) []) (no_default (size_of e) ∙ no_axis chunk h.rank) (default_is (size_of e) [])))
+    → SpellsChunk (tree_of e s chunk fill) (dims_of s) (size_of e) chunk
+chunk_spelled e Null chunk None h = ((_, refl), inl (inl refl, subst (IsDefault (size_of e) []) (no_default (size_of e) ∙ sym (nil_from_length chunk h.rank)) (default_is (size_of e) [])))
+chunk_spelled e Null chunk (Some bs) h = ((_, refl), inl (inl refl, subst (IsDefault (size_of e) []) (no_default (size_of e) ∙ sym (nil_from_length chunk h.rank)) (default_is (size_of e) [])))
+chunk_spelled e Scalar chunk None h = ((_, refl), inl (inl refl, subst (IsDefault (size_of e) []) (no_default (size_of e) ∙ sym (nil_from_length chunk h.rank)) (default_is (size_of e) [])))
+chunk_spelled e Scalar chunk (Some bs) h = ((_, refl), inl (inl refl, subst (IsDefault (size_of e) []) (no_default (size_of e) ∙ sym (nil_from_length chunk h.rank)) (default_is (size_of e) [])))
 chunk_spelled e (Simple dims limits) chunk None h = ((_, refl), inr ((layout_tree chunk, refl, refl, (numbers_tree Rest chunk, refl, numbers_spelled chunk)), h))
 chunk_spelled e (Simple dims limits) chunk (Some bs) h = ((_, refl), inr ((layout_tree chunk, refl, refl, (numbers_tree Rest chunk, refl, numbers_spelled chunk)), h))
 
-no_filter : (e : Elem) (s : Shape) (chunk : List ℕ) (fill : Option (List ℕ)) → IsNoFilter (get (codes "filters") (made_tree e s chunk fill))
+no_filter : (e : Elem) (s : Shape) (chunk : List ℕ) (fill : Option (List ℕ)) → IsNoFilter (get (codes "filters") (tree_of e s chunk fill))
 no_filter e Null chunk None = tt
 no_filter e Null chunk (Some bs) = tt
 no_filter e Scalar chunk None = tt
@@ -185,7 +149,7 @@ no_filter e (Simple dims limits) chunk None = tt
 no_filter e (Simple dims limits) chunk (Some bs) = tt
 
 fill_spelled : (e : Elem) (s : Shape) (chunk : List ℕ) (fill : Option (List ℕ)) → FillAgain e fill
-    → IsFill e (get (codes "fillValue") (made_tree e s chunk fill)) fill
+    → IsFill e (get (codes "fillValue") (tree_of e s chunk fill)) fill
 fill_spelled e Null chunk None h = refl
 fill_spelled e Null chunk (Some bs) h = (bs, h.again, refl)
 fill_spelled e Scalar chunk None h = refl
@@ -193,7 +157,7 @@ fill_spelled e Scalar chunk (Some bs) h = (bs, h.again, refl)
 fill_spelled e (Simple dims limits) chunk None h = refl
 fill_spelled e (Simple dims limits) chunk (Some bs) h = (bs, h.again, refl)
 
-made_spelled : (e : Elem) (s : Shape) (p : List ℕ × Option (List ℕ)) → IsMade e s p → IsCreation e s (Some (made_tree e s p.0 p.1)) p
+made_spelled : (e : Elem) (s : Shape) (p : List ℕ × Option (List ℕ)) → IsMade e s p → IsCreation e s (Some (tree_of e s p.0 p.1)) p
 made_spelled e s p h = record { chunk = chunk_spelled e s p.0 p.1 h.fits; filters = no_filter e s p.0 p.1; fill = fill_spelled e s p.0 p.1 h.fill }
 
 -- ---- cells

@@ -8,7 +8,6 @@ use Rattle.std.specs.FinMap.{len}
 use Rattle.object_ids.specs.IdValues.{Id}
 use Rattle.serde_json.specs.Data.{Data}
 use Rattle.domains.specs.Changes.{root_of}
-use Rattle.chunk_owner.specs.Lanes.{Objects}
 use Rattle.register.specs.Decided.{Door, domain_added}
 use Rattle.service_core.specs.Steps.{World}
 use Rattle.json_export.specs.Documents.{doc}
@@ -17,6 +16,7 @@ use Rattle.documents.specs.declared.reader.loaded.Loaded.{Loaded}
 use Rattle.json_import.specs.Fresh.Renamed.{objects_put, other_count}
 use Rattle.json_import.specs.RoundTrips.Renamed.{renamed}
 use Rattle.json_import.specs.declared.adoption.counts.Counts.{Counts}
+use Rattle.object_acts.specs.Objects.{Objects}
 
 abbrev pub drawn : Door → ℕ → Door
 drawn d many = record d { serial = d.serial + many }

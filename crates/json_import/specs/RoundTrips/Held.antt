@@ -14,7 +14,7 @@ use Rattle.hdf_types.specs.Views.{elem}
 use Rattle.attributes.specs.AttributeMaps.{AreAttributes, AttributeMap}
 use Rattle.groups_links.specs.declared.target.LinkTo.{LinkTo}
 use Rattle.groups_links.specs.declared.target.LinkTo.TheVariants as link
-use Rattle.object_acts.specs.Objects.{empty_group, kind_of_body}
+use Rattle.object_acts.specs.Objects.{empty_group, kind_of_body, Objects}
 use Rattle.object_acts.specs.declared.objects.Object.{Object}
 use Rattle.object_acts.specs.declared.objects.Body.{Body}
 use Rattle.object_acts.specs.declared.objects.Body.TheVariants as body
@@ -23,14 +23,14 @@ use Rattle.documents.specs.Parts.TitleMaps.{TargetMap}
 use Rattle.documents.specs.declared.parts.targets.Target.{Target}
 use Rattle.documents.specs.declared.parts.targets.Target.TheVariants.{Hard, Soft, External}
 use Rattle.documents.specs.Domains.Documents.{document_tree}
-use Rattle.documents.specs.Domains.Domains.{Objects}
-use Rattle.documents.specs.Domains.Entries.{Titles, is_shown}
+use Rattle.documents.specs.Domains.Entries.{is_shown}
 use Rattle.documents.specs.declared.domains.home.Home.{Home}
 use Rattle.documents.specs.Reader.Loads.{Loads, LoadsText}
 use Rattle.documents.specs.declared.reader.loaded.Dataset.{Dataset}
 use Rattle.documents.specs.declared.reader.loaded.Datatype.{Datatype}
 use Rattle.documents.specs.declared.reader.loaded.Group.{Group}
 use Rattle.documents.specs.declared.reader.loaded.Loaded.{Loaded}
+use Rattle.groups_links.specs.GroupLinks.{Titles}
 
 -- ---- one object
 

@@ -23,13 +23,13 @@ use Rattle.documents.specs.Parts.Spelled.{AreAttributesAt, IsArray}
 use Rattle.documents.specs.Reader.Loads.{Loads}
 use Rattle.documents.specs.declared.reader.loaded.Loaded.{Loaded}
 use Rattle.documents.specs.Domains.Documents.{document_tree}
-use Rattle.documents.specs.Domains.Domains.{Objects}
 use Rattle.documents.specs.Domains.Entries.{cells_tree, dataset_tree}
 use Rattle.documents.specs.declared.domains.home.Home.{Home}
 use Rattle.json_import.specs.Fresh.Names.{names_of, others}
 use Rattle.json_import.specs.Fresh.Renamed.{objects_put, other_count}
 use Rattle.json_import.specs.RoundTrips.Held.{AreSound, held_in}
 use Rattle.json_import.specs.RoundTrips.Renamed.{renamed, text_in}
+use Rattle.object_acts.specs.Objects.{Objects}
 
 -- ---- parts
 

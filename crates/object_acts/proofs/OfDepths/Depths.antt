@@ -12,7 +12,6 @@ use Rattle.hdf_types.specs.Reading.{size_of}
 use Rattle.hdf_types.specs.Types.{IsSoundType}
 use Rattle.shapes.specs.declared.Shape.{Shape}
 use Rattle.shapes.specs.declared.Shape.TheVariants.{Null, Scalar, Simple}
-use Rattle.shapes.specs.declared.TheConstants.{MAX_RANK}
 use Rattle.shapes.specs.declared.printing.Form.{Form}
 use Rattle.shapes.specs.declared.printing.Form.TheVariants.{Rest, Document}
 use Rattle.shapes.specs.Places.{cell_count}
@@ -29,6 +28,7 @@ use Rattle.groups_links.specs.declared.target.LinkTo.{LinkTo}
 use Rattle.groups_links.specs.declared.target.LinkTo.TheVariants.{Hard, Soft, External}
 use Rattle.groups_links.specs.Printed.{link_tree, links_list}
 use Rattle.object_acts.specs.Depths.Shallow.{AreShallowAttributes, IsShallow}
+use Rattle.shapes.proofs.ShapeLemmas.{few_dims}
 
 -- ---- lists
 
@@ -77,13 +77,8 @@ value_deep e (Simple dims limits) bs = nested_deep e dims bs
 
 -- ---- shapes
 
-few_axes_of : (s : Shape) → IsSound s → length (dims_of s) ≤ MAX_RANK
-few_axes_of Null sound = omega arith
-few_axes_of Scalar sound = omega arith
-few_axes_of (Simple dims limits) sound = sound.fitting.few_axes
-
 pub sound_shallow : (e : Elem) (s : Shape) → IsSoundType e → IsSound s → IsShallow e s
-sound_shallow e s kind shape = record { nested = kind.nested; few_axes = few_axes_of s shape }
+sound_shallow e s kind shape = record { nested = kind.nested; few_axes = few_dims s shape }
 
 limit_deep : (form : Form) (n : ℕ) → depth (limit_tree form n) ≤ 0
 limit_deep Rest n = omega arith

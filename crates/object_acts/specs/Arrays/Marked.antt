@@ -1,5 +1,5 @@
 -- Which chunks requests mark as changed.
-use Rattle.std.specs.Prelude.{◌≡◌, ◌⊎◌, ℕ, Bool, true, false, not, List, [], Result, Ok, Err}
+use Rattle.std.specs.Prelude.{◌≡◌, ◌⊎◌, ℕ, Bool, true, not, List, [], Result, Ok, Err}
 use Rattle.shapes.specs.declared.Shape.{Shape}
 use Rattle.shapes.specs.Shapes.{dims_of}
 use Rattle.chunk_store.specs.Grids.{Grid}
@@ -7,12 +7,8 @@ use Rattle.chunk_store.specs.Marks.{Stored, is_dirty, keeps, touches}
 use Rattle.object_ops.specs.declared.ops.Part.{Part}
 use Rattle.object_ops.specs.declared.refusals.Refusal.{Refusal}
 use Rattle.object_ops.specs.declared.replies.Reply.{Reply}
-use Rattle.object_ops.specs.declared.replies.Reply.TheVariants.{Done, Refused}
 use Rattle.object_acts.specs.Arrays.Writes.{Region, region_of}
-
-abbrev pub was_done : Reply → Bool
-was_done (Done status body) = true
-was_done (Refused refusal) = false
+use Rattle.object_ops.specs.Answers.{was_done}
 
 -- the request was done: it wasn't refused, and memory didn't run out
 abbrev pub IsDone : {E : Type 0} → Result Reply E → Type 0

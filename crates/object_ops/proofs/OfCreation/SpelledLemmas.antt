@@ -1,5 +1,5 @@
 -- What is read of creation properties is what they spell, and the other way.
-use Rattle.std.proofs.Common.{◌≡◌, ℕ, List, [], ◌∷◌, true, Option, Some, None, is_some, Result, Ok, Err, IfOk, codes, refl, sym, ap, subst, ◌∙◌}
+use Rattle.std.proofs.Common.{◌≡◌, ℕ, List, [], ◌∷◌, Option, Some, None, is_some, Result, Ok, Err, IfOk, codes, refl, sym, ap, subst, ◌∙◌}
 use Rattle.std.specs.Bool.{⊤}
 use Rattle.std.proofs.lemmas.Bool.{cond-true}
 use Rattle.serde_json.specs.Data.{Data}
@@ -14,10 +14,10 @@ use Rattle.shapes.specs.Shapes.{dims_of}
 use Rattle.hdf_values.specs.Elements.{encoded}
 use Rattle.hdf_values.specs.declared.faults.Misfit.{Misfit}
 use Rattle.chunk_layout.specs.Asked.{IsAnswer, asked_of}
-use Rattle.chunk_layout.specs.Layouts.{IsObject, SpellsChunk}
+use Rattle.chunk_layout.specs.Layouts.{SpellsChunk}
 use Rattle.chunk_layout.specs.declared.Layout.{Layout}
 use Rattle.chunk_layout.specs.declared.LayoutFault.{LayoutFault}
-use Rattle.chunk_layout.proofs.LayoutLemmas.{answer_only, answer_told}
+use Rattle.chunk_layout.proofs.LayoutLemmas.{answer_only, answer_told, object_read}
 use Rattle.chunk_layout.specs.DefaultChunks.Halving.{default_chunk}
 use Rattle.chunk_layout.proofs.DefaultChunks.HalvingLemmas.{default_is}
 use Rattle.object_ops.specs.Creation.Creations.{chunk_or, creation_of, element_or, fill_of, filters_of, no_filters, properties_of}
@@ -110,9 +110,6 @@ fill_complete e (Some d) fill h = bind_at (element_or (encoded e d)) _ h.0 _ (ap
 
 -- ---- all of them
 
-object_there : (d : Data) → IsObject d → is_some (as_object d) ≡ true
-object_there d h = ap (λ (x : Data). is_some (as_object x)) h.1
-
 pub creation_sound : (e : Elem) (s : Shape) (o : Option Data) (p : List ℕ × Option (List ℕ)) → creation_of e s o ≡ Ok p → IsCreation e s o p
 unfolding creation_of
 creation_sound e s None p h = sym (ok_same (default_chunk (size_of e) (dims_of s), None) p h)
@@ -131,7 +128,7 @@ pub creation_complete : (e : Elem) (s : Shape) (o : Option Data) (p : List ℕ �
 unfolding creation_of
 creation_complete e s None p h = ap Ok (sym h)
 creation_complete e s (Some d) p h =
-    cond-true (is_some (as_object d)) (properties_of e s d) (Err NotAnObject) (object_there d h.chunk.0)
+    cond-true (is_some (as_object d)) (properties_of e s d) (Err NotAnObject) (object_read d h.chunk.0)
     ∙ bind_at (chunk_or (size_of e) (dims_of s) (asked_of d (dims_of s) (size_of e))) _ p.0 _ (chunk_complete d (dims_of s) p.0 (size_of e) h.chunk)
     (bind_at (filters_of (get (codes "filters") d)) _ tt _ (filters_complete (get (codes "filters") d) h.filters)
     (bind_at (fill_of e (get (codes "fillValue") d)) _ p.1 _ (fill_complete e (get (codes "fillValue") d) p.1 h.fill) refl))

@@ -27,7 +27,7 @@ kind_again Group = refl
 kind_again Dataset = refl
 kind_again Datatype = refl
 
-objects_once : (a b : Id) → InRange a → InRange b → object_key a ≡ object_key b → a ≡ b
+pub objects_once : (a b : Id) → InRange a → InRange b → object_key a ≡ object_key b → a ≡ b
 objects_once a b ha hb e =
     id_once a b ha hb (sym (kind_again a.kind) ∙ ap (λ (k : List ℕ). kind_at (get_or k 1 0)) e ∙ kind_again b.kind) (ap (λ (k : List ℕ). drop 2 k) e)
 

@@ -1,8 +1,8 @@
 -- A walk over records that installs folders and domains.
 use Rattle.std.proofs.Common.{◌≡◌, ◌≢◌, inl, inr, ℕ, ◌+◌, ◌<◌, ◌≤◌, ◌^◌, Bool, true, false, cond, ◌&&◌, not, nat_le, nat_lt, List, [], ◌∷◌, ◌++◌, T, Option, Some, None, IsSome, is_some, option_and_then, option_map, Less, refl, sym, ap, subst, ◌∙◌, arith}
-use Rattle.std.specs.Int.{from_be_bytes, w32, w64}
-use Rattle.std.proofs.lemmas.Nat.{from_be_bytes-to_be_bytes_4, from_be_bytes-to_be_bytes_8}
-use Rattle.std.proofs.lemmas.Bool.{and_from, and_parts, le-leb, leb-true, lt-ltb, ltb-true}
+use Rattle.std.specs.Int.{from_be_bytes, w64}
+use Rattle.std.proofs.lemmas.Nat.{from_be_bytes-to_be_bytes_8}
+use Rattle.std.proofs.lemmas.Bool.{and_from, and_parts, le-leb, leb-true, lt-ltb, ltb-true, both_ways, not-true}
 use Rattle.std.specs.Cmp.{Equal-is}
 use Rattle.std.specs.Cmp.Lexicographic.{nat_list_cmp_total}
 use Rattle.std.specs.FinMap.{contains_key, empty, entries, entries_sorted, get, get-empty, get-insert, insert, is_sorted, len, len-insert}
@@ -19,7 +19,7 @@ use Rattle.domains.specs.declared.classes.Node.{Node}
 use Rattle.domains.specs.declared.classes.NodeClass.{NodeClass}
 use Rattle.domains.specs.declared.classes.NodeClass.TheVariants.{Folder, Domain}
 use Rattle.object_records.specs.Keys.Keys.{IsPath, node_key}
-use Rattle.object_records.specs.Keys.Numbers.{next_bytes, run_bytes}
+use Rattle.object_records.specs.Keys.Numbers.{next_bytes}
 use Rattle.domains.specs.Records.Nodes.{node_of_body}
 use Rattle.containers.specs.TextMaps.Fronts.{held_by}
 use Rattle.containers.proofs.TextMaps.Fronts.{all_held, held_before, held_here, new_key, nothing_held, said_else, said_here, split_more}
@@ -29,6 +29,7 @@ use Rattle.register.specs.Installed.Walks.{AreRoots, IsNextOf, IsNodeWalk, NoPut
 use Rattle.register.proofs.OfInstalled.NodeKeys.{count_more, front_less, key_path, one_split, other_kind}
 use Rattle.containers.proofs.TextMaps.TextOrders.{same_key, unlike, differ}
 use Rattle.object_ids.proofs.PathOrders.{root_before, parent_before}
+use Rattle.register.proofs.Installing.{one_run}
 
 abbrev pub class_of : Option Node → Option NodeClass
 class_of o = option_map (λ node. node.class) o
@@ -58,12 +59,6 @@ same_own : (n : ℕ) (i : Id) (m : ℕ) (j : Id) → Domain n i ≡ Domain m j �
 same_own n i m j e = cc
 
 -- ---- one run and one number
-
-one_run : (held : Held) (a b : ℕ) → IsRun held a → IsRun held b → a ≡ b
-one_run held a b x y =
-    sym (from_be_bytes-to_be_bytes_4 a (below a x.small)) ∙ ap (from_be_bytes w32) (same_Some (run_bytes a) (run_bytes b) (sym x.here ∙ y.here)) ∙ from_be_bytes-to_be_bytes_4 b (below b y.small) where
-      below : (n : ℕ) → n < 2 ^ 22 → n < 2 ^ 32
-      below n small = omega arith
 
 pub one_next : (held : Held) (a b : ℕ) → IsNextNumber held a → IsNextNumber held b → a ≡ b
 one_next held a b x y =
@@ -243,7 +238,7 @@ module _ (held : Held) (rest : List Record) (e : Record) (c : Contents) (roots :
           record {
             made = λ run' is. made run' is (leb-true _ _ fronts.0);
             given = λ next' is. given next is_next next' is fronts.1;
-            free = λ q id' low there. not_both (get roots (number_id number)) halves.1 (w.numbers.all q number id' (class_before q low ∙ there));
+            free = λ q id' low there. both_ways (is_some (get roots (number_id number))) (not-true _ halves.1) (w.numbers.all q number id' (class_before q low ∙ there));
           } where
             made : (run' : ℕ) → IsRun held run' → id.run ≤ run → id.run ≤ run'
             made run' is low = subst (λ (n : ℕ). id.run ≤ n) (one_run held run run' is_run is) low
@@ -251,10 +246,6 @@ module _ (held : Held) (rest : List Record) (e : Record) (c : Contents) (roots :
             given : (next : Option ℕ) → IsNextOf held next → (next' : ℕ) → IsNextNumber held next' → is_given next number ≡ true → number < next'
             given None none next' is is_so = absurd (none next' is)
             given (Some n) told next' is is_so = subst (λ (m : ℕ). number < m) (one_next held n next' told is) (ltb-true number n is_so)
-
-            not_both : (o : Option Id) → not (is_some o) ≡ true → IsSome o → ⊥
-            not_both None a b = cc
-            not_both (Some x) a b = cc
 
       free_number : (class : NodeClass) → KeepsNumber held path class → may_stand run next roots class ≡ true
       free_number Folder keeps = refl

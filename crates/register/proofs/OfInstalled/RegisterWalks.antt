@@ -2,7 +2,7 @@
 use Rattle.std.proofs.Common.{◌≡◌, ◌≢◌, ℕ, ◌+◌, ◌<◌, Bool, true, false, cond, ◌&&◌, not, nat_le, List, [], ◌∷◌, Option, Some, None, IsSome, is_some, refl, sym, ap, subst, ◌∙◌, option_and_then}
 use denote.Ref.{Bor}
 use Rattle.std.specs.Option.{option_copied}
-use Rattle.std.proofs.lemmas.Bool.{and_parts, eqb-true}
+use Rattle.std.proofs.lemmas.Bool.{and_parts, eqb-true, both_ways, not-true}
 use Rattle.std.specs.Cmp.Lexicographic.{nat_list_cmp_total}
 use Rattle.std.specs.FinMap.{empty, get, get-empty, get-insert, insert, len, len-empty, len-insert}
 use Rattle.std.specs.Ordering.{eq_by_cmp}
@@ -82,13 +82,9 @@ module _ (c c' : Contents) (x root : Node) (path : List ℕ) (begins : c ≡ onl
 
 pub number_unused : (c : Contents) (roots : Roots) (run : ℕ) (next : Option ℕ) (path : List ℕ) (class : NodeClass) → AreRoots c roots → may_stand run next roots class ≡ true → IsNumberFree c path class
 number_unused c roots run next path Folder are stands = tt
-number_unused c roots run next path (Domain number id) are stands = λ other id' there. absurd (not_both (get roots (number_id number)) halves.1 (are.all other number id' there)) where
+number_unused c roots run next path (Domain number id) are stands = λ other id' there. absurd (both_ways (is_some (get roots (number_id number))) (not-true _ halves.1) (are.all other number id' there)) where
   halves : (nat_le id.run run && is_given next number ≡ true) × (not (is_some (get roots (number_id number))) ≡ true)
   halves = and_parts (nat_le id.run run && is_given next number) (not (is_some (get roots (number_id number)))) stands
-
-  not_both : (o : Option Id) → not (is_some o) ≡ true → IsSome o → ⊥
-  not_both None a b = cc
-  not_both (Some x) a b = cc
 
 pub puts : (run : ℕ) (next : Option ℕ) (path p body : List ℕ) (c : Contents) (roots : Roots) (c' : Contents) (roots' : Roots) (node : Node) → path_of path ≡ Some path → path_of path ≡ Some p
     → node_of_body body ≡ Some node → IsPlace c p → may_stand run next roots node.class ≡ true → c' ≡ with_node c p node → roots' ≡ with_root roots node.class → PutsNode run next path body c roots c' roots'

@@ -9,11 +9,12 @@ use Rattle.matchit.specs.Seek.{first, or_else}
 use Rattle.matchit.specs.Rows as r
 use Rattle.matchit.specs.Router.{RouteOf}
 use Rattle.object_ids.specs.Paths.{is_slash}
-use Rattle.rest_requests.specs.Routes.Table.{Text, Row, word, param, table}
+use Rattle.rest_requests.specs.Routes.Table.{Row, word, param, table}
 use Rattle.rest_requests.specs.Routes.Rows.{shown}
 use Rattle.rest_requests.specs.Routes.Found.{RowsOf, after_param, after_word, ended, found, unless_empty, route_for}
 use Rattle.rest_requests.specs.declared.routes.routes.Route.{Route}
 use Rattle.rest_requests.proofs.OfRoutes.Segments.{are_parts, is_part, is_part_byte, path_of, rows, seek_parts, seek_end, seek_other}
+use Rattle.rest_requests.specs.Queries.Pairs.{Text}
 
 -- ---- keys
 

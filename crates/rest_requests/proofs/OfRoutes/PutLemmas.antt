@@ -6,10 +6,11 @@ use Rattle.matchit.specs.declared.error.InsertError.{InsertError}
 use Rattle.matchit.specs.declared.error.InsertError.TheVariants.{Conflict, InvalidParam, InvalidParamSegment, InvalidCatchAll, OutOfMemory}
 use Rattle.matchit.proofs.OnLiterals.{matchit_on_literals}
 use Rattle.object_ids.specs.declared.ids.Kind.TheVariants as kind
-use Rattle.rest_requests.specs.Routes.Table.{Text, table}
+use Rattle.rest_requests.specs.Routes.Table.{table}
 use Rattle.rest_requests.specs.Routes.Rows.{AreNew, IsNew, Rows, is_new_scan, put, put_all, put_scan, shown}
 use Rattle.rest_requests.specs.declared.routes.routes.Route.{Route}
 use Rattle.rest_requests.specs.declared.routes.routes.Route.TheVariants.{Node, Domains, Acls, Acl, Collection, Object, Attributes, Attribute, Links, Link, Shape, Elem, Value}
+use Rattle.rest_requests.specs.Queries.Pairs.{Text}
 
 pub put_is : (text : Text) (route : Route) (old new : Rows) (r : Result (Unit {0}) InsertError) → InsertsRead (parse_route text) route old new r
     → OnOk r (new ≡ put text route old)

@@ -9,9 +9,10 @@ use Rattle.matchit.specs.Seek.{or_else}
 use Rattle.object_ids.specs.declared.ids.Kind.TheVariants as kind
 use Rattle.rest_requests.specs.declared.routes.routes.Route.{Route}
 use Rattle.rest_requests.specs.declared.routes.routes.Route.TheVariants.{Node, Domains, Acls, Acl, Collection, Object, Attributes, Attribute, Links, Link, Shape, Elem, Value}
-use Rattle.rest_requests.specs.Routes.Table.{Text, Part, word, param, table}
+use Rattle.rest_requests.specs.Routes.Table.{Part, word, param, table}
 use Rattle.rest_requests.specs.Routes.Found.{RowsOf, after_param, after_word, ended, found, route_for, segments, unless_empty}
 use Rattle.rest_requests.specs.Routes.Parts.{IsPathOf, fits, fits_path, is_any, parts_of}
+use Rattle.rest_requests.specs.Queries.Pairs.{Text}
 
 -- two lists of parts that no path has both
 abbrev apart : List Part → List Part → Bool

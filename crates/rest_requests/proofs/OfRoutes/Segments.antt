@@ -10,9 +10,10 @@ use Rattle.std.proofs.Math.Bool.{and-false}
 use Rattle.std.proofs.lemmas.List.{drop_at, length-append}
 use Rattle.matchit.specs.Seek.{own, step, seek, or_else, param_step, longest_from, cuts, segment, has_slash, with_suffix}
 use Rattle.matchit.specs.Rows as r
-use Rattle.rest_requests.specs.Routes.Table.{Text, Part, word, param}
+use Rattle.rest_requests.specs.Routes.Table.{Part, word, param}
 use Rattle.rest_requests.specs.Routes.Rows.{tokens_of, pattern_of}
 use Rattle.rest_requests.specs.Routes.Found.{RowsOf, after_param, after_word, ended, found}
+use Rattle.rest_requests.specs.Queries.Pairs.{Text}
 
 -- the path of parts
 abbrev pub path_of : List Text → Text

@@ -5,7 +5,8 @@ use Rattle.std.specs.Str.{bytes_eq}
 use Rattle.matchit.specs.Seek.{or_else}
 use Rattle.object_ids.specs.Paths.{is_slash}
 use Rattle.rest_requests.specs.declared.routes.routes.Route.{Route}
-use Rattle.rest_requests.specs.Routes.Table.{Text, Part, word, param, table}
+use Rattle.rest_requests.specs.Routes.Table.{Part, word, param, table}
+use Rattle.rest_requests.specs.Queries.Pairs.{Text}
 
 -- rows of which a part of the path was read, each with its key
 abbrev pub RowsOf : Type 0 → Type 0

@@ -5,8 +5,9 @@ use Rattle.object_ids.specs.declared.ids.Kind.{Kind}
 use Rattle.object_ids.specs.declared.ids.Kind.TheVariants as kind
 use Rattle.rest_requests.specs.declared.routes.routes.Route.{Route}
 use Rattle.rest_requests.specs.declared.routes.routes.Route.TheVariants.{Node, Domains, Acls, Acl, Collection, Object, Attributes, Attribute, Links, Link, Shape, Elem, Value}
-use Rattle.rest_requests.specs.Routes.Table.{Text, Part, word, param, acls, attributes, datasets, datatypes, groups, id, links, name}
+use Rattle.rest_requests.specs.Routes.Table.{Part, word, param, acls, attributes, datasets, datatypes, groups, id, links, name}
 use Rattle.rest_requests.specs.Routes.Found.{segments}
+use Rattle.rest_requests.specs.Queries.Pairs.{Text}
 
 abbrev pub collection : Kind → Part
 collection kind.Group = groups

@@ -7,7 +7,8 @@ use Rattle.matchit.specs.Router.{RouteOf, nearest, route_from}
 use Rattle.matchit.specs.Rows.{RowsOf}
 use Rattle.matchit.specs.declared.error.InsertError.{InsertError}
 use Rattle.rest_requests.specs.declared.routes.routes.Route.{Route}
-use Rattle.rest_requests.specs.Routes.Table.{Text, Part, Row, word, param}
+use Rattle.rest_requests.specs.Routes.Table.{Part, Row, word, param}
+use Rattle.rest_requests.specs.Queries.Pairs.{Text}
 
 -- the tokens of parts, as `matchit` has them
 abbrev pub tokens_of : Part → List ℕ

@@ -1,11 +1,9 @@
 -- The routes, each by its parts between slashes.
-use Rattle.std.specs.Prelude.{ℕ, List, [], ◌∷◌, codes}
+use Rattle.std.specs.Prelude.{List, [], ◌∷◌, codes}
 use Rattle.object_ids.specs.declared.ids.Kind.TheVariants as kind
 use Rattle.rest_requests.specs.declared.routes.routes.Route.{Route}
 use Rattle.rest_requests.specs.declared.routes.routes.Route.TheVariants.{Node, Domains, Acls, Acl, Collection, Object, Attributes, Attribute, Links, Link, Shape, Elem, Value}
-
-abbrev pub Text : Type 0
-Text = List ℕ
+use Rattle.rest_requests.specs.Queries.Pairs.{Text}
 
 -- a part of a route: a word, or a parameter by its name
 pub data Part : Type 0 where

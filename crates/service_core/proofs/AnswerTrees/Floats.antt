@@ -29,13 +29,13 @@ use Rattle.object_acts.specs.declared.objects.Body.{Body}
 use Rattle.object_acts.specs.declared.objects.Body.TheVariants.{Group, Dataset, Datatype}
 use Rattle.object_acts.specs.declared.objects.Object.{Object}
 use Rattle.object_acts.specs.Trees.{body_tree, object_tree}
-use Rattle.chunk_owner.specs.Lanes.{Objects}
 use Rattle.object_acts.proofs.OfExact.Floats.{attribute_exact, attributes_exact, creation_exact, link_exact, links_exact, list_exact, neither, nested_exact, shape_exact, type_exact}
 use Rattle.service_core.specs.AnswerTrees.Exact.{ActsAreExact, AnswersAreExact, DecisionsAreExact, HasNoFloat, RefusalsAreExact}
 use Rattle.service_core.proofs.AnswerTrees.Catalogue.{decisions_have}
 use Rattle.service_core.proofs.AnswerTrees.Objects.{AreAll, acted_leaves}
 use Rattle.service_core.proofs.AnswerTrees.Trees.{ArrayHas, Trees}
 use Rattle.service_core.proofs.AnswerTrees.Worlds.{answer_gives}
+use Rattle.object_acts.specs.Objects.{Objects}
 
 -- ---- the value of a part, and objects
 

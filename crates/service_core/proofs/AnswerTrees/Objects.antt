@@ -13,9 +13,9 @@ use Rattle.object_ids.specs.declared.puts.PutFault.TheVariants as put
 use Rattle.shapes.specs.declared.printing.Form.TheVariants.{Rest}
 use Rattle.hdf_values.specs.declared.attributes.Attribute.{Attribute}
 use Rattle.hdf_values.specs.Attributes.{content}
-use Rattle.attributes.specs.AttributeMaps.{most_attributes}
+use Rattle.attributes.specs.AttributeMaps.{most_attributes, AttributeMap}
 use Rattle.attributes.specs.AttributeTrees.{attribute_tree}
-use Rattle.groups_links.specs.GroupLinks.{most_links}
+use Rattle.groups_links.specs.GroupLinks.{most_links, Titles}
 use Rattle.groups_links.specs.declared.target.LinkTo.{LinkTo}
 use Rattle.groups_links.specs.declared.target.LinkTo.TheVariants.{Hard}
 use Rattle.groups_links.specs.Printed.{link_tree, links_list}
@@ -35,10 +35,10 @@ use Rattle.object_acts.specs.Arrays.Arrays.{points_read, shape_changed, shape_re
 use Rattle.object_acts.specs.declared.objects.Body.{Body}
 use Rattle.object_acts.specs.declared.objects.Body.TheVariants.{Group, Dataset, Datatype}
 use Rattle.object_acts.specs.declared.objects.Object.{Object}
-use Rattle.object_acts.specs.Objects.{made}
-use Rattle.object_acts.specs.Acts.{Names, Titles, attribute_put, change_of, drop_from, link_put, link_read, of_array, of_links, on_array, on_links, one_read, put_in, reads_object, reply_of}
+use Rattle.object_acts.specs.Objects.{made, Objects}
+use Rattle.object_acts.specs.Acts.{attribute_put, change_of, drop_from, link_put, link_read, of_array, of_links, on_array, on_links, one_read, put_in, reads_object, reply_of}
 use Rattle.chunk_owner.specs.Acts.{act, acted, changed_by, held, left, link_to, linking, make_act, making, missing, on_object, on_touched, read_by, removed, seen, touched}
-use Rattle.chunk_owner.specs.Lanes.{Each, Objects, set_at}
+use Rattle.chunk_owner.specs.Lanes.{Each, set_at}
 use Rattle.chunk_owner.proofs.Eaches.{each_insert, each_remove}
 use Rattle.service_core.specs.AnswerTrees.Bodies.{ReplyHas}
 use Rattle.service_core.proofs.AnswerTrees.Arrays.{points_have, resized_has, shape_has, type_has, value_has, written_has}
@@ -97,13 +97,13 @@ module _ {P : Data → Type 0} {Q : Object → Type 0} {G : Grid → Type 0} {S 
   drop_says : {X : Type 0} (name : List ℕ) (m : FinMap text_order X) → Says (drop_from name m)
   drop_says {X = X} name m = either_way (Says {X = FinMap text_order X}) (contains_key m name) t.none tt
 
-  on_links_says : (id : Id) (f : Titles → Reply × Titles) (names : Names) (body : Body) → ((links : Titles) → Says (f links))
+  on_links_says : (id : Id) (f : Titles → Reply × Titles) (names : AttributeMap) (body : Body) → ((links : Titles) → Says (f links))
       → Says (on_links id f names body)
   on_links_says id f names (Group links) each = each links
   on_links_says id f names (Dataset array) each = tt
   on_links_says id f names (Datatype type) each = tt
 
-  on_array_says : (id : Id) (f : Grid → Reply × Grid) (names : Names) (body : Body) → ((g : Grid) → Says (f g))
+  on_array_says : (id : Id) (f : Grid → Reply × Grid) (names : AttributeMap) (body : Body) → ((g : Grid) → Says (f g))
       → Says (on_array id f names body)
   on_array_says id f names (Group links) each = tt
   on_array_says id f names (Dataset array) each = each array.grid
@@ -112,7 +112,7 @@ module _ {P : Data → Type 0} {Q : Object → Type 0} {G : Grid → Type 0} {S 
   link_put_says : (title : List ℕ) (to : LinkTo) (links : Titles) → Says (link_put title to links)
   link_put_says title to links = put_says most_links limit.Links title to links (put_fault most_links links title)
 
-  attribute_put_says : (name : List ℕ) (a : Attribute) (names : Names) → Says (attribute_put name a names)
+  attribute_put_says : (name : List ℕ) (a : Attribute) (names : AttributeMap) → Says (attribute_put name a names)
   attribute_put_says name a names = put_says most_attributes limit.Attributes name a names (put_fault most_attributes names name)
 
   change_says : (op : Op) (o : Object) → Says (change_of op o)

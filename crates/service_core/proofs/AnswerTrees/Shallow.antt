@@ -21,7 +21,7 @@ use Rattle.hyperslab.specs.Selected.{extents, slab_cells}
 use Rattle.point_select.specs.declared.PointFault.{PointFault}
 use Rattle.point_select.specs.Faults.{points_of}
 use Rattle.hdf_values.specs.declared.attributes.Attribute.{Attribute}
-use Rattle.attributes.specs.AttributeMaps.{most_attributes}
+use Rattle.attributes.specs.AttributeMaps.{most_attributes, AttributeMap}
 use Rattle.attributes.proofs.MapLemmas.{each_inserted, each_left, each_of_none}
 use Rattle.groups_links.specs.declared.target.LinkTo.TheVariants.{Hard}
 use Rattle.chunk_store.specs.Grids.{Grid, with_dims}
@@ -40,12 +40,13 @@ use Rattle.object_acts.specs.declared.objects.Body.{Body}
 use Rattle.object_acts.specs.declared.objects.Body.TheVariants.{Group, Dataset, Datatype}
 use Rattle.object_acts.specs.declared.objects.Object.{Object}
 use Rattle.object_acts.specs.Objects.{body_made, made}
-use Rattle.object_acts.specs.Acts.{Names, Titles, change_of, drop_from, link_put, on_array, on_links, put_in}
+use Rattle.object_acts.specs.Acts.{change_of, drop_from, link_put, on_array, on_links, put_in}
 use Rattle.chunk_owner.specs.Acts.{link_to}
 use Rattle.object_acts.specs.Depths.Shallow.{AreShallowAttributes, IsShallow}
 use Rattle.object_acts.proofs.OfDepths.Depths.{sound_shallow}
 use Rattle.service_core.specs.AnswerTrees.Readable.{IsShallowBody, IsShallowGrid, IsShallowObject}
 use Rattle.service_core.proofs.AnswerTrees.Trees.{either_way}
+use Rattle.groups_links.specs.GroupLinks.{Titles}
 
 -- ---- new objects
 
@@ -62,16 +63,16 @@ made_shallow m sound = record { attributes = each_of_none NameAt; body = body_ma
 
 -- ---- what is changed of an object
 
-put_shallow : (most : ℕ) (what : LimitKind) (name : List ℕ) (a : Attribute) (names : Names) (o : Option PutFault) → NameAt name a
+put_shallow : (most : ℕ) (what : LimitKind) (name : List ℕ) (a : Attribute) (names : AttributeMap) (o : Option PutFault) → NameAt name a
     → AreShallowAttributes names → AreShallowAttributes (put_in most what name a names o).1
 put_shallow most what name a names None new old = each_inserted NameAt names name a new old
 put_shallow most what name a names (Some put.Taken) new old = old
 put_shallow most what name a names (Some put.Limit) new old = old
 put_shallow most what name a names (Some put.NoMemory) new old = old
 
-drop_shallow : (name : List ℕ) (names : Names) → AreShallowAttributes names → AreShallowAttributes (drop_from name names).1
+drop_shallow : (name : List ℕ) (names : AttributeMap) → AreShallowAttributes names → AreShallowAttributes (drop_from name names).1
 drop_shallow name names old =
-    either_way (λ (p : Reply × Names). AreShallowAttributes p.1) (contains_key names name) (each_left NameAt names name old) old
+    either_way (λ (p : Reply × AttributeMap). AreShallowAttributes p.1) (contains_key names name) (each_left NameAt names name old) old
 
 -- links have nothing that nests
 on_links_shallow : (id : Id) (f : Titles → Reply × Titles) (o : Object) → IsShallowObject o

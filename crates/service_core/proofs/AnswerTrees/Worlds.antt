@@ -11,8 +11,6 @@ use Rattle.object_ops.specs.declared.ops.Request.{Request}
 use Rattle.chunk_store.specs.Grids.{Grid}
 use Rattle.object_ops.specs.declared.replies.Reply.{Reply}
 use Rattle.object_acts.specs.declared.objects.Object.{Object}
-use Rattle.chunk_owner.specs.Acts.{is_done}
-use Rattle.chunk_owner.specs.Lanes.{Objects}
 use Rattle.chunk_owner.proofs.Eaches.{stays}
 use Rattle.register.specs.Decided.{decided}
 use Rattle.register.specs.Tickets.{Issue}
@@ -27,6 +25,8 @@ use Rattle.service_core.specs.AnswerTrees.Bodies.{AnswerHas, VerdictHas}
 use Rattle.service_core.proofs.AnswerTrees.Catalogue.{decisions_have}
 use Rattle.service_core.proofs.AnswerTrees.Objects.{AreAll, Leaves, acted_leaves}
 use Rattle.service_core.proofs.AnswerTrees.Trees.{Trees, either_way}
+use Rattle.object_acts.specs.Objects.{Objects}
+use Rattle.object_ops.specs.Answers.{was_done}
 
 module _ {P : Data → Type 0} {Q : Object → Type 0} {G : Grid → Type 0} {S : Op → Type 0} (t : Trees P Q G S) where
   taken_leaves : (g : Grant) (op : Op) (s : Option Step) (m : Objects) → S op → AreAll t m → Leaves t (step_taken g op s m)
@@ -36,7 +36,7 @@ module _ {P : Data → Type 0} {Q : Object → Type 0} {G : Grid → Type 0} {S 
   run_leaves : (g : Grant) (op : Op) (p : Reply × Objects) (ts : List Turn) → S op → Leaves t p → Leaves t (run_on g op p ts)
   run_leaves g op p [] sound h = h
   run_leaves g op p (u ∷ us) sound h =
-      either_way (Leaves t) (is_done p.0) (run_leaves g op (step_taken g op u.step p.1) us sound (taken_leaves g op u.step p.1 sound h.1)) h
+      either_way (Leaves t) (was_done p.0) (run_leaves g op (step_taken g op u.step p.1) us sound (taken_leaves g op u.step p.1 sound h.1)) h
 
   drops : (number : ℕ) (m : Objects) → AreAll t m → AreAll t (without_domain number m)
   drops number m h = λ id o e. h id o (stays (id.domain == number) (get m id) o (sym (get-without number m id) ∙ e))

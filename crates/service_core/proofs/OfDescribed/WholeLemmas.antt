@@ -10,23 +10,17 @@ use Rattle.object_ids.specs.IdOrder.{id_order}
 use Rattle.object_ids.specs.IdValues.{Id}
 use Rattle.object_ids.specs.Ids.{InRange}
 use Rattle.object_ids.proofs.IdOrders.{id_order_once}
-use Rattle.object_acts.specs.Objects.{unmarked, unmarked_body}
-use Rattle.object_acts.specs.declared.objects.Body.{Body}
+use Rattle.object_acts.specs.Objects.{unmarked, Objects}
 use Rattle.object_acts.specs.declared.objects.Body.TheVariants as body
 use Rattle.object_acts.specs.declared.objects.Object.{Object}
 use Rattle.object_records.specs.Objects.{IsKeptBody}
 use Rattle.containers.proofs.Passing.{by_bool}
 use Rattle.chunk_owner.specs.Installs.Records.{IsWholeObject}
 use Rattle.chunk_owner.proofs.OfInstalls.Walking.{unmarked_once}
-use Rattle.chunk_owner.specs.Lanes.{Objects}
 use Rattle.service_core.specs.Described.Told.{AreWhole}
+use Rattle.object_records.proofs.BodyLemmas.{kept_unmarked}
 
 -- ---- one object
-
-kept_unmarked : (b : Body) → IsKeptBody b → IsKeptBody (unmarked_body b)
-kept_unmarked (body.Group links) kept = kept
-kept_unmarked (body.Dataset array) kept = kept
-kept_unmarked (body.Datatype type) kept = kept
 
 -- as requests see it
 pub whole_unmarked : (o : Object) → IsKeptBody o.body → IsWholeObject (Some (unmarked o))

@@ -16,8 +16,7 @@ use Rattle.domains.specs.declared.classes.Node.{Node}
 use Rattle.domains.specs.declared.classes.NodeClass.{NodeClass}
 use Rattle.domains.specs.declared.classes.NodeClass.TheVariants.{Folder, Domain}
 use Rattle.object_acts.specs.declared.objects.Object.{Object}
-use Rattle.object_acts.specs.Objects.{empty_group}
-use Rattle.chunk_owner.specs.Lanes.{Objects}
+use Rattle.object_acts.specs.Objects.{empty_group, Objects}
 use Rattle.register.specs.Decided.{Door, IsGivenOut, opened}
 use Rattle.service_core.specs.Journals.Groups.{AreFirstRoots, HasFirstGroups, MayHaveGroup, MayHaveGroups}
 use Rattle.service_core.specs.Journals.Groups.{groups_on, root_in, roots_in, roots_of}

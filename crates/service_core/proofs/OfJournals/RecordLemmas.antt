@@ -17,12 +17,12 @@ use Rattle.object_ids.specs.IdValues.{Id}
 use Rattle.object_ids.specs.Ids.{InRange}
 use Rattle.object_acts.specs.declared.objects.Body.TheVariants as body
 use Rattle.object_acts.specs.declared.objects.Object.{Object}
-use Rattle.object_acts.specs.Objects.{empty_group, kind_of_body}
+use Rattle.object_acts.specs.Objects.{empty_group, kind_of_body, Objects}
 use Rattle.object_records.specs.Entries.{entry_of}
 use Rattle.object_records.specs.Objects.{object_of_body}
 use Rattle.chunk_owner.specs.Slots.Bodies.{IsRecordOf, of_chunk, of_none, of_object}
 use Rattle.chunk_owner.specs.Slots.Slots.{Describes}
-use Rattle.chunk_owner.specs.Lanes.{Lane, Objects}
+use Rattle.chunk_owner.specs.Lanes.{Lane}
 use Rattle.chunk_owner.specs.Owners.Records.{AreUndropped, IsMarkedIn}
 use Rattle.register.specs.Decided.{Door, opened}
 use Rattle.register.specs.Kept.{IsRegisterRecord, a_node, all_kept, is_marked, of_next, of_node, of_run, the_next, the_run}

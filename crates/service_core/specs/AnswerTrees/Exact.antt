@@ -10,12 +10,12 @@ use Rattle.object_ops.specs.declared.grants.Step.{Step}
 use Rattle.object_ops.specs.Refusals.{refusal_tree}
 use Rattle.object_ops.specs.declared.refusals.Refusal.{Refusal}
 use Rattle.chunk_owner.specs.Acts.{acted}
-use Rattle.chunk_owner.specs.Lanes.{Objects}
 use Rattle.register.specs.Decided.{Door, decided}
 use Rattle.service_core.specs.declared.answers.Answer.{Answer}
 use Rattle.service_core.specs.declared.answers.What.{What}
 use Rattle.service_core.specs.Steps.{Steps, World}
 use Rattle.service_core.specs.AnswerTrees.Bodies.{AnswerHas, ReplyHas, VerdictHas}
+use Rattle.object_acts.specs.Objects.{Objects}
 
 -- no number of the tree has a fraction or an exponent
 abbrev pub HasNoFloat : Data → Type 0

@@ -20,12 +20,13 @@ use Rattle.object_ops.specs.declared.refusals.Refusal.{Refusal}
 use Rattle.object_acts.specs.declared.objects.Object.{Object}
 use Rattle.object_acts.specs.declared.objects.Body.{Body}
 use Rattle.object_acts.specs.declared.objects.Body.TheVariants.{Group, Dataset, Datatype}
-use Rattle.chunk_owner.specs.Lanes.{Each, Objects}
+use Rattle.chunk_owner.specs.Lanes.{Each}
 use Rattle.service_core.specs.declared.answers.Answer.{Answer}
 use Rattle.service_core.specs.declared.answers.What.{What}
 use Rattle.service_core.specs.Replays.{AreSteps, Call}
 use Rattle.service_core.specs.Steps.{Steps, World}
 use Rattle.service_core.specs.AnswerTrees.Bodies.{AnswerHas}
+use Rattle.object_acts.specs.Objects.{Objects}
 
 -- ---- worlds
 

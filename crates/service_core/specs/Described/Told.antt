@@ -7,12 +7,12 @@ use Rattle.object_ids.specs.Ids.{InRange}
 use Rattle.object_acts.specs.declared.objects.Object.{Object}
 use Rattle.domains.specs.Contents.{Contents}
 use Rattle.chunk_owner.specs.Installs.Records.{IsWholeObject}
-use Rattle.chunk_owner.specs.Lanes.{Objects}
 use Rattle.chunk_owner.specs.Owners.Joined.{whole}
 use Rattle.register.specs.Installed.Registers.{DescribesRegister}
 use Rattle.service_core.specs.Records.{DescribesWorld, IsWorldOf}
 use Rattle.service_core.specs.Steps.{World}
 use Rattle.service_core.specs.Worlds.{State, seen}
+use Rattle.object_acts.specs.Objects.{Objects}
 
 -- ---- the register
 

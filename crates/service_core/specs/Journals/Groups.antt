@@ -12,8 +12,7 @@ use Rattle.domains.specs.Contents.{Contents, IsDomainAt}
 use Rattle.domains.specs.declared.classes.Node.{Node}
 use Rattle.domains.specs.declared.classes.NodeClass.{NodeClass}
 use Rattle.domains.specs.declared.classes.NodeClass.TheVariants.{Folder, Domain}
-use Rattle.object_acts.specs.Objects.{empty_group}
-use Rattle.chunk_owner.specs.Lanes.{Objects}
+use Rattle.object_acts.specs.Objects.{empty_group, Objects}
 use Rattle.register.specs.Decided.{AreGivenOut}
 use Rattle.service_core.specs.Steps.{IsGiven, World}
 use Rattle.service_core.specs.Worlds.{with_object}

@@ -2,7 +2,6 @@ use Rattle.std.proofs.Common.{◌≡◌, true, sym, ap, subst, ◌∙◌}
 use Rattle.std.specs.FinMap.{insert}
 use Rattle.object_ids.specs.declared.ids.Kind.{Kind}
 use Rattle.object_ops.specs.declared.replies.Reply.TheVariants.{Done}
-use Rattle.object_acts.specs.Arrays.Marked.{was_done}
 use Rattle.object_acts.specs.Objects.{made, unmarked, IsOfKind}
 use Rattle.object_records.specs.Keys.Keys.{object_key}
 use Rattle.chunk_owner.specs.declared.slots.slot.Mark.TheVariants.{Changed}
@@ -13,6 +12,7 @@ use Rattle.chunk_owner.proofs.AtIds.{object_tree-unmarked}
 use Rattle.chunk_owner.proofs.LaneLemmas.{home_others}
 use Rattle.chunk_owner.proofs.MarkLemmas.{new_mark}
 use Rattle.chunk_owner.proofs.placing.make_in.Goals as goal
+use Rattle.object_ops.specs.Answers.{was_done}
 
 pub put-requires-clause-new : goal.put-requires-clause-new
 put-requires-clause-new c = sym (get-objects_of c.args.slots.now c.args.id) ∙ c.requires.new

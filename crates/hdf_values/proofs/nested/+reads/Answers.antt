@@ -9,12 +9,13 @@ use Rattle.hdf_types.specs.Elems.{int as int_type, text as text_type}
 use Rattle.hdf_types.specs.Views.{elem}
 use Rattle.hdf_values.specs.Elements.{Fits}
 use Rattle.hdf_values.specs.Nested.{FitsNested, AppendsEach}
-use Rattle.hdf_values.proofs.ReadLemmas.{some_extent, no_list, members_fit, appends_more, appends_none, elements_fit}
+use Rattle.hdf_values.proofs.ReadLemmas.{no_list, members_fit, appends_more, appends_none, elements_fit}
 use Rattle.hdf_values.proofs.nested.+reads.Goals as goal
+use Rattle.hdf_values.proofs.PieceLemmas.{some_left}
 
 pub read_axes-returns-in_default-clause-reads : goal.read_axes-returns-in_default-clause-reads
 read_axes-returns-in_default-clause-reads t c =
-    let some = some_extent c.args.extents.now c.if-is_empty.ensures in
+    let some = some_left c.args.extents.now c.if-is_empty.ensures in
     inr (no_list (elem c.args.kind.now) c.args.extents.now c.args.place (view c.args.tree.now) some (sym c.in_default.ensures))
 
 pub read_axes-returns-clause-fits : goal.read_axes-returns-clause-fits
@@ -23,7 +24,7 @@ read_axes-returns-clause-fits t c =
     let dims = c.args.extents.now in
     let rest = take (length dims - 1) (drop 1 dims) in
     let items = c.in-Some.items.now in
-    let some = some_extent dims c.if-is_empty.ensures in
+    let some = some_left dims c.if-is_empty.ensures in
     let behind = take_all (length dims - 1) (drop 1 dims) (omega (arith, length-drop 1 dims)) in
     let count = length-map items view ∙ c.if-got-want.false in
     IfOk-weaker c.read_members.result (λ n. AllByRecursion (FitsNested e rest) (map view items)) (λ n. FitsNested e dims (view c.args.tree.now)) (λ n. members_fit e dims rest (view c.args.tree.now) (map view items) some behind (sym c.in-Some.ensures) count) c.read_members.ensures.fits

@@ -7,15 +7,15 @@ use Rattle.hdf_types.specs.Reading.{size_of}
 use Rattle.hdf_types.specs.Views.{elem}
 use Rattle.shapes.specs.Places.{cell_count}
 use Rattle.hdf_values.specs.Nested.{nested_decoded}
-use Rattle.hdf_values.proofs.ReadLemmas.{some_extent}
 use Rattle.hdf_values.proofs.WriteLemmas.{piece_size, piece_within, piece_encoded, tree_pushed, list_decoded}
 use Rattle.hdf_values.proofs.nested.+writes.Goals as goal
+use Rattle.hdf_values.proofs.PieceLemmas.{some_left}
 
 pub axes_tree-returns : goal.axes_tree-returns
 axes_tree-returns t c =
     let dims = c.args.extents.now in
     let rest = take (length dims - 1) (drop 1 dims) in
-    let some = some_extent dims c.if-is_empty.ensures in
+    let some = some_left dims c.if-is_empty.ensures in
     let behind = take_all (length dims - 1) (drop 1 dims) (omega (arith, length-drop 1 dims)) in
     view-Array c.in_ok-list.list ∙ list_decoded (elem c.args.kind.now) dims rest c.args.bytes.now (map view c.in_ok-list.list.items) some behind c.in_ok-list.ensures
 

@@ -1,11 +1,8 @@
-use Rattle.std.proofs.Common.{◌≡◌, ◌∙◌, ◌+◌, ℕ, List, ◌++◌, codes, append_assoc}
+use Rattle.std.proofs.Common.{◌∙◌, ◌+◌, codes}
 use Rattle.std.specs.Prelude.{decimal}
 use Rattle.std.proofs.lemmas.Result.{IfOk-weaker}
 use Rattle.samples.proofs.selection.selection_text.Goals as goal
-
--- two numbers among their words, as `format!` joins them
-joined : (l a m b e : List ℕ) → l ++ (a ++ (m ++ (b ++ e))) ≡ (((l ++ a) ++ m) ++ b) ++ e
-joined l a m b e = simp append_assoc
+use Rattle.samples.proofs.TextLemmas.{joined}
 
 pub returns : goal.returns
 returns c =

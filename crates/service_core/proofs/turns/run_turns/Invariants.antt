@@ -1,15 +1,15 @@
 use Rattle.std.proofs.Common.{◌≡◌, true, length}
 use Rattle.chunk_owner.specs.Owners.Joined.{AreLanes, whole}
 use Rattle.chunk_owner.specs.Owners.Records.{LanesStillSay}
-use Rattle.chunk_owner.specs.Acts.{is_done}
 use Rattle.service_core.specs.Turns.{AreReady}
 use Rattle.service_core.proofs.TurnLemmas.{SoFar}
 use Rattle.service_core.proofs.turns.run_turns.Given as goal
+use Rattle.object_ops.specs.Answers.{was_done}
 
 abbrev pub invariant-turns : goal.invariant-turns
 invariant-turns l =
     (l.tickets.grant ≡ l.fn.tickets.grant) × (l.grant ≡ l.fn.tickets.grant) × (length l.owners ≡ length l.fn.owners) × AreLanes (length l.fn.owners) 0 l.owners
-    × (is_done l.reply ≡ true → AreReady (length l.fn.owners) l.fn.tickets.grant l.op (whole l.owners) l.tickets.left)
+    × (was_done l.reply ≡ true → AreReady (length l.fn.owners) l.fn.tickets.grant l.op (whole l.owners) l.tickets.left)
     × SoFar l.fn.tickets.grant l.op l.fn.tickets.left (whole l.fn.owners) l.reply (whole l.owners) l.tickets.left
     × LanesStillSay l.fn.owners l.owners
 
