@@ -13,7 +13,7 @@ use Rattle.access_lists.specs.EntryTrees.{entry_in, entry_members, entry_tree, e
 use Rattle.access_lists.specs.InForce.{Entries}
 use Rattle.containers.proofs.Plain.{halves, less}
 
-abbrev pub Row : Type 0
+abbrev Row : Type 0
 Row = List ℕ × Rights
 
 below_middle : (x : List ℕ) (es : List Row) (e : Row) (more : List Row) → T (below_all text_order x (es ++ e ∷ more)) → text_order x e.0 ≡ Less

@@ -22,7 +22,9 @@ use Rattle.domains.specs.Records.Lists.{entry_in, entry_of, list_in}
 use Rattle.containers.proofs.Plain.{halves, less}
 use Rattle.containers.proofs.TextMaps.TextOrders.{greater}
 use Rattle.containers.specs.Options.{only_if}
-use Rattle.access_lists.proofs.Members.{Row}
+
+abbrev pub Row : Type 0
+Row = List ℕ × Rights
 
 -- ---- entries put in their order make the map
 

@@ -26,12 +26,11 @@ use Rattle.domains.specs.Records.Nodes.{HasId, IsKeptNode, acls_in, class_in, cl
 use Rattle.std.specs.Str.{is_utf8}
 use Rattle.serde_json.specs.Read.{read}
 use Rattle.domains.proofs.OfRecords.TreeLemmas.{node_back}
-use Rattle.domains.proofs.OfRecords.BackLemmas.{AreNamed, length-members, list_of_rows}
+use Rattle.domains.proofs.OfRecords.BackLemmas.{AreNamed, length-members, list_of_rows, Row}
 use Rattle.domains.proofs.OfRecords.SameLemmas.{Within, count, length-pairs, same}
 use Rattle.domains.proofs.OfRecords.TidyLemmas.{EachTidy, IsRising, IsTidy, read_tidy, tidy_member}
 use Rattle.containers.specs.Options.{only_if}
 use Rattle.containers.specs.TextMaps.Keyed.{map_of}
-use Rattle.access_lists.proofs.Members.{Row}
 
 -- ---- what stands at a key
 

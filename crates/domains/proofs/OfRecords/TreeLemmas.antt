@@ -14,9 +14,8 @@ use Rattle.domains.specs.declared.classes.NodeClass.{NodeClass}
 use Rattle.domains.specs.declared.classes.NodeClass.TheVariants.{Folder, Domain}
 use Rattle.domains.specs.Records.Lists.{list_in, name_in}
 use Rattle.domains.specs.Records.Nodes.{HasId, IsKeptNode, class_in, class_tree, domain_of, is_group, is_root, node_in, node_tree}
-use Rattle.domains.proofs.OfRecords.BackLemmas.{list_back, list_flat}
+use Rattle.domains.proofs.OfRecords.BackLemmas.{list_back, list_flat, Row}
 use Rattle.containers.specs.Options.{only_if}
-use Rattle.access_lists.proofs.Members.{Row}
 
 own_root : (own : ℕ) (root : Id) → HasRoot (Domain own root) → is_root own root ≡ true
 own_root own root held = ap (λ k. is_group k && root.domain == own) held.0 ∙ eq-eqb root.domain own held.1
