@@ -5,3 +5,4 @@ pub mod Walks
 pub mod Fronts
 pub mod Lending
 pub mod TextOrders
+pub mod PutLemmas

@@ -1,8 +1,7 @@
 -- A list of trees that spell the entries of a map, in order, reads as the map.
-use Rattle.std.proofs.Common.{◌≡◌, ℕ, suc, ◌+◌, ◌<◌, ◌≤◌, List, [], ◌∷◌, ◌++◌, map, length, nat_lt, T, Bool, false, cond, if◌then◌else◌, Option, Some, None, option_and_then, is_some, Less, refl, sym, ap, ◌∙◌, arith, append_assoc, append-nil}
-use Rattle.std.specs.Ordering.{is_eq, eq_by_cmp}
-use Rattle.std.specs.FinMap.{FinMap, get, insert, entries, entries_sorted, empty, from_entries, find, is_sorted, len, same_map, get-from_entries, get-entries, from_entries_push, len-empty, len-entries}
-use Rattle.std.specs.FinMap.Entries.{below_all, find-append}
+use Rattle.std.proofs.Common.{◌≡◌, ℕ, suc, ◌+◌, ◌<◌, ◌≤◌, List, [], ◌∷◌, ◌++◌, map, length, nat_lt, T, Bool, false, if◌then◌else◌, Option, Some, None, option_and_then, is_some, Less, sym, ap, ◌∙◌, arith, append_assoc, append-nil}
+use Rattle.std.specs.Ordering.{is_eq}
+use Rattle.std.specs.FinMap.{FinMap, get, insert, entries, entries_sorted, empty, from_entries, is_sorted, len, get-from_entries, from_entries_push, len-empty, len-entries}
 use Rattle.std.specs.List.{AllByRecursion, AllZip}
 use Rattle.std.proofs.lemmas.Bool.{lt-ltb}
 use Rattle.std.proofs.lemmas.Cmp.{nat_list_cmp_total}
@@ -14,28 +13,10 @@ use Rattle.object_ids.proofs.PutLemmas.{insert_most}
 use Rattle.containers.specs.TextMaps.Keyed.{text_order}
 use Rattle.containers.proofs.TextMaps.KeyedMaps.{exact_texts}
 use Rattle.object_records.specs.Lists.{listed, put_in}
-use Rattle.containers.proofs.Plain.{halves, less}
-use Rattle.containers.proofs.TextMaps.TextOrders.{greater}
+use Rattle.containers.proofs.Plain.{halves}
+use Rattle.containers.proofs.TextMaps.PutLemmas.{apart_push, apart_empty, Apart, entries_same}
 
 module _ {X : Type 0} where
-  -- no key of the second list is one of the first
-  Apart : List (List ℕ × X) → List (List ℕ × X) → Type 0
-  Apart done [] = Unit {0}
-  Apart done (e ∷ es) = (find text_order e.0 done ≡ None) × Apart done es
-
-  apart_empty : (es : List (List ℕ × X)) → Apart [] es
-  unfolding Apart
-  apart_empty [] = tt
-  apart_empty (e ∷ es) = (refl, apart_empty es)
-
-  apart_push : (done : List (List ℕ × X)) (e : List ℕ × X) (es : List (List ℕ × X)) → find text_order e.0 done ≡ None → T (below_all text_order e.0 es) → Apart done es → Apart (done ++ e ∷ []) es
-  unfolding Apart
-  apart_push done e [] none low apart = tt
-  apart_push done e (f ∷ fs) none low apart =
-      let more : find text_order f.0 (done ++ e ∷ []) ≡ cond (eq_by_cmp text_order f.0 e.0) (Some e.1) (find text_order f.0 done) = find-append text_order nat_list_cmp_total done e.0 e.1 f.0 none in (
-        more ∙ ap (λ b. cond b (Some e.1) (find text_order f.0 done)) (greater e.0 f.0 (less _ (halves _ _ low).0)) ∙ apart.0,
-        apart_push done e fs none (halves _ _ low).1 apart.1,
-      )
 
   free : (most : ℕ) (m : FinMap text_order X) (name : List ℕ) → get m name ≡ None → len m < most → put_fault most m name ≡ None
   free most m name none room =
@@ -51,7 +32,6 @@ module _ {X : Type 0} where
   read_on : (most : ℕ) (read : Data → Option (List ℕ × X)) (done es : List (List ℕ × X)) (ds : List Data) → AllZip (λ d e. read d ≡ Some e) ds es
       → T (is_sorted text_order es) → Apart done es → len (from_entries {R = text_order} done) + length es ≤ most
       → listed most read (from_entries done) ds ≡ Some (from_entries (done ++ es))
-  unfolding Apart
   read_on most read done [] [] zip sorted apart room = ap (λ xs. Some (from_entries {R = text_order} xs)) (sym (append-nil done))
   read_on most read done [] (d ∷ ds) zip sorted apart room = absurd zip
   read_on most read done (e ∷ es) [] zip sorted apart room = absurd zip
@@ -66,9 +46,6 @@ module _ {X : Type 0} where
       ∙ ap (λ (g : FinMap text_order X). listed most read g ds) pushed
       ∙ read_on most read (done ++ e ∷ []) es ds zip.1 (halves _ _ sorted).1 (apart_push done e es apart.0 (halves _ _ sorted).0 apart.1) more
       ∙ ap (λ xs. Some (from_entries {R = text_order} xs)) (append_assoc done (e ∷ []) es)
-
-  entries_same : (m : FinMap text_order X) → from_entries (entries m) ≡ m
-  entries_same m = same_map nat_list_cmp_total exact_texts _ _ (λ q. get-from_entries nat_list_cmp_total (entries m) q ∙ sym (get-entries m q))
 
   pub list_back : (most : ℕ) (read : Data → Option (List ℕ × X)) (m : FinMap text_order X) (ds : List Data) → AllZip (λ d e. read d ≡ Some e) ds (entries m) → len m ≤ most
       → listed most read empty ds ≡ Some m

@@ -1,15 +1,15 @@
 -- The members that an access list is printed as read as the list.
-use Rattle.std.proofs.Common.{◌≡◌, ℕ, suc, ◌≤◌, List, [], ◌∷◌, ◌++◌, length, T, Bool, true, false, cond, ◌&&◌, nat_le, Option, Some, None, option_map, option_and_then, Ordering, is_eq, is_lt, refl, sym, ap, subst, arith, append_assoc, append-nil, ◌∙◌}
+use Rattle.std.proofs.Common.{◌≡◌, ℕ, suc, ◌≤◌, List, [], ◌∷◌, length, T, Bool, true, false, cond, ◌&&◌, nat_le, Option, Some, None, option_map, option_and_then, Ordering, is_eq, is_lt, refl, sym, ap, subst, arith, ◌∙◌}
 use Rattle.std.specs.Cmp.{Equal-is}
 use Rattle.std.specs.Ordering.{eq_by_cmp}
-use Rattle.std.specs.FinMap.{entries, entries_sorted, find, from_entries, from_entries_push, from_sorted, entries-from_sorted, get-entries, get-from_entries, get-from_sorted, is_sorted, len-entries, same_map}
-use Rattle.std.specs.FinMap.Entries.{below_all, find-append}
+use Rattle.std.specs.FinMap.{entries, entries_sorted, find, from_sorted, entries-from_sorted, get-entries, get-from_entries, get-from_sorted, is_sorted, len-entries, same_map}
+use Rattle.std.specs.FinMap.Entries.{below_all}
 use Rattle.std.specs.List.{AllByRecursion}
 use Rattle.std.proofs.lemmas.Bool.{le-leb}
 use Rattle.std.proofs.lemmas.Cmp.{nat_list_cmp_total, tied_itself}
 use Rattle.serde_json.specs.Data.{depth, members_depth}
 use Rattle.json_trees.specs.Trees.{all_in, pairs_of}
-use Rattle.containers.specs.TextMaps.Keyed.{text_order, with_entries, map_of}
+use Rattle.containers.specs.TextMaps.Keyed.{text_order, map_of}
 use Rattle.containers.proofs.TextMaps.KeyedMaps.{exact_texts}
 use Rattle.containers.proofs.TextMaps.Walks.{found_above}
 use Rattle.object_ids.specs.Names.{is_name}
@@ -19,46 +19,13 @@ use Rattle.access_lists.specs.Lists.{IsList}
 use Rattle.access_lists.specs.declared.rights.Rights.{Rights}
 use Rattle.domains.proofs.OfRecords.TidyLemmas.{Above, IsRising}
 use Rattle.domains.specs.Records.Lists.{entry_in, entry_of, list_in}
-use Rattle.containers.proofs.Plain.{halves, less}
+use Rattle.containers.proofs.Plain.{halves}
 use Rattle.containers.proofs.TextMaps.TextOrders.{greater}
 use Rattle.containers.specs.Options.{only_if}
+use Rattle.containers.proofs.TextMaps.PutLemmas.{apart_empty, put_entries}
 
 abbrev pub Row : Type 0
 Row = List ℕ × Rights
-
--- ---- entries put in their order make the map
-
--- no name of the second rows is one of the first
-Apart : List Row → List Row → Type 0
-Apart done [] = Unit {0}
-Apart done (e ∷ es) = (find text_order e.0 done ≡ None) × Apart done es
-
-apart_empty : (es : List Row) → Apart [] es
-unfolding Apart
-apart_empty [] = tt
-apart_empty (e ∷ es) = (refl, apart_empty es)
-
-apart_push : (done : List Row) (e : Row) (es : List Row) → find text_order e.0 done ≡ None → T (below_all text_order e.0 es) → Apart done es → Apart (done ++ e ∷ []) es
-unfolding Apart
-apart_push done e [] none low apart = tt
-apart_push done e (f ∷ fs) none low apart =
-    let more : find text_order f.0 (done ++ e ∷ []) ≡ cond (eq_by_cmp text_order f.0 e.0) (Some e.1) (find text_order f.0 done) = find-append text_order nat_list_cmp_total done e.0 e.1 f.0 none in (
-      more ∙ ap (λ b. cond b (Some e.1) (find text_order f.0 done)) (greater e.0 f.0 (less _ (halves _ _ low).0)) ∙ apart.0,
-      apart_push done e fs none (halves _ _ low).1 apart.1,
-    )
-
-put_on : (done es : List Row) → T (is_sorted text_order es) → Apart done es → with_entries (from_entries done) es ≡ from_entries (done ++ es)
-unfolding Apart
-put_on done [] rising apart = ap (λ rows. from_entries {R = text_order} rows) (sym (append-nil done))
-put_on done (e ∷ es) rising apart =
-    ap (λ (m : Entries). with_entries m es) (sym (from_entries_push nat_list_cmp_total exact_texts done e.0 e.1 apart.0))
-    ∙ put_on (done ++ e ∷ []) es (halves _ _ rising).1 (apart_push done e es apart.0 (halves _ _ rising).0 apart.1)
-    ∙ ap (λ rows. from_entries {R = text_order} rows) (append_assoc done (e ∷ []) es)
-
-map_back : (m : Entries) → map_of (entries m) ≡ m
-map_back m =
-    put_on [] (entries m) (entries_sorted m) (apart_empty (entries m))
-    ∙ same_map nat_list_cmp_total exact_texts _ _ (λ q. get-from_entries nat_list_cmp_total (entries m) q ∙ sym (get-entries m q))
 
 -- ---- each member is an entry
 
@@ -92,7 +59,7 @@ list_back list held =
     let named = each_found rows (entries_sorted list) (λ k v f. held.names k v (get-entries list k ∙ f)) in
     let few : nat_le (length (pairs_of (entry_members rows))) 1024 ≡ true = le-leb _ 1024 (omega (arith, length-members rows, len-entries list, held.few)) in
     ap (λ (b : Bool). only_if b (option_map map_of (all_in entry_of (pairs_of (entry_members rows))))) few
-    ∙ ap (option_map map_of) (rows_back rows named) ∙ ap Some (map_back list)
+    ∙ ap (option_map map_of) (rows_back rows named) ∙ ap Some (put_entries list)
 
 -- ---- rows in order are the entries of their map
 

@@ -4,7 +4,6 @@ use Rattle.std.specs.Cmp.{Equal-is}
 use Rattle.std.specs.Cmp.Lexicographic.{nat_list_cmp_total}
 use Rattle.std.specs.List.{AllByRecursion, AllZip, filter}
 use Rattle.std.specs.List.Sorted.{IsStrictlySortedBy}
-use Rattle.std.specs.Option.{option_or}
 use Rattle.std.specs.Ordering.{eq_by_cmp, is_lt, match_ordering, ordering_reverse}
 use Rattle.std.specs.FinMap.{FinMap, empty, entries, entries_sorted, find, get, get-empty, get-entries, get-from_sorted, get-insert, get-remove, entries-from_sorted, from_sorted, insert, is_sorted, keys, len, len-empty, len-entries, remove, same_map}
 use Rattle.std.specs.FinMap.Entries.{below_all}
@@ -22,12 +21,12 @@ use Rattle.object_ids.proofs.PutLemmas.{insert_most}
 use Rattle.attributes.proofs.MapLemmas.{each_entry}
 use Rattle.documents.specs.Domains.Laws.{keys_of}
 use Rattle.documents.specs.Parts.Spelled.{AreListed, AreListedAt, AreListedIn, AreNew}
-use Rattle.json_import.proofs.OfFresh.PutLemmas.{get-put, or_none}
 use Rattle.documents.specs.Reader.Loads.{AreMembers, IsMember}
 use Rattle.json_import.specs.RoundTrips.Renamed.{at_texts}
 use Rattle.containers.proofs.Plain.{halves, less, both_tests}
 use Rattle.containers.proofs.TextMaps.TextOrders.{greater}
 use Rattle.documents.proofs.OfDomains.MemberLemmas.{Rising}
+use Rattle.containers.proofs.TextMaps.PutLemmas.{put_entries}
 
 module _ {X : Type 0} where
   -- the entry stands in the list
@@ -91,11 +90,6 @@ module _ {X : Type 0} where
   in_each P [] k x all there = absurd there
   in_each P (e ∷ es) k x all (inl h) = subst (λ y. P (k, y)) (sym h.1) (subst (λ q. P (q, e.1)) (sym h.0) all.0)
   in_each P (e ∷ es) k x all (inr later) = in_each P es k x all.1 later
-
-  -- the entries of a map, put one after another, make the map
-  put_entries : (m : FinMap text_order X) → with_entries empty (entries m) ≡ m
-  put_entries m = same_map nat_list_cmp_total exact_texts _ _ (λ q.
-      get-put empty (entries m) (entries_sorted m) q ∙ ap (option_or (find text_order q (entries m))) (get-empty text_order q) ∙ or_none (find text_order q (entries m)) ∙ sym (get-entries m q))
 
   abbrev AreFree : FinMap text_order X → List (List ℕ × X) → Type 0
   AreFree m es = AllByRecursion (λ e. get m e.0 ≡ None) es
