@@ -1,5 +1,5 @@
 -- The values of a list, seen as data, and lists read member by member.
-use Rattle.std.proofs.Common.{◌≡◌, ℕ, true, false, List, [], ◌∷◌, map, length, Option, Some, None, option_map, option_and_then, suc, subst, refl, ap, IsUtf8, ◌∙◌}
+use Rattle.std.proofs.Common.{◌≡◌, ℕ, Bool, true, false, List, [], ◌∷◌, map, length, Option, Some, None, option_map, option_and_then, suc, subst, refl, ap, IsUtf8, ◌∙◌}
 use Rattle.std.proofs.lemmas.Bool.{false≢true, cond-true, cond-false}
 use Rattle.serde_json.specs.Data.{Data, Items, null, boolean, number, string, array, object, unsigned, negative, float}
 use Rattle.serde_json.specs.Find.{as_str}
