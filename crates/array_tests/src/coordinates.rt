@@ -50,8 +50,8 @@ pub fn slab_coords(alloc: Global, slab: &Slab) -> Result<Vec<Dims>, AllocError>
     Ok(cells)
 }
 
-/// The cells of a shape, so many of them from a place on.
-pub fn place_coords(
+/// The cells of a shape, so many of them from a linear index on.
+pub fn index_coords(
     alloc: Global,
     shape: &Shape,
     from: u64,

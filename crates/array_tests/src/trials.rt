@@ -9,7 +9,7 @@ ghost use Rattle.shapes.specs.Shapes.{IsSound, LiesIn};
 ghost use Rattle.point_select.specs.declared.TheConstants.{MAX_POINTS};
 ghost use Rattle.hyperslab.specs.Selected.{IsSlab, SlabIn};
 
-use crate::coordinates::{cell_of_chunk, coords_in, place_coords, slab_coords};
+use crate::coordinates::{cell_of_chunk, coords_in, index_coords, slab_coords};
 use crate::plain::PlainArray;
 use crate::tables::tree;
 use crate::twins;
@@ -108,12 +108,12 @@ fn set_selected(cells: &mut [Cell], slab: &Slab, letters: &[u8]) {
 
 fn set_from(cells: &mut [Cell], from: u64, letters: &[u8]) {
     let mut rest = letters.iter();
-    let mut place = 0u64;
+    let mut index = 0u64;
     for cell in cells {
-        if place >= from {
+        if index >= from {
             put_letter(cell, rest.next());
         }
-        place = place.saturating_add(1);
+        index = index.saturating_add(1);
     }
 }
 
@@ -363,7 +363,7 @@ fn write_places(
         from <= cell_count && letters.len() as u64 <= cell_count - from,
         "places {place}"
     );
-    let picked = place_coords(rt.alloc(), twins.array.shape(), from, letters.len() as u64)?;
+    let picked = index_coords(rt.alloc(), twins.array.shape(), from, letters.len() as u64)?;
     twins
         .array
         .write_places(rt.alloc(), from, bytes.as_slice())?;
@@ -507,7 +507,7 @@ fn read_some(
     check_read(rt, &twins.array, letters.as_slice(), bytes.as_slice())
 }
 
-/// Reads the cells from a place on.
+/// Reads the cells from a linear index on.
 fn read_from(
     rt: &(impl Abort + AllocGlobal),
     twins: &Twins,

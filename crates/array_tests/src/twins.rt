@@ -6,7 +6,7 @@ ghost use Rattle.hyperslab.specs.Selected.{IsSlab, SlabIn};
 ghost use Rattle.point_select.specs.declared.TheConstants.{MAX_POINTS};
 ghost use Rattle.chunk_store.specs.Marks.{state};
 
-use crate::coordinates::{place_coords, slab_coords};
+use crate::coordinates::{index_coords, slab_coords};
 use crate::plain::PlainArray;
 use chunk_store::{Array, InstallFault};
 use hyperslab::Slab;
@@ -61,7 +61,7 @@ pub fn read_points(
     Ok(bytes)
 }
 
-/// The bytes of so many cells from a place on, which both arrays have.
+/// The bytes of so many cells from a linear index on, which both arrays have.
 pub fn read_places(
     rt: &(impl Abort + AllocGlobal),
     array: &Array,
@@ -73,7 +73,7 @@ pub fn read_places(
 {
     array.is_whole();
     let bytes = array.read_places(rt.alloc(), from, many)?;
-    let cells = place_coords(rt.alloc(), array.shape(), from, many)?;
+    let cells = index_coords(rt.alloc(), array.shape(), from, many)?;
     let want = plain.read(rt.alloc(), cells.as_slice())?;
     assert!(rt;
         bytes.as_slice() == want.as_slice(),

@@ -1,13 +1,13 @@
--- Chunks and places in them, on each axis by quotient and remainder.
+-- Chunks and offsets in them, on each axis by quotient and remainder.
 use Rattle.std.proofs.Common.{◌≡◌, ℕ, zero, suc, ◌+◌, ◌*◌, ◌/◌, ◌%◌, ◌<◌, ◌≤◌, List, [], ◌∷◌, ◌++◌, length, drop, get_or, All, refl, sym, ap, ◌∙◌, arith}
 use Rattle.std.proofs.lemmas.Nat.{div-add-mod', div-mul-add, mod-mul-add, div_below, mod_below, mul-le}
 use Rattle.std.proofs.lemmas.List.{drop_more, drop_all, append_assoc, append-nil, length-map, get_or-map}
 use Rattle.std.proofs.lemmas.List.Elements.{All-head, All-tail, All-get_or}
 use Rattle.shapes.specs.declared.TheConstants.{MAX_EXTENT}
-use Rattle.shapes.specs.Places.{cell_count, IsInside, place, coordinates, digits_by}
-use Rattle.shapes.proofs.PlaceLemmas.{place_below, place_once, horner_bound, horner_end, step_next as step_next_dim, step_above}
+use Rattle.shapes.specs.RowMajor.{cell_count, IsInside, linear_index, coordinates, digits_by}
+use Rattle.shapes.proofs.RowMajorLemmas.{index_below, index_once, horner_bound, horner_end, step_next as step_next_dim, step_above}
 use Rattle.shapes.proofs.CellLemmas.{digits_in}
-use Rattle.shapes.proofs.GridLemmas.{length-coordinates, coordinates-place}
+use Rattle.shapes.proofs.GridLemmas.{length-coordinates, coordinates-index}
 use Rattle.chunk_layout.specs.Chunks.{IsChunkDim, quotients, remainders, offset_of, corner, added, cell_at, chunk_cells}
 
 pub dim_at : (ns : List ℕ) (i : ℕ) → All IsChunkDim ns → i < length ns → 1 ≤ get_or ns i 0
@@ -43,11 +43,11 @@ remainder_at (x ∷ xs) (n ∷ ns) (suc i) e h = remainder_at xs ns i (omega (ar
 regrouped : (t n r c p q : ℕ) → t * (n * c) + (r * c + q) ≡ p → (t * n + r) * c + q ≡ p
 regrouped t n r c p q e = omega (arith, e)
 
-pub offset_next : (t i : ℕ) (rs ns : List ℕ) (p : ℕ) → i < length rs → i < length ns → t * cell_count (drop i ns) + place (drop i rs) (drop i ns) ≡ p
-    → (t * get_or ns i 0 + get_or rs i 0) * cell_count (drop (i + 1) ns) + place (drop (i + 1) rs) (drop (i + 1) ns) ≡ p
+pub offset_next : (t i : ℕ) (rs ns : List ℕ) (p : ℕ) → i < length rs → i < length ns → t * cell_count (drop i ns) + linear_index (drop i rs) (drop i ns) ≡ p
+    → (t * get_or ns i 0 + get_or rs i 0) * cell_count (drop (i + 1) ns) + linear_index (drop (i + 1) rs) (drop (i + 1) ns) ≡ p
 offset_next t i rs ns p h k e =
     let whole = rw (drop_more rs i 0 h, drop_more ns i 0 k) at e in
-    regrouped t (get_or ns i 0) (get_or rs i 0) (cell_count (drop (i + 1) ns)) p (place (drop (i + 1) rs) (drop (i + 1) ns)) whole
+    regrouped t (get_or ns i 0) (get_or rs i 0) (cell_count (drop (i + 1) ns)) p (linear_index (drop (i + 1) rs) (drop (i + 1) ns)) whole
 
 pub inside_next : (i : ℕ) (rs ns : List ℕ) → i < length rs → i < length ns → IsInside (drop i rs) (drop i ns) → IsInside (drop (i + 1) rs) (drop (i + 1) ns)
 inside_next i rs ns h k inside =
@@ -57,7 +57,7 @@ inside_next i rs ns h k inside =
 -- ---- the laws
 
 pub offset_below : (xs ns : List ℕ) → All IsChunkDim ns → length xs ≡ length ns → offset_of xs ns < cell_count ns
-offset_below xs ns h e = place_below (remainders xs ns) ns (inside_remainders xs ns h e)
+offset_below xs ns h e = index_below (remainders xs ns) ns (inside_remainders xs ns h e)
 
 same_number : (x y n : ℕ) → x / n ≡ y / n → x % n ≡ y % n → x ≡ y
 same_number x y n q r = sym (div-add-mod' x n) ∙ rw (q, r) (div-add-mod' y n)
@@ -77,9 +77,9 @@ same_cells (n ∷ ns) (x ∷ xs) (y ∷ ys) e f q r =
 
 pub one_cell_there : (ns xs ys : List ℕ) → All IsChunkDim ns → length xs ≡ length ns → length ys ≡ length ns → quotients xs ns ≡ quotients ys ns → offset_of xs ns ≡ offset_of ys ns → xs ≡ ys
 one_cell_there ns xs ys h e f q o =
-    same_cells ns xs ys e f q (place_once (remainders xs ns) (remainders ys ns) ns (inside_remainders xs ns h e) (inside_remainders ys ns h f) o)
+    same_cells ns xs ys e f q (index_once (remainders xs ns) (remainders ys ns) ns (inside_remainders xs ns h e) (inside_remainders ys ns h f) o)
 
--- ---- the cell at a place of a chunk
+-- ---- the cell at an offset of a chunk
 
 -- the cell of a chunk with these coordinates inside it
 parts_again : (ns qs rs : List ℕ) → length qs ≡ length ns → IsInside rs ns → (quotients (added (corner qs ns) rs) ns ≡ qs) × (remainders (added (corner qs ns) rs) ns ≡ rs)
@@ -104,7 +104,7 @@ cell_chunk ns qs k h e l = (parts_again ns qs (digits_by ns k) e (digits_in ns k
 pub cell_offset : (ns qs : List ℕ) (k : ℕ) → All IsChunkDim ns → length qs ≡ length ns → k < cell_count ns → offset_of (cell_at qs k ns) ns ≡ k
 cell_offset ns qs k h e l =
     let placed = digits_in ns k l in
-    ap (λ rs. place rs ns) (parts_again ns qs (digits_by ns k) e placed.0).1 ∙ placed.1
+    ap (λ rs. linear_index rs ns) (parts_again ns qs (digits_by ns k) e placed.0).1 ∙ placed.1
 
 length-quotients : (xs ns : List ℕ) → length xs ≡ length ns → length (quotients xs ns) ≡ length ns
 length-quotients [] [] e = refl
@@ -129,7 +129,7 @@ chunk_listed ns qs k h l =
     let placed = digits_in ns k l in
     let f = λ (inner : List ℕ). added (corner qs ns) inner in
     let low : k < length (coordinates ns) = rw (length-coordinates ns) l in
-    get_or-map f (coordinates ns) k [] [] low ∙ ap f (ap (λ j. get_or (coordinates ns) j []) (sym placed.1) ∙ coordinates-place (digits_by ns k) ns placed.0)
+    get_or-map f (coordinates ns) k [] [] low ∙ ap f (ap (λ j. get_or (coordinates ns) j []) (sym placed.1) ∙ coordinates-index (digits_by ns k) ns placed.0)
 
 -- ---- one step towards the cell
 
@@ -170,7 +170,7 @@ step_number t n x i xs ns same within en ex =
     cc
 
 pub step_bound : (t n x i : ℕ) (xs ns : List ℕ) → All IsChunkDim ns → length xs ≡ length ns → i < length ns → n ≡ get_or ns i 0 → x ≡ get_or xs i 0
-    → IsInside (drop i (remainders xs ns)) (drop i ns) → t * cell_count (drop i ns) + place (drop i (remainders xs ns)) (drop i ns) ≡ offset_of xs ns → t * n + x % n < cell_count ns
+    → IsInside (drop i (remainders xs ns)) (drop i ns) → t * cell_count (drop i ns) + linear_index (drop i (remainders xs ns)) (drop i ns) ≡ offset_of xs ns → t * n + x % n < cell_count ns
 step_bound t n x i xs ns h same within en ex inside e =
     let long = length-remainders xs ns same in
     let along : i < length (remainders xs ns) = omega (arith, long, within) in
@@ -179,12 +179,12 @@ step_bound t n x i xs ns h same within en ex inside e =
     omega (arith, below, number, offset_below xs ns h same)
 
 pub step_next : (t n x i : ℕ) (xs ns : List ℕ) → length xs ≡ length ns → i < length ns → n ≡ get_or ns i 0 → x ≡ get_or xs i 0
-    → t * cell_count (drop i ns) + place (drop i (remainders xs ns)) (drop i ns) ≡ offset_of xs ns
-    → (t * n + x % n) * cell_count (drop (i + 1) ns) + place (drop (i + 1) (remainders xs ns)) (drop (i + 1) ns) ≡ offset_of xs ns
+    → t * cell_count (drop i ns) + linear_index (drop i (remainders xs ns)) (drop i ns) ≡ offset_of xs ns
+    → (t * n + x % n) * cell_count (drop (i + 1) ns) + linear_index (drop (i + 1) (remainders xs ns)) (drop (i + 1) ns) ≡ offset_of xs ns
 step_next t n x i xs ns same within en ex e =
     let long = length-remainders xs ns same in
     let along : i < length (remainders xs ns) = omega (arith, long, within) in
-    ap (λ z. z * cell_count (drop (i + 1) ns) + place (drop (i + 1) (remainders xs ns)) (drop (i + 1) ns)) (step_number t n x i xs ns same within en ex)
+    ap (λ z. z * cell_count (drop (i + 1) ns) + linear_index (drop (i + 1) (remainders xs ns)) (drop (i + 1) ns)) (step_number t n x i xs ns same within en ex)
     ∙ offset_next t i (remainders xs ns) ns (offset_of xs ns) along within e
 
 pub step_inside : (i : ℕ) (xs ns : List ℕ) → length xs ≡ length ns → i < length ns → IsInside (drop i (remainders xs ns)) (drop i ns) → IsInside (drop (i + 1) (remainders xs ns)) (drop (i + 1) ns)
@@ -193,10 +193,10 @@ step_inside i xs ns same within inside =
     let along : i < length (remainders xs ns) = omega (arith, long, within) in
     inside_next i (remainders xs ns) ns along within inside
 
-pub step_end : (t i : ℕ) (xs ns : List ℕ) → length xs ≡ length ns → length ns ≤ i → t * cell_count (drop i ns) + place (drop i (remainders xs ns)) (drop i ns) ≡ offset_of xs ns → t ≡ offset_of xs ns
+pub step_end : (t i : ℕ) (xs ns : List ℕ) → length xs ≡ length ns → length ns ≤ i → t * cell_count (drop i ns) + linear_index (drop i (remainders xs ns)) (drop i ns) ≡ offset_of xs ns → t ≡ offset_of xs ns
 step_end t i xs ns same past e =
     let long = length-remainders xs ns same in
     horner_end t i (remainders xs ns) ns (offset_of xs ns) past (omega (arith, long, past)) e
 
-pub step_first : (xs ns : List ℕ) → 0 * cell_count ns + place (remainders xs ns) ns ≡ offset_of xs ns
+pub step_first : (xs ns : List ℕ) → 0 * cell_count ns + linear_index (remainders xs ns) ns ≡ offset_of xs ns
 step_first xs ns = omega arith

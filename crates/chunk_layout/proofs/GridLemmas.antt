@@ -8,7 +8,7 @@ use Rattle.std.proofs.lemmas.List.Elements.{All-nil, All-cons, All-head, All-tai
 use Rattle.shapes.specs.declared.Shape.{Shape}
 use Rattle.shapes.specs.declared.Shape.TheVariants.{Null, Scalar, Simple}
 use Rattle.shapes.specs.declared.TheConstants.{MAX_EXTENT}
-use Rattle.shapes.specs.Places.{IsInside}
+use Rattle.shapes.specs.RowMajor.{IsInside}
 use Rattle.shapes.specs.Shapes.{IsSound, LiesIn, dims_of}
 use Rattle.chunk_layout.specs.Chunks.{IsChunkDim, quotients, corner}
 use Rattle.chunk_layout.specs.Grids.{grid_dims, LiesInGrid}

@@ -18,7 +18,7 @@ use Rattle.json_trees.proofs.FaultLemmas.{chosen, test_ok}
 use Rattle.shapes.specs.declared.Shape.{Shape}
 use Rattle.shapes.specs.declared.TheConstants.{MAX_RANK, MAX_EXTENT, MAX_CHUNK_BYTES}
 use Rattle.shapes.specs.Extents.{SpellsList}
-use Rattle.shapes.specs.Places.{cell_count}
+use Rattle.shapes.specs.RowMajor.{cell_count}
 use Rattle.shapes.specs.Shapes.{IsSound, dims_of}
 use Rattle.shapes.proofs.SpelledLemmas.{take_kept}
 use Rattle.chunk_layout.specs.declared.Layout.{Layout}

@@ -2,7 +2,7 @@
 use Rattle.std.proofs.Common.{◌≡◌, ℕ, ◌*◌, ◌-◌, ◌^◌, ◌≤◌, ◌&&◌, min, List, length, drop, nat_lt, ap, ◌∙◌, arith}
 use Rattle.std.proofs.lemmas.Bool.Decides.{nat_tests}
 use Rattle.std.proofs.lemmas.List.{drop_all}
-use Rattle.shapes.specs.Places.{cell_count}
+use Rattle.shapes.specs.RowMajor.{cell_count}
 use Rattle.shapes.specs.declared.TheConstants.{MAX_CHUNK_BYTES}
 
 pub bytes_end : (t i m : ℕ) (ns : List ℕ) → length ns ≤ i → t ≤ m → t ≡ min (t * cell_count (drop i ns)) m

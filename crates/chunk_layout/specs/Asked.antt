@@ -6,7 +6,7 @@ use Rattle.std.specs.Str.{bytes_eq}
 use Rattle.serde_json.specs.Data.{Data}
 use Rattle.serde_json.specs.Find.{get, as_object}
 use Rattle.json_trees.specs.Trees.{all_in, list_in, whole_in, text_at}
-use Rattle.shapes.specs.Places.{cell_count}
+use Rattle.shapes.specs.RowMajor.{cell_count}
 use Rattle.shapes.specs.declared.TheConstants.{MAX_EXTENT, MAX_CHUNK_BYTES}
 use Rattle.chunk_layout.specs.declared.Layout.{Layout}
 use Rattle.chunk_layout.specs.declared.LayoutFault.{LayoutFault}

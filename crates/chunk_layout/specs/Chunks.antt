@@ -1,7 +1,7 @@
--- A grid that is cut into chunks of one size: the chunk of a cell, and its place there.
+-- A grid that is cut into chunks of one size: the chunk of a cell, and its offset there.
 pub use Rattle.shapes.specs.ChunkDims.{IsChunkDim, IsChunk}
 use Rattle.std.specs.Prelude.{ℕ, ◌+◌, ◌*◌, ◌/◌, ◌%◌, List, [], ◌∷◌, map}
-use Rattle.shapes.specs.Places.{place, coordinates, digits_by}
+use Rattle.shapes.specs.RowMajor.{linear_index, coordinates, digits_by}
 
 -- the chunk in which a cell lies: on each axis, how many chunks lie before it
 abbrev pub quotients : List ℕ → List ℕ → List ℕ
@@ -15,9 +15,9 @@ remainders [] ns = []
 remainders (x ∷ xs) [] = []
 remainders (x ∷ xs) (n ∷ ns) = x % n ∷ remainders xs ns
 
--- the row-major place of the cell inside its chunk
+-- the linear index of the cell inside its chunk (row-major)
 abbrev pub offset_of : List ℕ → List ℕ → ℕ
-offset_of at chunk = place (remainders at chunk) chunk
+offset_of at chunk = linear_index (remainders at chunk) chunk
 
 -- the first cell of a chunk
 abbrev pub corner : List ℕ → List ℕ → List ℕ
@@ -31,7 +31,7 @@ added [] ys = []
 added (x ∷ xs) [] = []
 added (x ∷ xs) (y ∷ ys) = (x + y) ∷ added xs ys
 
--- the cell at a place of a chunk, whose digits are its coordinates there
+-- the cell at an offset of a chunk, whose digits are its coordinates there
 abbrev pub cell_at : List ℕ → ℕ → List ℕ → List ℕ
 cell_at index offset chunk = added (corner index chunk) (digits_by chunk offset)
 

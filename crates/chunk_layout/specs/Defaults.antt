@@ -1,6 +1,6 @@
 -- The chunk that a grid has where none is asked for.
 use Rattle.std.specs.Prelude.{◌≡◌, ℕ, zero, suc, ◌+◌, ◌*◌, ◌/◌, ◌<◌, max, List, [], ◌∷◌, map, nat_eq, if◌then◌else◌}
-use Rattle.shapes.specs.Places.{cell_count}
+use Rattle.shapes.specs.RowMajor.{cell_count}
 use Rattle.chunk_layout.specs.declared.TheConstants.{DEFAULT_CHUNK_BYTES}
 
 -- the dims, with 0 taken as 1

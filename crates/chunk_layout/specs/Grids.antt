@@ -3,7 +3,7 @@ use Rattle.std.specs.Prelude.{ℕ, List, [], ◌∷◌}
 use Rattle.std.specs.Int.{div_ceil}
 use Rattle.shapes.specs.declared.Shape.{Shape}
 use Rattle.shapes.specs.declared.Shape.TheVariants.{Null, Scalar, Simple}
-use Rattle.shapes.specs.Places.{IsInside}
+use Rattle.shapes.specs.RowMajor.{IsInside}
 
 -- on each axis, the dim over the chunk's, rounded up
 abbrev pub grid_dims : List ℕ → List ℕ → List ℕ

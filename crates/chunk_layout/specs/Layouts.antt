@@ -3,7 +3,7 @@ use Rattle.std.specs.Prelude.{◌≡◌, ℕ, ◌*◌, ◌≤◌, ◌⊎◌, Lis
 use Rattle.serde_json.specs.Data.{Data, Members, object, number, unsigned}
 use Rattle.serde_json.specs.Find.{get}
 use Rattle.shapes.specs.Extents.{SpellsList}
-use Rattle.shapes.specs.Places.{cell_count}
+use Rattle.shapes.specs.RowMajor.{cell_count}
 use Rattle.shapes.specs.declared.TheConstants.{MAX_CHUNK_BYTES}
 use Rattle.chunk_layout.specs.Chunks.{IsChunkDim}
 use Rattle.chunk_layout.specs.Defaults.{IsDefault}

@@ -4,7 +4,7 @@ pub mod Defaults
 pub mod Layouts
 pub mod Asked
 pub use Rattle.shapes.specs.Extents
-pub use Rattle.shapes.specs.Places
+pub use Rattle.shapes.specs.RowMajor
 pub use Rattle.shapes.specs.Shapes
 pub use Rattle.json_trees.specs.Trees
 pub use Rattle.serde_json.specs.View

@@ -1,8 +1,8 @@
-//! The chunk of a cell, and its place there; and the cell at a place of a chunk.
+//! The chunk of a cell, and its offset there; and the cell at an offset of a chunk.
 
 ghost use Rattle.std.specs.Prelude.{◌≡◌, ◌+◌, ◌*◌, ◌^◌, ◌<◌, ◌≤◌, ℕ};
 ghost use Rattle.std.specs.Prelude.{List, [], All, length, slice_index_or};
-ghost use Rattle.shapes.specs.Places.{cell_count};
+ghost use Rattle.shapes.specs.RowMajor.{cell_count};
 ghost use Rattle.chunk_layout.specs.Chunks.{IsChunk, quotients, offset_of, cell_at, chunk_cells};
 
 use crate::Layout;
@@ -22,7 +22,7 @@ pub fn chunk_of(layout: &Layout, at: &Dims) -> Dims
     chunk
 }
 
-/// The row-major place of a cell inside its chunk.
+/// The linear index of a cell inside its chunk (row-major).
 pub fn offset_in(layout: &Layout, at: &Dims) -> u64
     requires chunk { IsChunk layout.now.chunk }
     requires ranks { length at.now ≡ length layout.now.chunk }
@@ -37,7 +37,7 @@ pub fn offset_in(layout: &Layout, at: &Dims) -> u64
     total
 }
 
-/// The cell at a row-major place of a chunk: the inverse of [`chunk_of`] and [`offset_in`].
+/// The cell at an offset of a chunk: the inverse of [`chunk_of`] and [`offset_in`].
 pub fn coords_in_chunk(layout: &Layout, index: &Dims, offset: u64) -> Dims
     requires chunk { IsChunk layout.now.chunk }
     requires ranks { length index.now ≡ length layout.now.chunk }
@@ -79,10 +79,10 @@ fn number(before: u64, n: u64, digit: u64) -> u64
     before * n + digit
 }
 
-/// Each cell has one chunk and one place in it, and each chunk and place in it one cell: the cells
-/// of a chunk in row-major order have the places from 0 on.
+/// Each cell has one chunk and one offset in it, and each chunk and offset in it one cell: the
+/// cells of a chunk in row-major order have the offsets from 0 on.
 pub fn chunk_and_offset()
-    ensures placed { (chunk at : List ℕ) → IsChunk chunk → length at ≡ length chunk
+    ensures below { (chunk at : List ℕ) → IsChunk chunk → length at ≡ length chunk
         → offset_of at chunk < cell_count chunk }
     ensures one { (chunk xs ys : List ℕ) → IsChunk chunk
         → length xs ≡ length chunk → length ys ≡ length chunk

@@ -1,7 +1,7 @@
 //! The layout of an array for which none is asked.
 
 ghost use Rattle.std.specs.Prelude.{◌≡◌, ◌*◌, ◌≤◌, ◌<◌, ◌↔◌, ◌⊎◌, ℕ, List, All, length, IsTrue, IsSome};
-ghost use Rattle.shapes.specs.Places.{cell_count};
+ghost use Rattle.shapes.specs.RowMajor.{cell_count};
 ghost use Rattle.shapes.specs.Shapes.{IsSound, dims_of};
 ghost use Rattle.chunk_layout.specs.Chunks.{IsChunk};
 ghost use Rattle.chunk_layout.specs.Defaults.{at_least_one, largest, halve_first, halved, IsLarge, IsHalvedDown, IsDefault};

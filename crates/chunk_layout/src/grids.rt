@@ -1,7 +1,7 @@
 //! Which chunks an array has.
 
 ghost use Rattle.std.specs.Prelude.{◌≡◌, ◌<◌, ◌≤◌, ◌^◌, ◌↔◌, ℕ, List, All, length, IsTrue};
-ghost use Rattle.shapes.specs.Places.{IsInside};
+ghost use Rattle.shapes.specs.RowMajor.{IsInside};
 ghost use Rattle.shapes.specs.declared.Shape.{Shape};
 ghost use Rattle.shapes.specs.Shapes.{IsSound, dims_of, LiesIn};
 ghost use Rattle.chunk_layout.specs.Chunks.{IsChunkDim, IsChunk, quotients, corner};

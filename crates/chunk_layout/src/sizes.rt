@@ -1,7 +1,7 @@
 //! How many bytes and how many cells a chunk has.
 
 ghost use Rattle.std.specs.Prelude.{◌≡◌, ◌*◌, ◌-◌, ◌^◌, min};
-ghost use Rattle.shapes.specs.Places.{cell_count};
+ghost use Rattle.shapes.specs.RowMajor.{cell_count};
 ghost use Rattle.chunk_layout.specs.Chunks.{IsChunk};
 
 use crate::Layout;

@@ -3,7 +3,7 @@ use Rattle.std.proofs.Common.{◌≡◌, ℕ, ◌≤◌, All, List, [], length, 
 use Rattle.json_trees.proofs.TreeLemmas.{length-AllZip}
 use Rattle.shapes.specs.declared.Shape.{Shape}
 use Rattle.shapes.specs.declared.Shape.TheVariants.{Null, Scalar, Simple}
-use Rattle.shapes.specs.Places.{cell_count}
+use Rattle.shapes.specs.RowMajor.{cell_count}
 use Rattle.shapes.specs.Shapes.{dims_of}
 use Rattle.hyperslab.specs.declared.Slab.{Slab}
 use Rattle.hyperslab.specs.Selected.{Axis, FitsIn, IsSlab, SlabIn, axes_of, extents, selected, slab_cells}

@@ -8,7 +8,7 @@ use Rattle.std.proofs.lemmas.List.{take_all}
 use Rattle.std.proofs.lemmas.Slice.Eq.{bytes_eq-Decides}
 use Rattle.containers.specs.ShortLists.Order.{list_order}
 use Rattle.hdf_values.specs.Nested.{piece_at}
-use Rattle.shapes.specs.Places.{cell_count}
+use Rattle.shapes.specs.RowMajor.{cell_count}
 use Rattle.chunk_layout.specs.Chunks.{quotients, offset_of}
 use Rattle.chunk_layout.proofs.CellLemmas.{offset_below}
 use Rattle.chunk_store.specs.StridedCopies.Strides.{AreCopied}

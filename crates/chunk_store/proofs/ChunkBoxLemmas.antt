@@ -3,7 +3,7 @@ use Rattle.std.proofs.Common.{◌≡◌, ℕ, suc, ◌+◌, ◌*◌, ◌-◌, �
 use Rattle.std.specs.List.{AllZip}
 use Rattle.std.proofs.lemmas.Nat.{mul-le, mod_below, div-add-mod', div-mul-add}
 use Rattle.std.proofs.lemmas.List.Elements.{All-head, All-tail}
-use Rattle.shapes.specs.Places.{place}
+use Rattle.shapes.specs.RowMajor.{linear_index}
 use Rattle.chunk_layout.specs.Chunks.{IsChunkDim, corner, offset_of, quotients, remainders}
 use Rattle.hyperslab.specs.Runs.{InBox, inner, offset_from}
 
@@ -43,7 +43,7 @@ box_of_chunk ns qs xs h e f = (
 )
 
 pub offset_in_chunk : (ns xs : List ℕ) → length xs ≡ length ns → offset_from xs (corner (quotients xs ns) ns) ns ≡ offset_of xs ns
-offset_in_chunk ns xs e = ap (λ ms. place ms ns) (inner_chunk ns xs e)
+offset_in_chunk ns xs e = ap (λ ms. linear_index ms ns) (inner_chunk ns xs e)
 
 pub length-corner : (ns qs : List ℕ) → length qs ≡ length ns → length (corner qs ns) ≡ length ns
 length-corner [] [] e = refl

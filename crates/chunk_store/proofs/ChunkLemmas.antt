@@ -21,7 +21,7 @@ use Rattle.hdf_values.proofs.EncodedLemmas.{length-encoded}
 use Rattle.hdf_values.proofs.PieceLemmas.{some_size, encoded_each}
 use Rattle.shapes.specs.declared.Shape.{Shape}
 use Rattle.shapes.specs.declared.Shape.TheVariants.{Null, Scalar, Simple}
-use Rattle.shapes.specs.Places.{IsInside, cell_count}
+use Rattle.shapes.specs.RowMajor.{IsInside, cell_count}
 use Rattle.shapes.specs.Shapes.{LiesIn, lies_in, dims_of}
 use Rattle.shapes.proofs.InsideLemmas.{inside_read, inside_told, lies_told, lies_read}
 use Rattle.chunk_layout.specs.Chunks.{IsChunkDim, IsChunk, quotients, offset_of, corner, cell_at, chunk_cells}
@@ -60,7 +60,7 @@ index_here h i w g =
 
 -- ---- walks over a chunk's cells
 
--- the bytes from a place on hold a piece more
+-- the bytes from a piece on hold that piece
 pub piece_room : (n k size : ℕ) (bs rest : List ℕ) → rest ≡ drop (k * size) bs → length bs ≡ n * size → k < n → size ≤ length rest
 piece_room n k size bs rest is whole low =
     let wide : suc k * size ≤ n * size = mul-le (suc k) size n size low (omega arith) in
@@ -71,7 +71,7 @@ piece_next k size bs rest is =
     let more : (k + 1) * size ≡ size + k * size = omega arith in
     ap (drop size) is ∙ drop-drop size (k * size) bs ∙ ap (λ n. drop n bs) (omega (arith, more))
 
--- what holds of the members before a place, and of the one there
+-- what holds of the members before an index, and of the one there
 pub before_next : (P : List ℕ → Type 0) (xs : List (List ℕ)) (k : ℕ) (x : List ℕ) → get_or xs k [] ≡ x → ((j : ℕ) → j < k → P (get_or xs j [])) → P x → (j : ℕ) → j < k + 1 → P (get_or xs j [])
 before_next P xs k x here before now j low = elim (cases_lt j k) [
   | inl less ↦ before j less
@@ -122,7 +122,7 @@ last_lies s chunk i at dims last lies k low =
     each Scalar h = inside_read (cell_at i k chunk) [] (last_inside chunk i [] k dims low (inside_told (cell_at i (cell_count chunk - 1) chunk) [] h))
     each (Simple ds limits) h = inside_read (cell_at i k chunk) ds (last_inside chunk i ds k dims low (inside_told (cell_at i (cell_count chunk - 1) chunk) ds h))
 
--- the bytes of cells, where those of a chunk up to a place are pieces of these
+-- the bytes of cells, where those of a chunk up to an offset are pieces of these
 abbrev pub filled : List ℕ → List ℕ → ℕ → List ℕ → (List ℕ → List ℕ) → ℕ → List ℕ → List ℕ
 filled chunk i size bs f k q = cond (bytes_eq (quotients q chunk) i && nat_lt (offset_of q chunk) k) (piece_at size (offset_of q chunk) bs) (f q)
 
@@ -136,14 +136,14 @@ filled_other true o k x y h = ap (λ c. cond c x y) (lt_next o k (h refl))
 lt_self : (k : ℕ) → nat_lt k (k + 1) ≡ true
 lt_self k = grind (arith, nat_tests)
 
--- another cell than the one at the place stays as it was
+-- another cell than the one at the offset stays as it was
 pub filled_apart : (chunk i at q : List ℕ) (size k : ℕ) (bs : List ℕ) (f : List ℕ → List ℕ) → All IsChunkDim chunk → length q ≡ length chunk → length at ≡ length chunk → quotients at chunk ≡ i → offset_of at chunk ≡ k
     → (at ≡ q → ⊥) → filled chunk i size bs f k q ≡ filled chunk i size bs f (k + 1) q
 filled_apart chunk i at q size k bs f dims rank at_rank here there apart =
     filled_other (bytes_eq (quotients q chunk) i) (offset_of q chunk) k (piece_at size (offset_of q chunk) bs) (f q)
     (λ same o. apart (one_cell_there chunk at q dims at_rank rank (here ∙ sym ((bytes_eq-Decides (quotients q chunk) i).0 same)) (there ∙ sym o)))
 
--- the cell at the place has its piece
+-- the cell at the offset has its piece
 pub filled_here : (chunk i at : List ℕ) (size k : ℕ) (bs : List ℕ) (f : List ℕ → List ℕ) → quotients at chunk ≡ i → offset_of at chunk ≡ k → filled chunk i size bs f (k + 1) at ≡ piece_at size k bs
 filled_here chunk i at size k bs f here there =
     let same = (bytes_eq-Decides (quotients at chunk) i).1 here in
@@ -274,7 +274,7 @@ module _ (e : Elem) (s : Shape) (c : List ℕ) (given : Bool) (blank : List ℕ)
 pub as_many : (e : Elem) (n : ℕ) (bs : List ℕ) → IsFormed e → AreEncoded e n bs → length bs / size_of e ≡ n
 as_many e n bs w enc = ap (λ k. k / size_of e) (enc.whole ∙ mul_comm n (size_of e)) ∙ mul-div_cancel_left n (some_size e w)
 
--- of the cells outside, by their places in the chunk
+-- of the cells outside, by their offsets in the chunk
 abbrev pub IsBlankOutside : Grid → List ℕ → List ℕ → Type 0
 IsBlankOutside h i bytes = (k : ℕ) → k < cell_count h.chunk → lies_in (get_or (chunk_cells i h.chunk) k []) h.shape ≡ false → piece_at (size_of h.kind) k bytes ≡ blank_of h.kind h.fill
 

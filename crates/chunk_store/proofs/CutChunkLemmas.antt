@@ -4,7 +4,7 @@ use Rattle.std.proofs.lemmas.Bool.{cases_Bool, cases_lt}
 use Rattle.std.proofs.lemmas.List.{take_all}
 use Rattle.hdf_values.specs.Nested.{piece_at}
 use Rattle.shapes.specs.declared.Shape.{Shape}
-use Rattle.shapes.specs.Places.{cell_count, is_inside}
+use Rattle.shapes.specs.RowMajor.{cell_count, is_inside}
 use Rattle.shapes.specs.Shapes.{IsResized, IsSound, lies_in, dims_of}
 use Rattle.shapes.proofs.InsideLemmas.{lies_told, inside_told, inside_read}
 use Rattle.chunk_layout.specs.Chunks.{IsChunkDim, quotients, offset_of, cell_at}

@@ -10,7 +10,7 @@ use Rattle.hdf_values.proofs.EncodedLemmas.{length-encoded}
 use Rattle.hdf_values.proofs.PieceLemmas.{some_size}
 use Rattle.shapes.specs.declared.Shape.{Shape}
 use Rattle.shapes.specs.declared.Shape.TheVariants.{Null, Scalar, Simple}
-use Rattle.shapes.specs.Places.{cell_count}
+use Rattle.shapes.specs.RowMajor.{cell_count}
 use Rattle.shapes.specs.Shapes.{LiesIn, lies_in, dims_of}
 use Rattle.shapes.proofs.InsideLemmas.{lies_told, lies_read}
 use Rattle.chunk_layout.specs.Chunks.{IsChunkDim, quotients, offset_of, corner, chunk_cells}
@@ -38,7 +38,7 @@ cut_tracked kept s t same states on = λ i.
     subst (λ (h : Grid). Stands (cut kept s i) (state t i) h i) (sym same)
     (subst (λ (o : Option Bool). Stands (cut kept s i) o s.grid i) (sym (states i)) (cut_stands (kept i) s.grid i (state s i) (on i)))
 
--- ---- each cell has one chunk and one place in it
+-- ---- each cell has one chunk and one offset in it
 
 pub cell_in_chunk : (at chunk : List ℕ) → All IsChunkDim chunk → length at ≡ length chunk
     → (offset_of at chunk < length (chunk_cells (quotients at chunk) chunk)) × (get_or (chunk_cells (quotients at chunk) chunk) (offset_of at chunk) [] ≡ at)
@@ -81,21 +81,21 @@ shown_size h w at =
     (λ on. length-encoded h.kind (value_at h at) w.kind.formed (w.values at (lies_told at h.shape on)))
     (length-encoded h.kind (blank_of h.kind h.fill) w.kind.formed w.blank)
 
--- the bytes at a cell's place in its chunk are the cell's
+-- the bytes at a cell's offset in its chunk are the cell's
 pub content_piece : (h : Grid) (at : List ℕ) → IsWhole h → LiesIn at h.shape → take (size_of h.kind) (drop (offset_of at h.chunk * size_of h.kind) (content h (quotients at h.chunk))) ≡ value_at h at
 unfolding content
 content_piece h at w on =
     let e : length at ≡ length h.chunk = lies_rank at h.shape on ∙ sym w.rank in
-    let place_in = cell_in_chunk at h.chunk w.dims e in
-    piece_of (shown h) (size_of h.kind) (shown_size h w) (chunk_cells (quotients at h.chunk) h.chunk) (offset_of at h.chunk) place_in.0
-    ∙ ap (shown h) place_in.1 ∙ ap (λ b. cond b (value_at h at) (blank_of h.kind h.fill)) (lies_read at h.shape on)
+    let in_chunk = cell_in_chunk at h.chunk w.dims e in
+    piece_of (shown h) (size_of h.kind) (shown_size h w) (chunk_cells (quotients at h.chunk) h.chunk) (offset_of at h.chunk) in_chunk.0
+    ∙ ap (shown h) in_chunk.1 ∙ ap (λ b. cond b (value_at h at) (blank_of h.kind h.fill)) (lies_read at h.shape on)
 
 pub blank_piece : (h : Grid) (at : List ℕ) → IsWhole h → LiesIn at h.shape → take (size_of h.kind) (drop (offset_of at h.chunk * size_of h.kind) (all_blank h (quotients at h.chunk))) ≡ blank_of h.kind h.fill
 unfolding all_blank
 blank_piece h at w on =
     let e : length at ≡ length h.chunk = lies_rank at h.shape on ∙ sym w.rank in
-    let place_in = cell_in_chunk at h.chunk w.dims e in
-    piece_of (λ x. blank_of h.kind h.fill) (size_of h.kind) (λ x. length-encoded h.kind (blank_of h.kind h.fill) w.kind.formed w.blank) (chunk_cells (quotients at h.chunk) h.chunk) (offset_of at h.chunk) place_in.0
+    let in_chunk = cell_in_chunk at h.chunk w.dims e in
+    piece_of (λ x. blank_of h.kind h.fill) (size_of h.kind) (λ x. length-encoded h.kind (blank_of h.kind h.fill) w.kind.formed w.blank) (chunk_cells (quotients at h.chunk) h.chunk) (offset_of at h.chunk) in_chunk.0
 
 pub take_nil : (k : ℕ) → take {A = ℕ} k [] ≡ []
 take_nil zero = refl

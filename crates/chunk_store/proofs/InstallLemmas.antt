@@ -7,7 +7,7 @@ use Rattle.std.proofs.lemmas.List.{take-append-drop, length-drop, drop-drop, len
 use Rattle.std.proofs.lemmas.Slice.Eq.{bytes_eq-Decides}
 use Rattle.hdf_types.specs.Reading.{size_of}
 use Rattle.hdf_values.proofs.PieceLemmas.{some_size}
-use Rattle.shapes.specs.Places.{cell_count}
+use Rattle.shapes.specs.RowMajor.{cell_count}
 use Rattle.shapes.specs.Shapes.{lies_in}
 use Rattle.shapes.proofs.InsideLemmas.{lies_told}
 use Rattle.chunk_layout.specs.Chunks.{IsChunkDim, quotients, offset_of, chunk_cells}
@@ -19,7 +19,7 @@ use Rattle.chunk_store.specs.Marks.{Stored, state, shown, content, all_blank, in
 use Rattle.chunk_store.proofs.CutLemmas.{body_take}
 use Rattle.chunk_store.proofs.TrackLemmas.{IsCellOf, cell_of_chunk, cells_of_chunk, rank_of, stands_same}
 
--- the cell at a place of a chunk
+-- the cell at an offset of a chunk
 pub cell_there : (chunk i : List ℕ) (k : ℕ) → All IsChunkDim chunk → length i ≡ length chunk → k < cell_count chunk → offset_of (get_or (chunk_cells i chunk) k []) chunk ≡ k
 cell_there chunk i k dims e low = ap (λ x. offset_of x chunk) (chunk_listed chunk i k dims low) ∙ cell_offset chunk i k dims e low
 
@@ -49,10 +49,10 @@ installed_content h i bytes w is =
     let x = get_or (chunk_cells i h.chunk) j [] in
     let cell : IsCellOf h.chunk i (get_or (chunk_cells i h.chunk) j []) = cell_of_chunk h.chunk i j w.dims rank (omega (arith, low, many)) in
     let here : quotients (get_or (chunk_cells i h.chunk) j []) h.chunk ≡ i = cell.1 in
-    let place_is : offset_of (get_or (chunk_cells i h.chunk) j []) h.chunk ≡ j = cell_there h.chunk i j w.dims rank (omega (arith, low, many)) in
+    let offset_is : offset_of (get_or (chunk_cells i h.chunk) j []) h.chunk ≡ j = cell_there h.chunk i j w.dims rank (omega (arith, low, many)) in
     let wide : suc j * size_of h.kind ≤ cell_count h.chunk * size_of h.kind = mul-le (suc j) (size_of h.kind) (cell_count h.chunk) (size_of h.kind) (omega (arith, low, many)) (omega arith) in
     let left : size_of h.kind ≤ length (drop (offset_of (get_or (chunk_cells i h.chunk) j []) h.chunk * size_of h.kind) bytes) =
-    rw (place_is, length-drop (j * size_of h.kind) bytes) (omega (arith, wide, is.encoded.whole)) in
+    rw (offset_is, length-drop (j * size_of h.kind) bytes) (omega (arith, wide, is.encoded.whole)) in
     let taken = body_take h bytes x (omega (arith, some, length-take-le (size_of h.kind) (drop (offset_of (get_or (chunk_cells i h.chunk) j []) h.chunk * size_of h.kind) bytes) left)) in
     let by_body : shown (with_chunk h i bytes) (get_or (chunk_cells i h.chunk) j []) ≡ body_value h bytes (get_or (chunk_cells i h.chunk) j []) = elim (cases_Bool (lies_in x h.shape)) [
       | inl on ↦
@@ -61,7 +61,7 @@ installed_content h i bytes w is =
           ∙ ap (λ b. cond b (body_value h bytes x) (value_at h x)) ((bytes_eq-Decides (quotients x h.chunk) i).1 here)
       | inr off ↦ ap (λ b. cond b (value_at (with_chunk h i bytes) x) (blank_of h.kind h.fill)) off ∙ sym (is.outside x cell.0 here off)
     ] in
-    by_body ∙ taken ∙ ap (λ n. take (size_of h.kind) (drop (n * size_of h.kind) bytes)) place_is)
+    by_body ∙ taken ∙ ap (λ n. take (size_of h.kind) (drop (n * size_of h.kind) bytes)) offset_is)
 
 pub other_content : (h : Grid) (i j bytes : List ℕ) → IsWhole h → (i ≡ j → ⊥) → in_grid h j ≡ true → content (with_chunk h i bytes) j ≡ content h j
 unfolding content

@@ -17,7 +17,7 @@ use Rattle.hdf_values.proofs.ElementLemmas.{zero_fits}
 use Rattle.hdf_values.proofs.PieceLemmas.{some_size, encoded_each}
 use Rattle.shapes.specs.declared.Shape.{Shape}
 use Rattle.shapes.specs.declared.Shape.TheVariants.{Null, Scalar, Simple}
-use Rattle.shapes.specs.Places.{cell_count}
+use Rattle.shapes.specs.RowMajor.{cell_count}
 use Rattle.shapes.specs.Shapes.{IsSound, LiesIn, lies_in, IsResized, dims_of}
 use Rattle.shapes.proofs.InsideLemmas.{lies_told, lies_read}
 use Rattle.chunk_layout.specs.Chunks.{IsChunk, quotients, offset_of, chunk_cells}
@@ -406,11 +406,11 @@ module _ (e : Elem) (s : Shape) (given : Bool) (f : Frame) where
       cut_grid : with_cut.grid ≡ cut_to old.grid dims
       cut_grid =
           cut_same e s t f.layout.chunk given f.blank.items dims (bytes_at m f) (bytes_at n f) filling re
-          (λ q lies. cells q (new_place q lies) ∙ ap (λ b. cond b (bytes_at m f q) f.blank.items) (lies_read q t lies))
-          (λ q lies off. kept.outside q (new_place q lies) off)
+          (λ q lies. cells q (new_cell q lies) ∙ ap (λ b. cond b (bytes_at m f q) f.blank.items) (lies_read q t lies))
+          (λ q lies off. kept.outside q (new_cell q lies) off)
         where
-          new_place : (q : List ℕ) → LiesIn q t → length q ≡ length f.layout.chunk
-          new_place q lies = lies_rank q t lies ∙ sym (same_rank s t dims kept.shape re) ∙ sym kept.layout.rank
+          new_cell : (q : List ℕ) → LiesIn q t → length q ≡ length f.layout.chunk
+          new_cell q lies = lies_rank q t lies ∙ sym (same_rank s t dims kept.shape re) ∙ sym kept.layout.rank
 
       pub cuts_from : (a : Stored) → stored_in e s given f m ≡ a → Cuts a dims with_cut
       cuts_from a is =

@@ -5,7 +5,7 @@ use Rattle.std.proofs.lemmas.List.{length-take-le, length-drop}
 use Rattle.std.proofs.lemmas.List.Elements.{All-head, All-tail}
 use Rattle.shapes.specs.declared.Shape.{Shape}
 use Rattle.shapes.specs.declared.Shape.TheVariants.{Null, Scalar, Simple}
-use Rattle.shapes.specs.Places.{cell_count, IsInside, coordinates}
+use Rattle.shapes.specs.RowMajor.{cell_count, IsInside, coordinates}
 use Rattle.shapes.specs.Shapes.{IsSound, LiesIn, cells_of, count_of}
 use Rattle.shapes.proofs.CellLemmas.{cells_length, count_small, cells_inside as all_inside}
 use Rattle.hyperslab.specs.declared.Slab.{Slab}
@@ -60,22 +60,22 @@ picked_inside (picks.Slab b) s h = slab_inside b s
 picked_inside (picks.Points ps) s h = each_all (λ at. LiesIn at s) ps.now h.1
 picked_inside (picks.Places from many) s h = each_take (λ at. LiesIn at s) many (drop from (cells_of s)) (each_drop (λ at. LiesIn at s) from (cells_of s) (cells_inside s))
 
-pub places_length : (from many : ℕ) (s : Shape) → from + many ≤ count_of s → many ≡ length (cells_from from many s)
-places_length from many s h =
+pub cells_from_length : (from many : ℕ) (s : Shape) → from + many ≤ count_of s → many ≡ length (cells_from from many s)
+cells_from_length from many s h =
     let room : many ≤ length (drop from (cells_of s)) = rw (length-drop from (cells_of s), cells_length s) (omega arith) in
     sym (length-take-le many (drop from (cells_of s)) room)
 
 -- ---- at what the code has matched
 
-pub many_places : (p : Picks) (from many : ℕ) (s : Shape) → p ≡ picks.Places from many → PicksIn p s → many ≡ length (picked p s)
-many_places p from many s e = subst (λ (x : Picks). PicksIn x s → many ≡ length (picked x s)) (sym e) (λ h. places_length from many s h)
+pub many_picked : (p : Picks) (from many : ℕ) (s : Shape) → p ≡ picks.Places from many → PicksIn p s → many ≡ length (picked p s)
+many_picked p from many s e = subst (λ (x : Picks). PicksIn x s → many ≡ length (picked x s)) (sym e) (λ h. cells_from_length from many s h)
 
 pub slab_below : (p : Picks) (b : Slab) (s : Shape) (k : ℕ) → p ≡ picks.Slab b → PicksIn p s → k < length (picked p s) → k < cell_count (extents b)
 slab_below p b s k e = subst (λ (x : Picks). PicksIn x s → k < length (picked x s) → k < cell_count (extents b)) (sym e) (λ h low. rw (cells_counted b s h.0 h.1) at low)
 
-pub place_small : (p : Picks) (from many : ℕ) (s : Shape) (k : ℕ) → p ≡ picks.Places from many → IsSound s → PicksIn p s → k < length (picked p s) → (from + k < 2 ^ 64) × (from + k < count_of s)
-place_small p from many s k e sound =
+pub linear_index_small : (p : Picks) (from many : ℕ) (s : Shape) (k : ℕ) → p ≡ picks.Places from many → IsSound s → PicksIn p s → k < length (picked p s) → (from + k < 2 ^ 64) × (from + k < count_of s)
+linear_index_small p from many s k e sound =
     subst (λ (x : Picks). PicksIn x s → k < length (picked x s) → (from + k < 2 ^ 64) × (from + k < count_of s)) (sym e)
     (λ h low.
-    let fewer : k < many = omega (arith, places_length from many s h, low) in
+    let fewer : k < many = omega (arith, cells_from_length from many s h, low) in
     (omega (arith, count_small s sound, h, fewer), omega (arith, h, fewer)))

@@ -6,16 +6,16 @@ use Rattle.std.proofs.lemmas.Nat.{div-add-mod', mod_below, div-mul-add, mod-mul-
 use Rattle.json_trees.proofs.TreeLemmas.{length-AllZip}
 use Rattle.shapes.specs.declared.Shape.{Shape}
 use Rattle.shapes.specs.declared.Shape.TheVariants.{Null, Scalar, Simple}
-use Rattle.shapes.specs.Places.{cell_count, IsInside, place}
+use Rattle.shapes.specs.RowMajor.{cell_count, IsInside, linear_index}
 use Rattle.shapes.specs.Shapes.{LiesIn, cells_of, cell_of, count_of, dims_of}
-use Rattle.shapes.proofs.CellLemmas.{cell-place}
+use Rattle.shapes.proofs.CellLemmas.{cell-index}
 use Rattle.chunk_layout.specs.Chunks.{IsChunkDim, IsChunk, quotients, remainders, offset_of}
 use Rattle.chunk_layout.proofs.CellLemmas.{offset_below}
 use Rattle.chunk_store.specs.Picked.{cells_from}
 use Rattle.chunk_store.specs.Stretches.{IsNumber, IsStretch, row_left}
 use Rattle.chunk_store.specs.declared.stretches.Stretch.{Stretch}
 use Rattle.chunk_store.proofs.CutLemmas.{lies_rank}
-use Rattle.chunk_store.proofs.PickLemmas.{places_length}
+use Rattle.chunk_store.proofs.PickLemmas.{cells_from_length}
 use Rattle.hyperslab.proofs.SelectLemmas.{lies_inside}
 
 -- the cell `j` numbers behind on the last axis
@@ -27,9 +27,9 @@ moved (x ∷ y ∷ ys) j = x ∷ moved (y ∷ ys) j
 record IsMoved (at dims chunk : List ℕ) (j : ℕ) (to : List ℕ) : Type 0 where
   inside : IsInside to dims
   rank : length to ≡ length at
-  number : place to dims ≡ place at dims + j
+  number : linear_index to dims ≡ linear_index at dims + j
   index : quotients to chunk ≡ quotients at chunk
-  offset : place (remainders to chunk) chunk ≡ place (remainders at chunk) chunk + j
+  offset : linear_index (remainders to chunk) chunk ≡ linear_index (remainders at chunk) chunk + j
 
 digits_of : (x n j : ℕ) → x % n + j < n → ((x + j) / n ≡ x / n) × ((x + j) % n ≡ x % n + j)
 digits_of x n j h =
@@ -84,12 +84,12 @@ in_shape at to Null h on = absurd h
 in_shape at to Scalar h on = on
 in_shape at to (Simple dims limits) h on = on
 
-row_cell : (s : Shape) (chunk at : List ℕ) (p j : ℕ) → All IsChunkDim chunk → length chunk ≡ length (dims_of s) → LiesIn at s → place at (dims_of s) ≡ p → j < row_left at (dims_of s) chunk
+row_cell : (s : Shape) (chunk at : List ℕ) (p j : ℕ) → All IsChunkDim chunk → length chunk ≡ length (dims_of s) → LiesIn at s → linear_index at (dims_of s) ≡ p → j < row_left at (dims_of s) chunk
     → (cell_of s (p + j) ≡ moved at j) × IsMoved at (dims_of s) chunk j (moved at j)
 row_cell s chunk at p j ns rank lies here low =
     let to = row_moved at (dims_of s) chunk j (lies_inside at s lies) ns rank low in
-    let there : p + j ≡ place (moved at j) (dims_of s) = ap (λ n. n + j) (sym here) ∙ sym to.number in
-    (ap (cell_of s) there ∙ cell-place s (moved at j) (in_shape at (moved at j) s lies to.inside), to)
+    let there : p + j ≡ linear_index (moved at j) (dims_of s) = ap (λ n. n + j) (sym here) ∙ sym to.number in
+    (ap (cell_of s) there ∙ cell-index s (moved at j) (in_shape at (moved at j) s lies to.inside), to)
 
 pub from_at : (s : Shape) (p len j : ℕ) → j < len → get_or (cells_from p len s) j [] ≡ cell_of s (p + j)
 from_at s p len j low = get_or-take len (drop p (cells_of s)) j [] low ∙ get_or-drop p (cells_of s) j []
@@ -101,12 +101,12 @@ moved_number chunk at to dims j t rank index offset h = record {
   offset = h.offset ∙ ap (λ o. o + j) (sym offset);
 }
 
--- the cells from a place on that stay in the row
-pub row_stretch : (s : Shape) (chunk at : List ℕ) (p left : ℕ) (t : Stretch) → IsChunk chunk → length chunk ≡ length (dims_of s) → LiesIn at s → place at (dims_of s) ≡ p
+-- the cells from a linear index on that stay in the row
+pub row_stretch : (s : Shape) (chunk at : List ℕ) (p left : ℕ) (t : Stretch) → IsChunk chunk → length chunk ≡ length (dims_of s) → LiesIn at s → linear_index at (dims_of s) ≡ p
     → t.index ≡ quotients at chunk → t.offset ≡ offset_of at chunk → t.len ≡ min (row_left at (dims_of s) chunk) left → 1 ≤ left → p + left ≤ count_of s → IsStretch chunk t (cells_from p t.len s)
 row_stretch s chunk at p left t c rank lies here index offset len some inside =
     let row = row_some at (dims_of s) chunk (lies_inside at s lies) c.dims rank in
-    let many : t.len ≡ length (cells_from p t.len s) = places_length p t.len s (omega (arith, len, inside)) in
+    let many : t.len ≡ length (cells_from p t.len s) = cells_from_length p t.len s (omega (arith, len, inside)) in
     record {
       some = omega (arith, len, row, some);
       many = sym many;

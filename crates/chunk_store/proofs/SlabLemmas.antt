@@ -5,7 +5,7 @@ use Rattle.std.proofs.lemmas.Bool.{cases_lt, cases_Bool}
 use Rattle.std.proofs.lemmas.List.{append_assoc, append-nil, drop_more, drop_all, take-append-drop, drop-drop, length-drop}
 use Rattle.std.proofs.lemmas.Slice.Eq.{bytes_eq-Decides}
 use Rattle.hdf_values.specs.Nested.{piece_at}
-use Rattle.shapes.specs.Places.{cell_count, digits_by, IsInside}
+use Rattle.shapes.specs.RowMajor.{cell_count, digits_by, IsInside}
 use Rattle.shapes.proofs.CellLemmas.{digits_in}
 use Rattle.hyperslab.specs.Selected.{Axis, IsSlab, FitsIn, axes, axes_of, cell_at, extent, extents, is_at, point, selected}
 use Rattle.hyperslab.specs.Runs.{InBox}

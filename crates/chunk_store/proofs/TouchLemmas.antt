@@ -6,16 +6,16 @@ use Rattle.std.proofs.lemmas.Bool.{cases_lt, le-leb}
 use Rattle.std.proofs.lemmas.Bool.Decides.{nat_tests}
 use Rattle.std.proofs.lemmas.List.{drop_more, drop_all, append_assoc, append-nil}
 use Rattle.std.proofs.lemmas.List.Elements.{All-nil, All-cons, All-head, All-tail}
-use Rattle.shapes.specs.Places.{cell_count, digits_by, IsInside, place}
+use Rattle.shapes.specs.RowMajor.{cell_count, digits_by, IsInside, linear_index}
 use Rattle.shapes.specs.declared.TheConstants.{MAX_EXTENT}
-use Rattle.shapes.proofs.PlaceLemmas.{place_below, some_factor}
+use Rattle.shapes.proofs.RowMajorLemmas.{index_below, some_factor}
 use Rattle.shapes.proofs.CellLemmas.{digits_in}
 use Rattle.hyperslab.specs.Selected.{AreAxes, IsAxis, IsSlab, axes_of, extent, extents, point}
 use Rattle.hyperslab.specs.declared.Slab.{Slab}
 use Rattle.hyperslab.specs.Numbered.{Side, extent_of, wide_of}
 use Rattle.hyperslab.proofs.SelectLemmas.{point_below}
 use Rattle.hyperslab.proofs.AxisLemmas.{axis_with}
-use Rattle.hyperslab.proofs.CellLemmas.{cell_placed, digits_back}
+use Rattle.hyperslab.proofs.CellLemmas.{cell_indexed, digits_back}
 use Rattle.hyperslab.proofs.BoxLemmas.{axis_of, low_of, extents_to, wides}
 use Rattle.hyperslab.proofs.SideLemmas.{IsSided, sided, got, no_side, lo_of, hi_of, by_of, sound_at}
 use Rattle.chunk_layout.specs.Chunks.{IsChunk, IsChunkDim, quotients}
@@ -191,12 +191,12 @@ touched s chunk h k l =
           let lies = digits_in (extents s) p low in
           let ks = digits_by (extents s) p in
           let made = touched_from ss ks wide (subst (λ ns. IsInside ks ns) parts.extents lies.0) in
-          (place made.0 (map slots_of ss), place_below made.0 (map slots_of ss) made.1, ap (chunks_to ss) (digits_back made.0 (map slots_of ss) made.1) ∙ made.2 ∙ same ks);
+          (linear_index made.0 (map slots_of ss), index_below made.0 (map slots_of ss) made.1, ap (chunks_to ss) (digits_back made.0 (map slots_of ss) made.1) ∙ made.2 ∙ same ks);
       some = λ b low.
           let lies = digits_in (map slots_of ss) b low in
           let made = some_from ss (digits_by (map slots_of ss) b) wide lies.0 in
           let inside = subst (λ ns. IsInside made.0 ns) (sym parts.extents) made.1 in
-          (place made.0 (extents s), place_below made.0 (extents s) inside, ap (λ at. quotients at chunk) (cell_placed s made.0 h inside) ∙ sym (same made.0) ∙ made.2);
+          (linear_index made.0 (extents s), index_below made.0 (extents s) inside, ap (λ at. quotients at chunk) (cell_indexed s made.0 h inside) ∙ sym (same made.0) ∙ made.2);
     }
 
 -- ---- the walks

@@ -8,7 +8,7 @@ use Rattle.std.proofs.lemmas.Slice.Eq.{bytes_eq-Decides}
 use Rattle.hdf_types.specs.Reading.{size_of}
 use Rattle.shapes.specs.declared.Shape.{Shape}
 use Rattle.shapes.specs.declared.Shape.TheVariants.{Null, Scalar, Simple}
-use Rattle.shapes.specs.Places.{cell_count, is_inside, IsInside}
+use Rattle.shapes.specs.RowMajor.{cell_count, is_inside, IsInside}
 use Rattle.shapes.specs.Shapes.{LiesIn, lies_in, IsResized, dims_of}
 use Rattle.shapes.proofs.InsideLemmas.{lies_told, inside_told, inside_read}
 use Rattle.chunk_layout.specs.Chunks.{IsChunkDim, quotients, offset_of, corner, chunk_cells}

@@ -2,7 +2,7 @@
 use Rattle.std.specs.Prelude.{◌≡◌, ℕ, ◌<◌, List, true, false, cond, length}
 use Rattle.hdf_values.specs.Nested.{piece_at}
 use Rattle.shapes.specs.declared.Shape.{Shape}
-use Rattle.shapes.specs.Places.{cell_count}
+use Rattle.shapes.specs.RowMajor.{cell_count}
 use Rattle.shapes.specs.Shapes.{lies_in, dims_of}
 use Rattle.chunk_layout.specs.Chunks.{cell_at}
 use Rattle.chunk_store.specs.Buffers.{chunk_bytes}

@@ -9,7 +9,7 @@ use Rattle.hdf_values.specs.Elements.{IsEncoded, bytes_of, zero_of}
 use Rattle.chunk_layout.specs.Chunks.{IsChunkDim}
 use Rattle.shapes.specs.declared.Shape.{Shape}
 use Rattle.shapes.specs.declared.Shape.TheVariants.{Null, Scalar, Simple}
-use Rattle.shapes.specs.Places.{place}
+use Rattle.shapes.specs.RowMajor.{linear_index}
 use Rattle.shapes.specs.Shapes.{IsSound, LiesIn, lies_in, cells_of, count_of, dims_of}
 use Rattle.chunk_store.specs.Cells.{put}
 
@@ -27,7 +27,7 @@ tabulated e s c fill value = record { kind = e; shape = s; chunk = c; fill = fil
 
 -- the bytes of a cell
 abbrev pub value_at : Grid → List ℕ → List ℕ
-value_at h at = slice_index_or h.values (place at (dims_of h.shape)) []
+value_at h at = slice_index_or h.values (linear_index at (dims_of h.shape)) []
 
 -- the bytes of a cell that was never written
 abbrev pub blank_of : Elem → Option (List ℕ) → List ℕ

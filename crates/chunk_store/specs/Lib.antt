@@ -18,7 +18,7 @@ pub use Rattle.hdf_types.specs.Elems
 pub use Rattle.hdf_types.specs.Views
 pub use Rattle.hdf_types.specs.Types
 pub use Rattle.hdf_types.specs.Reading
-pub use Rattle.shapes.specs.Places
+pub use Rattle.shapes.specs.RowMajor
 pub use Rattle.shapes.specs.Shapes
 pub use Rattle.chunk_layout.specs.Layouts
 pub use Rattle.chunk_layout.specs.Chunks

@@ -1,7 +1,7 @@
 -- Where a cell stands in a list of cells.
 use Rattle.std.specs.Prelude.{◌≡◌, ◌≢◌, ℕ, ◌<◌, List, [], length, slice_index_or}
 
--- the cell stands at the place, and not again behind it
+-- the cell stands at the index `k`, and not again behind it
 abbrev pub IsLast : List (List ℕ) → ℕ → List ℕ → Type 0
 IsLast ats k at = (k < length ats) × (slice_index_or ats k [] ≡ at) × ((j : ℕ) → k < j → j < length ats → slice_index_or ats j [] ≢ at)
 

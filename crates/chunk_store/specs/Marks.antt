@@ -9,7 +9,7 @@ use Rattle.std.specs.declared.cmp.Ordering.TheVariants.{Less, Greater}
 use Rattle.std.specs.Coded.{Coded, code_by, coded×, coded_bool, coded_list}
 use Rattle.hdf_types.specs.Reading.{size_of}
 use Rattle.hdf_values.specs.Nested.{AreEncoded}
-use Rattle.shapes.specs.Places.{cell_count}
+use Rattle.shapes.specs.RowMajor.{cell_count}
 use Rattle.shapes.specs.Shapes.{LiesIn, lies_in, dims_of}
 use Rattle.chunk_layout.specs.Chunks.{quotients, offset_of, corner, chunk_cells}
 use Rattle.chunk_store.specs.Cells.{put}

@@ -1,4 +1,4 @@
--- The cells that a selection, points or a range of places pick from an array.
+-- The cells that a selection, points or a range of linear indices pick from an array.
 use Rattle.std.specs.Prelude.{ℕ, ◌+◌, ◌≤◌, List, All, take, drop, length}
 use Rattle.point_select.specs.declared.TheConstants.{MAX_POINTS}
 use Rattle.shapes.specs.declared.Shape.{Shape}
@@ -7,7 +7,7 @@ use Rattle.hyperslab.specs.Selected.{IsSlab, SlabIn, slab_cells}
 use Rattle.chunk_store.specs.declared.picks.Picks.{Picks}
 use Rattle.chunk_store.specs.declared.picks.Picks.TheVariants as picks
 
--- the cells at places, in order
+-- the cells with consecutive linear indices, in order
 abbrev pub cells_from : ℕ → ℕ → Shape → List (List ℕ)
 cells_from from many shape = take many (drop from (cells_of shape))
 

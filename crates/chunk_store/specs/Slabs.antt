@@ -2,7 +2,7 @@
 use Rattle.std.specs.Prelude.{◌≡◌, ℕ, ◌<◌, List, length, true, Some}
 use Rattle.std.specs.BTreeMap.{BTreeMap}
 use Rattle.hdf_values.specs.Nested.{piece_at}
-use Rattle.shapes.specs.Places.{cell_count}
+use Rattle.shapes.specs.RowMajor.{cell_count}
 use Rattle.hyperslab.specs.Selected.{cell_at, extents}
 use Rattle.hyperslab.specs.declared.Slab.{Slab}
 use Rattle.chunk_layout.specs.Chunks.{quotients}

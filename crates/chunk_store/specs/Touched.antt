@@ -1,6 +1,6 @@
 -- The chunks in which a selection has cells, by their numbers.
 use Rattle.std.specs.Prelude.{◌≡◌, ℕ, ◌+◌, ◌*◌, ◌-◌, ◌/◌, ◌<◌, List, [], ◌∷◌, length, map, nat_eq, nat_le, if◌then◌else◌}
-use Rattle.shapes.specs.Places.{cell_count, digits_by}
+use Rattle.shapes.specs.RowMajor.{cell_count, digits_by}
 use Rattle.hyperslab.specs.Selected.{IsSlab, axes_of, cell_at, extent, extents}
 use Rattle.hyperslab.specs.Numbered.{Side, sides}
 use Rattle.hyperslab.specs.declared.Slab.{Slab}

@@ -191,7 +191,7 @@ impl Array {
         self.read(alloc, &Picks::Points(points.as_slice()))
     }
 
-    /// The bytes of `many` cells from a place on, in row-major order.
+    /// The bytes of `many` cells from a linear index on, in row-major order.
     ///
     /// # Errors
     ///
@@ -253,7 +253,7 @@ impl Array {
         self.write(alloc, &Picks::Points(points.as_slice()), bytes)
     }
 
-    /// Writes elements into the cells from a place on, in row-major order.
+    /// Writes elements into the cells from a linear index on, in row-major order.
     ///
     /// # Errors
     ///

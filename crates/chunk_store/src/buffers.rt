@@ -3,7 +3,7 @@
 
 ghost use Rattle.std.specs.Prelude.{◌≡◌, ◌≤◌, ◌<◌, ◌+◌, ◌*◌, ◌⊎◌, ◌↔◌, ℕ, List, All, IsTrue, true, false, length, Some, None, IfOk, OnOk, OnErr};
 ghost use Rattle.hdf_values.specs.Nested.{piece_at};
-ghost use Rattle.shapes.specs.Places.{cell_count};
+ghost use Rattle.shapes.specs.RowMajor.{cell_count};
 ghost use Rattle.chunk_store.specs.Cells.{put, find_in, has};
 ghost use Rattle.chunk_store.specs.Buffers.{AreFull, IsFrame, bytes_at, chunk_bytes, flag_at};
 

@@ -3,7 +3,7 @@
 ghost use Rattle.std.specs.Prelude.{◌≡◌, ◌<◌, ◌*◌, ◌^◌, ◌-◌, ◌↔◌, ℕ, [], true, false};
 ghost use Rattle.std.specs.Prelude.{min, length, slice_index_or, IsTrue};
 ghost use Rattle.hdf_values.specs.Nested.{piece_at};
-ghost use Rattle.shapes.specs.Places.{cell_count};
+ghost use Rattle.shapes.specs.RowMajor.{cell_count};
 ghost use Rattle.shapes.specs.Shapes.{dims_of, lies_in};
 ghost use Rattle.chunk_layout.specs.Chunks.{IsChunk, quotients, offset_of, chunk_cells};
 ghost use Rattle.chunk_store.specs.Buffers.{has_cell};
@@ -39,7 +39,7 @@ pub(crate) fn has_cell(layout: &Layout, shape: &Shape, index: &Dims) -> bool
     is_in_grid(layout, shape, index)
 }
 
-/// The cell at a place of a chunk.
+/// The cell at an offset of a chunk.
 pub(crate) fn cell(layout: &Layout, index: &Dims, k: u64) -> Dims
     requires chunk { IsChunk layout.now.chunk }
     requires index { IsIndex layout.now.chunk index.now }

@@ -2,7 +2,7 @@
 
 ghost use Rattle.std.specs.Prelude.{◌≡◌, ◌≢◌, ◌≤◌, ◌<◌, ◌+◌, ◌*◌, ◌⊎◌, ℕ, List, false, true, cond, length};
 ghost use Rattle.hdf_values.specs.Nested.{piece_at};
-ghost use Rattle.shapes.specs.Places.{cell_count};
+ghost use Rattle.shapes.specs.RowMajor.{cell_count};
 ghost use Rattle.shapes.specs.Shapes.{IsResized, IsSound, lies_in, dims_of};
 ghost use Rattle.chunk_layout.specs.Chunks.{cell_at};
 ghost use Rattle.chunk_store.specs.Buffers.{AreFull, IsFrame, bytes_at, chunk_bytes, flag_at};

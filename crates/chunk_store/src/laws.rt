@@ -44,8 +44,8 @@ pub fn cells_after_calls()
         → value_at (cut_to (cut_to h small) large) at ≡ blank_of h.kind h.fill }
 {}
 
-/// What a read gives: at each place the element of the cell there. Cells of which each stands once
-/// in a list read as what was written to them.
+/// What a read gives: for each cell of the list, in order, its element. Cells of which each stands
+/// once in a list read as what was written to them.
 pub fn reads_of_cells()
     ensures each { (h : Grid) (ats : List (List ℕ)) (k : ℕ) → IsWhole h
         → All (λ at. LiesIn at h.shape) ats → k < length ats

@@ -1,8 +1,8 @@
-//! Reads and writes of cells at consecutive places, stretch by stretch.
+//! Reads and writes of cells with consecutive linear indices, stretch by stretch.
 
 ghost use Rattle.std.specs.Prelude.{◌≡◌, ◌≤◌, ◌<◌, ◌+◌, ◌*◌, ◌-◌, ◌%◌, length, min, IfOk, OnOk};
 ghost use Rattle.std.specs.List.{flat_map};
-ghost use Rattle.shapes.specs.Places.{IsInside, cell_count};
+ghost use Rattle.shapes.specs.RowMajor.{IsInside, cell_count};
 ghost use Rattle.shapes.specs.Shapes.{IsSound, count_of, dims_of};
 ghost use Rattle.chunk_layout.specs.Chunks.{IsChunk};
 ghost use Rattle.chunk_store.specs.Buffers.{AreFull, AreThere, IsFrame, IsGrown, IsWritten, bytes_at};
@@ -15,7 +15,7 @@ use chunk_layout::{Layout, chunk_of, offset_in};
 use shapes::{Dims, Shape, coords_at};
 use std::alloc::{AllocError, Global};
 
-/// The elements of `many` cells from a place on, one after another.
+/// The elements of `many` cells from a linear index on, one after another.
 pub(crate) fn read_places(
     alloc: Global,
     chunks: &Chunks,
@@ -42,7 +42,7 @@ pub(crate) fn read_places(
     Ok(out)
 }
 
-/// Holds each chunk of `many` cells from a place on.
+/// Holds each chunk of `many` cells from a linear index on.
 pub(crate) fn grow_places(
     alloc: Global,
     chunks: &mut Chunks,
@@ -68,8 +68,8 @@ pub(crate) fn grow_places(
     Ok(())
 }
 
-/// Writes elements into `many` cells from a place on, whose chunks are all held, and takes these as
-/// dirty.
+/// Writes elements into `many` cells from a linear index on, whose chunks are all held, and takes
+/// these as dirty.
 pub(crate) fn write_places(
     chunks: &mut Chunks,
     frame: &Frame,
@@ -98,19 +98,20 @@ pub(crate) fn write_places(
     }
 }
 
-/// Of the cells from a place on, at most `left`, those that stay in one row of the shape and of a
-/// chunk.
-fn stretch_at(layout: &Layout, shape: &Shape, place: u64, left: u64) -> Stretch
+/// Of the cells from a linear index on, at most `left`, those that stay in one row of the shape and
+/// of a chunk.
+fn stretch_at(layout: &Layout, shape: &Shape, linear_index: u64, left: u64) -> Stretch
     requires chunk { IsChunk layout.now.chunk }
     requires sound { IsSound shape.now }
     requires rank { length layout.now.chunk ≡ length (dims_of shape.now) }
     requires some { 1 ≤ left }
-    requires inside { place + left ≤ count_of shape.now }
+    requires inside { linear_index + left ≤ count_of shape.now }
     ensures few { result.len ≤ left }
     ensures room { result.offset + result.len ≤ cell_count layout.now.chunk }
-    ensures cells { IsStretch layout.now.chunk result (cells_from place result.len shape.now) }
+    ensures cells { IsStretch layout.now.chunk result
+        (cells_from linear_index result.len shape.now) }
 {
-    let at = coords_at(shape, place);
+    let at = coords_at(shape, linear_index);
     Stretch {
         index: chunk_of(layout, &at),
         offset: offset_in(layout, &at),

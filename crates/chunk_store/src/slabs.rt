@@ -2,7 +2,7 @@
 
 ghost use Rattle.std.specs.Prelude.{◌≡◌, ◌*◌, ℕ, List, length, true, IfOk, OnOk};
 ghost use Rattle.std.specs.List.{flat_map};
-ghost use Rattle.shapes.specs.Places.{cell_count};
+ghost use Rattle.shapes.specs.RowMajor.{cell_count};
 ghost use Rattle.chunk_layout.specs.Chunks.{IsChunk, corner};
 ghost use Rattle.hyperslab.specs.Selected.{IsSlab, FitsIn, extents, selected};
 ghost use Rattle.chunk_store.specs.BoxCopies.Boxes.{AreWritten, IsBox};

@@ -3,7 +3,7 @@
 ghost use Rattle.std.specs.Prelude.{◌≡◌, ◌≤◌, ◌<◌, ◌+◌, ◌*◌, ◌⊎◌, ◌++◌, ℕ, List, true, length, OnOk};
 ghost use Rattle.std.specs.List.{flat_map};
 ghost use Rattle.hdf_values.specs.Nested.{piece_at, pieces_at};
-ghost use Rattle.shapes.specs.Places.{cell_count};
+ghost use Rattle.shapes.specs.RowMajor.{cell_count};
 ghost use Rattle.chunk_store.specs.Buffers.{AreFull, IsFrame, IsWritten, bytes_at, chunk_bytes};
 ghost use Rattle.chunk_store.specs.Cells.{has};
 ghost use Rattle.chunk_store.specs.Stretches.{IsStretch};

@@ -2,6 +2,6 @@ pub mod TargetLemmas
 pub mod ToldLemmas
 pub mod TitleLemmas
 pub mod ArrayLemmas
-pub mod PlaceLemmas
+pub mod IndexLemmas
 pub mod ListedLemmas
 pub mod SpelledLemmas

@@ -8,7 +8,7 @@ use Rattle.json_trees.specs.Trees.{list_in}
 use Rattle.json_trees.specs.Faults.{◌>>=◌}
 use Rattle.json_trees.proofs.TreeLemmas.{list_in_array}
 use Rattle.hdf_types.specs.Elems.{Elem}
-use Rattle.shapes.specs.Places.{cell_count, IsInside, place}
+use Rattle.shapes.specs.RowMajor.{cell_count, IsInside, linear_index}
 use Rattle.hdf_values.specs.declared.faults.Misfit.{Misfit}
 use Rattle.hdf_values.specs.declared.faults.ValueFault.{ValueFault}
 use Rattle.hdf_values.specs.declared.faults.ValueFault.TheVariants.{NotOfType, WrongCount}
@@ -143,13 +143,13 @@ counted_err n p read (Some ds) f e = elim (cases_Bool (nat_eq (length ds) n)) [
       wrong_count ds refl (eqb-false (length ds) n q) cc
 ]
 
-place_within : (path dims : List ℕ) → IsInside path (take (length path) dims) → place path dims ≤ cell_count dims
-place_within [] dims h = omega arith
-place_within (x ∷ xs) [] h = absurd h
-place_within (x ∷ xs) (n ∷ ns) h =
+index_within : (path dims : List ℕ) → IsInside path (take (length path) dims) → linear_index path dims ≤ cell_count dims
+index_within [] dims h = omega arith
+index_within (x ∷ xs) [] h = absurd h
+index_within (x ∷ xs) (n ∷ ns) h =
     let c = cell_count ns in
     let most : (x + 1) * c ≤ n * c = mul-le (x + 1) c n c (omega (arith, h.0)) (omega arith) in
-    omega (arith, most, place_within xs ns h.1)
+    omega (arith, most, index_within xs ns h.1)
 
 -- an axis's own fault stands at its first place, before which there is none
 own_fault : (e : Elem) (n : ℕ) (ns : List ℕ) (p : ℕ) (d : Data) (f : ValueFault) → IsFaultOf e (n ∷ ns) p d f → IsFaultBehind e (n ∷ ns) p d f
@@ -158,7 +158,7 @@ own_fault e n ns p d f h =
     record { path = []; tree = d; inside = tt; found = refl; fault = subst (λ (q : ℕ). IsFaultOf e (n ∷ ns) q d f) same h; before = λ at k q. absurd (omega arith) }
 
 -- a coordinate before a path lies in an earlier member, or in this one before the rest of the path
-before_path : (x i c : ℕ) (xs path ns : List ℕ) → c ≡ cell_count ns → place path ns ≤ c → x * c + place xs ns < i * c + place path ns → (x < i) ⊎ ((x ≡ i) × (place xs ns < place path ns))
+before_path : (x i c : ℕ) (xs path ns : List ℕ) → c ≡ cell_count ns → linear_index path ns ≤ c → x * c + linear_index xs ns < i * c + linear_index path ns → (x < i) ⊎ ((x ≡ i) × (linear_index xs ns < linear_index path ns))
 before_path x i c xs path ns w most h = elim (cases_lt x i) [
   | inl low ↦ inl low
   | inr high ↦ elim (cases_lt i x) [
@@ -174,14 +174,14 @@ before_path x i c xs path ns w most h = elim (cases_lt x i) [
 
 before_member : (e : Elem) (n : ℕ) (ns : List ℕ) (p : ℕ) (d : Data) (f : ValueFault) (ds : List Data) → list_in d ≡ Some ds → length ds ≡ n
     → (w : FailsAt (nested_from e ns) (cell_count ns) p ds f) → (first : IsFaultBehind e ns (p + w.i * cell_count ns) (get_or ds w.i null) f)
-    → (at : List ℕ) → IsInside at (n ∷ ns) → place at (n ∷ ns) < w.i * cell_count ns + place first.path ns → IsFaultlessAt e at d
+    → (at : List ℕ) → IsInside at (n ∷ ns) → linear_index at (n ∷ ns) < w.i * cell_count ns + linear_index first.path ns → IsFaultlessAt e at d
 before_member e n ns p d f ds is count w first [] k h = absurd k
 before_member e n ns p d f ds is count w first (x ∷ xs) k h =
     let c = cell_count ns in
     let y = get_or ds x null in
     let within : x < length ds = omega (arith, count, k.0) in
     let found = member_found d ds x is within in
-    elim (before_path x w.i c xs first.path ns refl (place_within first.path ns first.inside) h) [
+    elim (before_path x w.i c xs first.path ns refl (index_within first.path ns first.inside) h) [
       | inl low ↦
           let one = w.before x low in
           step_in xs x d y e found (read_faultless e ns (p + x * c) y one.0 one.1 xs k.1)
@@ -195,7 +195,7 @@ member_fault : (e : Elem) (n : ℕ) (ns : List ℕ) (p : ℕ) (d : Data) (f : Va
 member_fault e n ns p d f ds is count w first =
     let c = cell_count ns in
     let found = member_found d ds w.i is w.within in
-    let far : p + w.i * cell_count ns + place first.path ns ≡ p + (w.i * cell_count ns + place first.path ns) = omega arith in
+    let far : p + w.i * cell_count ns + linear_index first.path ns ≡ p + (w.i * cell_count ns + linear_index first.path ns) = omega arith in
     record {
       path = w.i ∷ first.path;
       tree = first.tree;

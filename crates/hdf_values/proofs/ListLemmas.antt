@@ -7,7 +7,7 @@ use Rattle.json_trees.specs.Trees.{list_in}
 use Rattle.hdf_types.specs.Elems.{Elem}
 use Rattle.hdf_types.specs.Reading.{size_of}
 use Rattle.hdf_types.specs.Types.{IsSoundType}
-use Rattle.shapes.specs.Places.{place}
+use Rattle.shapes.specs.RowMajor.{linear_index}
 use Rattle.hdf_values.specs.Elements.{Fits, bytes_of, decoded}
 use Rattle.hdf_values.specs.Nested.{FitsNested, nested_bytes, nested_decoded, tree_at, pieces, piece_at}
 use Rattle.hdf_values.proofs.ElementLemmas.{list_of-items_of}
@@ -36,7 +36,7 @@ list_read e n i d ds s h is within =
     let many : length ds ≡ n = listed_length e n d ds h is in
     let found = member_found d ds i is (omega (arith, within, many)) in
     let same = only_some (tree_at (i ∷ []) d) row.0 (get_or ds i null) row.1 (ap (λ o. option_and_then (tree_at []) o) found) in
-    let here : place (i ∷ []) (n ∷ []) ≡ i = omega arith in (
+    let here : linear_index (i ∷ []) (n ∷ []) ≡ i = omega arith in (
       subst (Fits e) same row.2,
       ap (λ k. piece_at (size_of e) k (nested_bytes e (n ∷ []) d)) (sym here) ∙ row.3 ∙ ap (bytes_of e) same,
     )

@@ -11,7 +11,7 @@ use Rattle.json_trees.specs.Trees.{list_of, list_in}
 use Rattle.hdf_types.specs.Elems.{Elem}
 use Rattle.hdf_types.specs.Reading.{size_of}
 use Rattle.hdf_types.specs.Types.{IsSoundType}
-use Rattle.shapes.specs.Places.{cell_count}
+use Rattle.shapes.specs.RowMajor.{cell_count}
 use Rattle.hdf_values.specs.declared.faults.ValueFault.{ValueFault}
 use Rattle.hdf_values.specs.Elements.{Fits, bytes_of, decoded, IsEncoded}
 use Rattle.hdf_values.specs.Nested.{FitsNested, elements, nested_bytes, nested_normal, nested_decoded, each_nested, counted, nested_from, pieces, AreEncoded}

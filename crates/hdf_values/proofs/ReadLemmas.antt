@@ -10,7 +10,7 @@ use Rattle.json_trees.specs.Faults.{◌>>=◌, Fails}
 use Rattle.json_trees.proofs.TreeLemmas.{list_in_array}
 use Rattle.hdf_types.specs.Elems.{Elem}
 use Rattle.hdf_values.specs.Elements.{Fits}
-use Rattle.shapes.specs.Places.{cell_count}
+use Rattle.shapes.specs.RowMajor.{cell_count}
 use Rattle.hdf_values.specs.declared.faults.ValueFault.{ValueFault}
 use Rattle.hdf_values.specs.declared.faults.ValueFault.TheVariants.{NoMemory, NotOfType}
 use Rattle.hdf_values.specs.Nested.{FitsNested, nested_bytes, each_nested, nested_from, Appends, AppendsEach}

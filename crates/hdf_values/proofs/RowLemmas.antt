@@ -15,8 +15,8 @@ use Rattle.serde_json.specs.View.{items_of}
 use Rattle.shapes.specs.declared.Shape.{Shape}
 use Rattle.shapes.specs.declared.Shape.TheVariants.{Null, Scalar, Simple}
 use Rattle.shapes.specs.Shapes.{LiesIn, count_of, dims_of}
-use Rattle.shapes.specs.Places.{cell_count, IsInside, place}
-use Rattle.shapes.proofs.PlaceLemmas.{place_below}
+use Rattle.shapes.specs.RowMajor.{cell_count, IsInside, linear_index}
+use Rattle.shapes.proofs.RowMajorLemmas.{index_below}
 use Rattle.hdf_values.specs.Elements.{Fits, bytes_of, decoded}
 use Rattle.hdf_values.specs.Nested.{FitsNested, elements, nested_bytes, nested_decoded, tree_at, pieces, piece_at, AreEncoded}
 use Rattle.hdf_values.specs.Shaped.{value_tree}
@@ -30,8 +30,8 @@ item_at no_items i h = absurd (omega arith)
 item_at (item d ds) zero h = refl
 item_at (item d ds) (suc i) h = item_at ds i (omega arith)
 
--- the element at a place is the tree at its coordinates
-pub in_rows : (e : Elem) (dims coords : List ℕ) (d : Data) → FitsNested e dims d → IsInside coords dims → tree_at coords d ≡ Some (get_or (elements dims d) (place coords dims) null)
+-- the element at a linear index is the tree at its coordinates
+pub in_rows : (e : Elem) (dims coords : List ℕ) (d : Data) → FitsNested e dims d → IsInside coords dims → tree_at coords d ≡ Some (get_or (elements dims d) (linear_index coords dims) null)
 in_rows e [] [] d h k = refl
 in_rows e [] (x ∷ xs) d h k = absurd k
 in_rows e (n ∷ ns) [] d h k = absurd k
@@ -43,11 +43,11 @@ in_rows e (n ∷ ns) (x ∷ xs) d h k =
     let within : x < length (list_of h.0) = omega (arith, h.2, k.0) in
     let fits = all_at (FitsNested e ns) ds x null within h.3 in
     let found : at x d ≡ Some (get_or (list_of h.0) x null) = ap (at x) h.1 ∙ item_at h.0 x within in
-    let low : place xs ns < length (elements ns (get_or (list_of h.0) x null)) = rw (length-elements e ns y fits) (place_below xs ns k.1) in
+    let low : linear_index xs ns < length (elements ns (get_or (list_of h.0) x null)) = rw (length-elements e ns y fits) (index_below xs ns k.1) in
     let front = all_parts (FitsNested e ns) (take x ds) (drop x ds) (rw (take-append-drop x ds) h.3) in
     let before : length (flat_map (elements ns) (take x (list_of h.0))) ≡ x * cell_count ns =
     length-flat (FitsNested e ns) (elements ns) c (λ z q. length-elements e ns z q) (take x ds) front.0 ∙ ap (λ m. m * c) (length-take-le x ds (omega arith)) in
-    let here = rw before at (get_or-flat_map (elements ns) ds x (place xs ns) null null within low) in
+    let here = rw before at (get_or-flat_map (elements ns) ds x (linear_index xs ns) null null within low) in
     rw (found, is_list) (in_rows e ns xs y fits k.1 ∙ ap (λ z. Some z) (sym here))
 
 pub piece-flat_map : {A : Type 0} (F : A → Type 0) (g : A → List ℕ) (k : ℕ) → ((x : A) → F x → length (g x) ≡ k) → (xs : List A) (i : ℕ) (d : A) → i < length xs → AllByRecursion F xs → take k (drop (i * k) (flat_map g xs)) ≡ g (get_or xs i d)
@@ -59,14 +59,14 @@ piece-flat_map F g k each (x ∷ xs) (suc i) d h all =
     let more : suc i * k ≡ length (g x) + i * k = omega (arith, each x all.0) in
     rw (more, drop-append-add (g x) (flat_map g xs) (i * k)) (piece-flat_map F g k each xs i d (omega arith) all.1)
 
--- its bytes are those at the place
+-- its bytes are those at the linear index
 pub row_bytes : (e : Elem) (dims coords : List ℕ) (d : Data) → IsSoundType e → FitsNested e dims d → IsInside coords dims
-    → (x : Data) × (tree_at coords d ≡ Some x) × Fits e x × (take (size_of e) (drop (place coords dims * size_of e) (nested_bytes e dims d)) ≡ bytes_of e x)
+    → (x : Data) × (tree_at coords d ≡ Some x) × Fits e x × (take (size_of e) (drop (linear_index coords dims * size_of e) (nested_bytes e dims d)) ≡ bytes_of e x)
 row_bytes e dims coords d s h k =
     let ds = elements dims d in
-    let p = place coords dims in
+    let p = linear_index coords dims in
     let fits = elements_fit e dims d h in
-    let within : place coords dims < length (elements dims d) = rw (length-elements e dims d h) (place_below coords dims k) in
+    let within : linear_index coords dims < length (elements dims d) = rw (length-elements e dims d h) (index_below coords dims k) in
     (get_or ds p null, in_rows e dims coords d h k, all_at (Fits e) ds p null within fits, piece-flat_map (Fits e) (bytes_of e) (size_of e) (λ x q. length-bytes_of e x s.formed q) ds p null within fits)
 
 -- ---- in the tree of bytes
@@ -90,7 +90,7 @@ tree_of_piece dec (suc n) k zero bs h = ap dec (sym (piece-first k bs))
 tree_of_piece dec (suc n) k (suc x) bs h = tree_of_piece dec n k x (drop k bs) (omega arith) ∙ ap dec (sym (piece-later k x bs))
 
 pub element_found : (e : Elem) (dims coords bs : List ℕ) → length bs ≡ cell_count dims * size_of e → IsInside coords dims
-    → tree_at coords (nested_decoded e dims bs) ≡ Some (decoded e (piece_at (size_of e) (place coords dims) bs))
+    → tree_at coords (nested_decoded e dims bs) ≡ Some (decoded e (piece_at (size_of e) (linear_index coords dims) bs))
 element_found e [] [] bs h k = ap (λ xs. Some (decoded e xs)) (sym (piece-first (size_of e) bs ∙ take_all (size_of e) bs (omega arith)))
 element_found e [] (x ∷ xs) bs h k = absurd k
 element_found e (n ∷ ns) [] bs h k = absurd k
@@ -106,10 +106,10 @@ element_found e (n ∷ ns) (x ∷ xs) bs h k =
     let most : (x + 1) * (c * s) ≤ n * (c * s) = mul-le (x + 1) (c * s) n (c * s) (omega (arith, k.0)) (omega arith) in
     let whole : length bs ≡ n * (cell_count ns * size_of e) = h ∙ mul_assoc n c s in
     let size = length-take-le (c * s) (drop (x * (c * s)) bs) (omega (arith, most, whole, length-drop (x * (c * s)) bs)) in
-    rw member (element_found e ns xs (piece_at (c * s) x bs) size k.1 ∙ ap (λ b. Some (decoded e b)) (piece_within s c x (place xs ns) bs (place_below xs ns k.1)))
+    rw member (element_found e ns xs (piece_at (c * s) x bs) size k.1 ∙ ap (λ b. Some (decoded e b)) (piece_within s c x (linear_index xs ns) bs (index_below xs ns k.1)))
 
 pub value_found : (e : Elem) (s : Shape) (at bs : List ℕ) → AreEncoded e (count_of s) bs → LiesIn at s
-    → tree_at at (value_tree e s bs) ≡ Some (decoded e (piece_at (size_of e) (place at (dims_of s)) bs))
+    → tree_at at (value_tree e s bs) ≡ Some (decoded e (piece_at (size_of e) (linear_index at (dims_of s)) bs))
 value_found e Null at bs h k = absurd k
 value_found e Scalar at bs h k = element_found e [] at bs h.whole k
 value_found e (Simple dims limits) at bs h k = element_found e dims at bs h.whole k

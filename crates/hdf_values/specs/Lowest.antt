@@ -8,7 +8,7 @@ use Rattle.json_trees.specs.Trees.{list_in}
 use Rattle.hdf_types.specs.declared.IntType.{IntType}
 use Rattle.hdf_types.specs.declared.TextType.{TextType}
 use Rattle.hdf_types.specs.Elems.{Elem, int, text, compound, FieldList, no_fields, field}
-use Rattle.shapes.specs.Places.{cell_count, IsInside, place}
+use Rattle.shapes.specs.RowMajor.{cell_count, IsInside, linear_index}
 use Rattle.hdf_values.specs.declared.faults.Misfit.{Misfit}
 use Rattle.hdf_values.specs.declared.faults.Misfit.TheVariants as misfits
 use Rattle.hdf_values.specs.declared.faults.ValueFault.{ValueFault}
@@ -88,5 +88,5 @@ pub record IsFaultBehind (e : Elem) (dims : List ℕ) (p : ℕ) (d : Data) (f : 
   pub tree : Data
   pub inside : IsInside path (take (length path) dims)
   pub found : tree_at path d ≡ Some tree
-  pub fault : IsFaultOf e (drop (length path) dims) (p + place path dims) tree f
-  pub before : (at : List ℕ) → IsInside at dims → place at dims < place path dims → IsFaultlessAt e at d
+  pub fault : IsFaultOf e (drop (length path) dims) (p + linear_index path dims) tree f
+  pub before : (at : List ℕ) → IsInside at dims → linear_index at dims < linear_index path dims → IsFaultlessAt e at d

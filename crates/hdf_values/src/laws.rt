@@ -18,7 +18,7 @@ ghost use Rattle.shapes.specs.declared.Shape.{Shape};
 ghost use Rattle.shapes.specs.declared.printing.Form.{Form};
 ghost use Rattle.shapes.specs.Shapes.{LiesIn, count_of, dims_of};
 ghost use Rattle.shapes.specs.Printed.{shape_tree};
-ghost use Rattle.shapes.specs.Places.{IsInside, cell_count, place};
+ghost use Rattle.shapes.specs.RowMajor.{IsInside, cell_count, linear_index};
 ghost use Rattle.hdf_values.specs.Texts.{AreTexts};
 ghost use Rattle.hdf_values.specs.Elements.{Fits, bytes_of, normal, decoded, encoded, zero_of, IsEncoded};
 ghost use Rattle.hdf_values.specs.Nested.{FitsNested, elements, tree_at, nested_bytes, nested_normal};
@@ -121,7 +121,7 @@ pub fn shaped_or_fault()
 
 /// A tree whose texts are UTF-8 nests by extents, or it has a first fault, and never both; what it
 /// is written as reads back. The element at coordinates, which is found by going down the lists,
-/// stands at their place in row-major order, among the elements and among the bytes.
+/// stands at their linear index (row-major), among the elements and among the bytes.
 pub fn nested_or_fault()
     ensures value { (e : Elem) (dims : List ℕ) (p : ℕ) (d : Data) → FitsNested e dims d
         → nested_from e dims p d ≡ Ok (nested_bytes e dims d) }
@@ -137,11 +137,12 @@ pub fn nested_or_fault()
         × (nested_bytes e dims (nested_decoded e dims bs) ≡ bs) }
     ensures rows { (e : Elem) (dims coords : List ℕ) (d : Data) → FitsNested e dims d
         → IsInside coords dims
-        → tree_at coords d ≡ Some (slice_index_or (elements dims d) (place coords dims) null) }
+        → tree_at coords d
+        ≡ Some (slice_index_or (elements dims d) (linear_index coords dims) null) }
     ensures bytes { (e : Elem) (dims coords : List ℕ) (d : Data) → IsSoundType e
         → FitsNested e dims d → IsInside coords dims
         → (x : Data) × (tree_at coords d ≡ Some x) × Fits e x
-        × (piece_at (size_of e) (place coords dims) (nested_bytes e dims d) ≡ bytes_of e x) }
+        × (piece_at (size_of e) (linear_index coords dims) (nested_bytes e dims d) ≡ bytes_of e x) }
 {}
 
 /// The fault that is told of an element is the lowest of all that its parts have, and a value has
@@ -162,17 +163,17 @@ pub fn first_fault_is_told()
 {}
 
 /// In the tree that bytes stand for the element at coordinates, which is found by going down the
-/// lists, is the one that the bytes at its place stand for. Over one axis this is a list of the
-/// elements in order, and such a list is written as their bytes in order.
+/// lists, is the one that the bytes at its linear index stand for. Over one axis this is a list of
+/// the elements in order, and such a list is written as their bytes in order.
 pub fn values_in_rows()
     ensures nested { (e : Elem) (dims coords bs : List ℕ) → AreEncoded e (cell_count dims) bs
         → IsInside coords dims
         → tree_at coords (nested_decoded e dims bs)
-        ≡ Some (decoded e (piece_at (size_of e) (place coords dims) bs)) }
+        ≡ Some (decoded e (piece_at (size_of e) (linear_index coords dims) bs)) }
     ensures shaped { (e : Elem) (s : Shape) (at bs : List ℕ) → AreEncoded e (count_of s) bs
         → LiesIn at s
         → tree_at at (value_tree e s bs)
-        ≡ Some (decoded e (piece_at (size_of e) (place at (dims_of s)) bs)) }
+        ≡ Some (decoded e (piece_at (size_of e) (linear_index at (dims_of s)) bs)) }
     ensures points { (e : Elem) (n : ℕ) (bs : List ℕ)
         → (ds : List Data) × (list_in (nested_decoded e (n ∷ []) bs) ≡ Some ds) × (length ds ≡ n)
         × ((i : ℕ) → i < n

@@ -7,7 +7,7 @@ ghost use Rattle.serde_json.specs.View.{view};
 ghost use Rattle.hdf_types.specs.Reading.{size_of};
 ghost use Rattle.hdf_types.specs.Types.{IsSoundType};
 ghost use Rattle.hdf_types.specs.Views.{elem};
-ghost use Rattle.shapes.specs.Places.{cell_count};
+ghost use Rattle.shapes.specs.RowMajor.{cell_count};
 ghost use Rattle.hdf_values.specs.declared.TheConstants.{MAX_AHEAD};
 ghost use Rattle.hdf_values.specs.Elements.{Fits};
 ghost use Rattle.json_trees.specs.Faults.{Fails, Gives};

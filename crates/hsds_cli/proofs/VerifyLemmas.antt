@@ -10,7 +10,7 @@ use Rattle.flush_journal.specs.declared.report.Report.{Report}
 use Rattle.service_core.specs.Journals.Opening.{MayRefuseOpening}
 use Rattle.service_core.specs.declared.journals.faults.OpenFault.{OpenFault}
 use Rattle.service_core.specs.declared.journals.faults.OpenFault.TheVariants as fault
-use Rattle.register.specs.Decided.{Door}
+use Rattle.register.specs.Decided.{RegisterState}
 use Rattle.service_core.specs.Records.{DescribesWorld, IsWorldOf}
 use Rattle.service_core.specs.Worlds.{State, seen}
 use Rattle.hsds_cli.specs.Lines.{IsTold, verify_line}
@@ -22,10 +22,10 @@ use Rattle.hsds_cli.proofs.Printing.{whole_line}
 
 -- the numbers of an opened journal and its kept run
 pub is_report : {D : Type 0} {met : Ghosts D} (file : List ℕ) (r : Report) (j : Journal D met) (run : ℕ) (stands_for : Content) (s : State)
-    → content file ≡ Ok stands_for → IsSettled j stands_for → IsWorldOf stands_for.held stands_for.lanes s → r ≡ numbers_of j → run ≡ s.door.run - 1 → IsReport file r run
+    → content file ≡ Ok stands_for → IsSettled j stands_for → IsWorldOf stands_for.held stands_for.lanes s → r ≡ numbers_of j → run ≡ s.register.run - 1 → IsReport file r run
 is_report file r j run stands_for s is_journal settled is_world numbers before =
     let kept : run ≡ is_world.register.kept =
-    before ∙ ap (λ (d : Door). d.run - 1) is_world.register.begins ∙ add-sub_cancel is_world.register.kept 1 in
+    before ∙ ap (λ (d : RegisterState). d.run - 1) is_world.register.begins ∙ add-sub_cancel is_world.register.kept 1 in
     record {
       stands_for = stands_for;
       is_journal = is_journal;

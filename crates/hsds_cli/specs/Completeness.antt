@@ -56,7 +56,7 @@ pub record HasAdoptable (file path : List ℕ) (left : Option (List ℕ)) : Type
   pub told : left ≡ Some text
   pub document : Loaded
   pub loads : LoadsText text document
-  pub free : (w : World) → IsOf file (λ c. IsRecovered c.held w) → (l : Loaded) → LoadsText text l → adopt_fault w.door path l ≡ None
+  pub free : (w : World) → IsOf file (λ c. IsRecovered c.held w) → (l : Loaded) → LoadsText text l → adopt_fault w.register path l ≡ None
 
 abbrev pub Finds : {D : Type 0} (met : Ghosts D) → Command → Sides → D → Type 0
 Finds met (init config journal lanes) sides before = IsConfigured sides.text × (take 8 (met.reads before) ≢ magic)

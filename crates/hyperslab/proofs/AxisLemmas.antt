@@ -5,9 +5,9 @@ use Rattle.std.proofs.lemmas.Nat.{mul-le}
 use Rattle.std.proofs.lemmas.Bool.{lt-ltb, le-ltb}
 use Rattle.std.proofs.lemmas.Bool.Decides.{nat_tests}
 use Rattle.std.proofs.lemmas.List.{drop_more, drop_all}
-use Rattle.shapes.specs.Places.{room_of}
+use Rattle.shapes.specs.RowMajor.{room_of}
 use Rattle.shapes.specs.declared.TheConstants.{MAX_EXTENT}
-use Rattle.shapes.proofs.PlaceLemmas.{one-room}
+use Rattle.shapes.proofs.RowMajorLemmas.{one-room}
 use Rattle.json_trees.proofs.FaultLemmas.{chosen}
 use Rattle.hyperslab.specs.declared.SlabFault.{SlabFault}
 use Rattle.hyperslab.specs.declared.SlabFault.TheVariants.{Step, Order, Past}

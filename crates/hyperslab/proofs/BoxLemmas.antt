@@ -2,14 +2,14 @@
 use Rattle.std.proofs.Common.{◌≡◌, ℕ, suc, ◌+◌, ◌*◌, ◌-◌, ◌/◌, ◌%◌, ◌<◌, ◌≤◌, min, List, [], ◌∷◌, map, inl, inr, refl, sym, ap, ◌∙◌, arith}
 use Rattle.std.proofs.lemmas.Nat.{mul-le, mod_below, div-add-mod', div-mul-add, mod-mul-add}
 use Rattle.std.proofs.lemmas.Bool.{cases_lt}
-use Rattle.shapes.specs.Places.{cell_count, IsInside}
-use Rattle.shapes.proofs.PlaceLemmas.{some_factor}
+use Rattle.shapes.specs.RowMajor.{cell_count, IsInside}
+use Rattle.shapes.proofs.RowMajorLemmas.{some_factor}
 use Rattle.hyperslab.specs.Selected.{Axis, AreAxes, extent, point}
 use Rattle.hyperslab.proofs.AxisLemmas.{axis_with}
 use Rattle.hyperslab.proofs.SelectLemmas.{point_below}
 use Rattle.hyperslab.proofs.CellLemmas.{extent_above}
 use Rattle.hyperslab.specs.Runs.{InBox, inner}
-use Rattle.hyperslab.specs.Numbered.{Side, first_of, count_of, extent_of, wide_of, steps_to, inner_to, place_to, offset_to, last_count, last_step}
+use Rattle.hyperslab.specs.Numbered.{Side, first_of, count_of, extent_of, wide_of, steps_to, inner_to, index_to, offset_to, last_count, last_step}
 
 abbrev pub axis_of : Side → Axis
 axis_of s = s.axis
@@ -122,8 +122,8 @@ one_digit j = omega (arith, div-add-mod' j 1)
 
 -- two numbers that differ behind an axis are as far apart as they are there
 pub lifted : (s : Side) (ss : List Side) (q l i j r x y : ℕ) → cell_count (counts ss) ≡ q * l → 0 < q → i < l → j < l
-    → (place_to ss (r % q * l + i) ≡ place_to ss (r % q * l + j) + x) × (offset_to ss (r % q * l + i) ≡ offset_to ss (r % q * l + j) + y)
-    → (place_to (s ∷ ss) (r * l + i) ≡ place_to (s ∷ ss) (r * l + j) + x) × (offset_to (s ∷ ss) (r * l + i) ≡ offset_to (s ∷ ss) (r * l + j) + y)
+    → (index_to ss (r % q * l + i) ≡ index_to ss (r % q * l + j) + x) × (offset_to ss (r % q * l + i) ≡ offset_to ss (r % q * l + j) + y)
+    → (index_to (s ∷ ss) (r * l + i) ≡ index_to (s ∷ ss) (r * l + j) + x) × (offset_to (s ∷ ss) (r * l + i) ≡ offset_to (s ∷ ss) (r * l + j) + y)
 lifted s ss q l i j r x y cells some hi hj rest =
     let one = split_digit r q l i hi some in
     let two = split_digit r q l j hj some in
@@ -133,7 +133,7 @@ lifted s ss q l i j r x y cells some hi hj rest =
     let m_one : (r * l + i) % cell_count (counts ss) ≡ m * l + i = rw cells one.1 in
     let d_two : (r * l + j) / cell_count (counts ss) ≡ d = rw cells two.0 in
     let m_two : (r * l + j) % cell_count (counts ss) ≡ m * l + j = rw cells two.1 in
-    let p = λ (e k : ℕ). (first_of s + e) * cell_count (extents_to ss) + place_to ss k in
+    let p = λ (e k : ℕ). (first_of s + e) * cell_count (extents_to ss) + index_to ss k in
     let o = λ (e k : ℕ). (s.axis.lo + (first_of s + e) * s.axis.by - s.low) * cell_count (wides ss) + offset_to ss k in
     let p_one = ap (λ e. p e ((r * l + i) % cell_count (counts ss))) d_one ∙ ap (p d) m_one in
     let p_two = ap (λ e. p e ((r * l + j) % cell_count (counts ss))) d_two ∙ ap (p d) m_two in
@@ -144,7 +144,7 @@ lifted s ss q l i j r x y cells some hi hj rest =
     (p_one ∙ p_mid ∙ ap (λ n. n + x) (sym p_two), o_one ∙ o_mid ∙ ap (λ n. n + y) (sym o_two))
 
 pub run_step : (ss : List Side) (r i : ℕ) → AreAxes (map axis_of ss) → i < last_count ss → r * last_count ss + i < cell_count (counts ss)
-    → (place_to ss (r * last_count ss + i) ≡ place_to ss (r * last_count ss) + i) × (offset_to ss (r * last_count ss + i) ≡ offset_to ss (r * last_count ss) + i * last_step ss)
+    → (index_to ss (r * last_count ss + i) ≡ index_to ss (r * last_count ss) + i) × (offset_to ss (r * last_count ss + i) ≡ offset_to ss (r * last_count ss) + i * last_step ss)
 run_step [] r i h l b = (omega arith, omega arith)
 run_step (s ∷ []) r i h l b =
     let none : r ≡ 0 = elim (cases_lt r 1) [
@@ -173,5 +173,5 @@ run_step (s ∷ (t ∷ ss)) r i h l b =
     let start : m * long ≡ m * long + 0 = omega arith in
     let whole : r * long + 0 ≡ r * long = omega arith in
     let up = lifted s (t ∷ ss) div.0 long i 0 r i (i * last_step (t ∷ ss)) cells some l (omega (arith, l))
-    (rest.0 ∙ ap (λ j. place_to (t ∷ ss) j + i) start, rest.1 ∙ ap (λ j. offset_to (t ∷ ss) j + i * last_step (t ∷ ss)) start) in
-    (up.0 ∙ ap (λ j. place_to (s ∷ (t ∷ ss)) j + i) whole, up.1 ∙ ap (λ j. offset_to (s ∷ (t ∷ ss)) j + i * last_step (t ∷ ss)) whole)
+    (rest.0 ∙ ap (λ j. index_to (t ∷ ss) j + i) start, rest.1 ∙ ap (λ j. offset_to (t ∷ ss) j + i * last_step (t ∷ ss)) start) in
+    (up.0 ∙ ap (λ j. index_to (s ∷ (t ∷ ss)) j + i) whole, up.1 ∙ ap (λ j. offset_to (s ∷ (t ∷ ss)) j + i * last_step (t ∷ ss)) whole)

@@ -4,19 +4,19 @@ use Rattle.std.specs.List.{range_with_len}
 use Rattle.std.proofs.lemmas.Nat.{mul-le, div_below, mod_below, div-add-mod', div-mul-add, mod-mul-add}
 use Rattle.std.proofs.lemmas.List.{length-map, drop_all}
 use Rattle.std.proofs.lemmas.List.FromFn.{length-map-range_with_len, get_or-map-range_with_len}
-use Rattle.shapes.specs.Places.{cell_count, IsInside, digits_by, place}
-use Rattle.shapes.proofs.PlaceLemmas.{place_below, place_once, cell_count-room, some_factor}
+use Rattle.shapes.specs.RowMajor.{cell_count, IsInside, digits_by, linear_index}
+use Rattle.shapes.proofs.RowMajorLemmas.{index_below, index_once, cell_count-room, some_factor}
 use Rattle.shapes.proofs.CellLemmas.{digits_in}
 use Rattle.hyperslab.specs.declared.TheConstants.{MAX_SELECTED}
 use Rattle.hyperslab.specs.Selected.{AreAxes, axes_of, cell_at, extents, point}
 use Rattle.hyperslab.proofs.SelectLemmas.{below_room}
-use Rattle.hyperslab.proofs.CellLemmas.{cell_placed}
+use Rattle.hyperslab.proofs.CellLemmas.{cell_indexed}
 use Rattle.shapes.specs.declared.TheConstants.{MAX_CHUNK_BYTES}
 use Rattle.shapes.specs.ChunkDims.{IsChunkDim}
 use Rattle.hyperslab.specs.declared.numbered.Numbered.{Numbered}
 use Rattle.hyperslab.specs.declared.runs.Run.{Run}
-use Rattle.hyperslab.specs.Runs.{InBox, inner, IsBoxed, IsRun, IsStep, AreRuns, AreBoxed, AreAll, AreOnce, run_at, place_at, offset_at}
-use Rattle.hyperslab.specs.Numbered.{AreNumbered, Side, sides_of, run_of, runs_from, first_of, count_of, extent_of, wide_of, steps_to, inner_to, place_to, offset_to, last_count, last_step}
+use Rattle.hyperslab.specs.Runs.{InBox, inner, IsBoxed, IsRun, IsStep, AreRuns, AreBoxed, AreAll, AreOnce, run_at, index_at, offset_at}
+use Rattle.hyperslab.specs.Numbered.{AreNumbered, Side, sides_of, run_of, runs_from, first_of, count_of, extent_of, wide_of, steps_to, inner_to, index_to, offset_to, last_count, last_step}
 use Rattle.hyperslab.proofs.BoxLemmas.{axis_of, low_of, counts, extents_to, wides, box_in, box_of, steps_once, run_step, axis_in}
 use Rattle.hyperslab.proofs.SideLemmas.{IsSided, sided, count_facts, IsTurn, walk_step, wide_some, got, lo_of, by_of}
 
@@ -33,7 +33,7 @@ number_below r k i h l m =
     omega (arith, row, h.many, h.cells, ap cell_count h.counts)
 
 -- the cell number `j` of the box
-cell_boxed : (r : Numbered) (j : ℕ) → AreNumbered r → j < cell_count (counts (sides_of r)) → IsBoxed r.slab r.origin r.chunk (place_to (sides_of r) j) (offset_to (sides_of r) j)
+cell_boxed : (r : Numbered) (j : ℕ) → AreNumbered r → j < cell_count (counts (sides_of r)) → IsBoxed r.slab r.origin r.chunk (index_to (sides_of r) j) (offset_to (sides_of r) j)
 cell_boxed r j h l =
     let ss = sides_of r in
     let parts = runs_sided r h in
@@ -41,33 +41,33 @@ cell_boxed r j h l =
     let ks = steps_to ss (digits_by (counts ss) j) in
     let box = box_in ss (digits_by (counts ss) j) parts.sound lies.0 in
     let inside : IsInside ks (extents r.slab) = subst (λ ns. IsInside ks ns) (sym parts.extents) box.0 in
-    let found : cell_at r.slab (place ks (extents_to ss)) ≡ point ks (axes_of r.slab) = ap (λ ns. cell_at r.slab (place ks ns)) (sym parts.extents) ∙ cell_placed r.slab ks h.slab inside in
+    let found : cell_at r.slab (linear_index ks (extents_to ss)) ≡ point ks (axes_of r.slab) = ap (λ ns. cell_at r.slab (linear_index ks ns)) (sym parts.extents) ∙ cell_indexed r.slab ks h.slab inside in
     let there : InBox (point ks (axes_of r.slab)) r.origin r.chunk =
     subst (λ xs. InBox (point ks xs) r.origin r.chunk) parts.axes (subst (λ os. InBox (point ks (map axis_of ss)) os r.chunk) (sym parts.origin) (subst (λ ns. InBox (point ks (map axis_of ss)) (map low_of ss) ns) (sym parts.side) box.1)) in
     let offs : inner (point ks (axes_of r.slab)) r.origin ≡ inner_to ss (digits_by (counts ss) j) =
     ap (λ xs. inner (point ks xs) r.origin) (sym parts.axes) ∙ ap (inner (point ks (map axis_of ss))) parts.origin ∙ sym box.2 in
     record {
-      selected = subst (λ ns. place ks (extents_to ss) < cell_count ns) (sym parts.extents) (place_below ks (extents_to ss) box.0);
+      selected = subst (λ ns. linear_index ks (extents_to ss) < cell_count ns) (sym parts.extents) (index_below ks (extents_to ss) box.0);
       inside = subst (λ xs. InBox xs r.origin r.chunk) (sym found) there;
-      offset = ap (λ xs. place (inner xs r.origin) r.chunk) found ∙ ap (λ xs. place xs r.chunk) offs ∙ ap (place (inner_to ss (digits_by (counts ss) j))) parts.side;
+      offset = ap (λ xs. linear_index (inner xs r.origin) r.chunk) found ∙ ap (λ xs. linear_index xs r.chunk) offs ∙ ap (linear_index (inner_to ss (digits_by (counts ss) j))) parts.side;
     }
 
 pub run_cells : (r : Numbered) (k i : ℕ) → AreNumbered r → k < r.many → i < r.len
-    → (place_to (sides_of r) (k * r.len + i) ≡ place_to (sides_of r) (k * r.len) + i) × (offset_to (sides_of r) (k * r.len + i) ≡ offset_to (sides_of r) (k * r.len) + i * r.stride)
+    → (index_to (sides_of r) (k * r.len + i) ≡ index_to (sides_of r) (k * r.len) + i) × (offset_to (sides_of r) (k * r.len + i) ≡ offset_to (sides_of r) (k * r.len) + i * r.stride)
 run_cells r k i h l m =
     let ss = sides_of r in
     let parts = runs_sided r h in
     let within = number_below r k i h l m in
     let few : i < last_count (sides_of r) = omega (arith, m, h.len) in
     let step = run_step ss k i parts.sound few (subst (λ n. k * n + i < cell_count (counts ss)) h.len within) in (
-      ap (λ n. place_to ss (k * n + i)) h.len ∙ step.0 ∙ ap (λ n. place_to ss (k * n) + i) (sym h.len),
+      ap (λ n. index_to ss (k * n + i)) h.len ∙ step.0 ∙ ap (λ n. index_to ss (k * n) + i) (sym h.len),
       ap (λ n. offset_to ss (k * n + i)) h.len ∙ step.1 ∙ ap (λ n. offset_to ss (k * last_count ss) + i * n) (sym h.stride) ∙ ap (λ n. offset_to ss (k * n) + i * r.stride) (sym h.len),
     )
 
-run_boxed : (r : Numbered) (k i : ℕ) → AreNumbered r → k < r.many → i < r.len → IsBoxed r.slab r.origin r.chunk (place_at (run_of r k) i) (offset_at (run_of r k) i)
+run_boxed : (r : Numbered) (k i : ℕ) → AreNumbered r → k < r.many → i < r.len → IsBoxed r.slab r.origin r.chunk (index_at (run_of r k) i) (offset_at (run_of r k) i)
 run_boxed r k i h l m =
     let e = run_cells r k i h l m in
-    subst (λ o. IsBoxed r.slab r.origin r.chunk (place_at (run_of r k) i) o) e.1 (subst (λ p. IsBoxed r.slab r.origin r.chunk p (offset_to (sides_of r) (k * r.len + i))) e.0 (cell_boxed r (k * r.len + i) h (number_below r k i h l m)))
+    subst (λ o. IsBoxed r.slab r.origin r.chunk (index_at (run_of r k) i) o) e.1 (subst (λ p. IsBoxed r.slab r.origin r.chunk p (offset_to (sides_of r) (k * r.len + i))) e.0 (cell_boxed r (k * r.len + i) h (number_below r k i h l m)))
 
 -- ---- the runs as a list
 
@@ -88,7 +88,7 @@ there_step r k i few small = (omega (arith, few, many_runs r), subst (λ x. i < 
 pub all_boxed : (r : Numbered) → AreNumbered r → AreBoxed r.slab r.origin r.chunk (runs_from r 0)
 all_boxed r h k i step =
     let there = step_there r k i step in
-    subst (λ x. IsBoxed r.slab r.origin r.chunk (place_at x i) (offset_at x i)) (sym (run_there r k there.0)) (run_boxed r k i h there.0 there.1)
+    subst (λ x. IsBoxed r.slab r.origin r.chunk (index_at x i) (offset_at x i)) (sym (run_there r k there.0)) (run_boxed r k i h there.0 there.1)
 
 pub all_in : (r : Numbered) → AreNumbered r → AreAll r.slab r.origin r.chunk (runs_from r 0)
 all_in r h p l box =
@@ -100,11 +100,11 @@ all_in r h p l box =
     subst (λ ns. InBox (point ks (map axis_of ss)) (map low_of ss) ns) parts.side (subst (λ os. InBox (point ks (map axis_of ss)) os r.chunk) parts.origin (subst (λ xs. InBox (point ks xs) r.origin r.chunk) (sym parts.axes) box)) in
     let in_ext = subst (λ ns. IsInside ks ns) parts.extents lies.0 in
     let made = box_of ss ks parts.sound in_ext sided_here in
-    let j = place made.0 (counts ss) in
-    let below = place_below made.0 (counts ss) made.1 in
+    let j = linear_index made.0 (counts ss) in
+    let below = index_below made.0 (counts ss) made.1 in
     let round = digits_in (counts ss) j below in
-    let same : digits_by (counts ss) j ≡ made.0 = place_once (digits_by (counts ss) j) made.0 (counts ss) round.0 made.1 round.1 in
-    let at : place_to ss j ≡ p = ap (λ ds. place (steps_to ss ds) (extents_to ss)) same ∙ ap (λ xs. place xs (extents_to ss)) made.2 ∙ ap (place ks) (sym parts.extents) ∙ lies.1 in
+    let same : digits_by (counts ss) j ≡ made.0 = index_once (digits_by (counts ss) j) made.0 (counts ss) round.0 made.1 round.1 in
+    let at : index_to ss j ≡ p = ap (λ ds. linear_index (steps_to ss ds) (extents_to ss)) same ∙ ap (λ xs. linear_index xs (extents_to ss)) made.2 ∙ ap (linear_index ks) (sym parts.extents) ∙ lies.1 in
     let total : cell_count (counts (sides_of r)) ≡ r.many * r.len = sym (ap cell_count h.counts) ∙ sym h.cells ∙ sym h.many in
     let few : j < r.many * r.len = subst (λ n. j < n) total below in
     let some = (some_factor r.many r.len j few).1 in
@@ -113,15 +113,15 @@ all_in r h p l box =
     let some_run = div_below j r.len r.many some few in
     let some_step = mod_below j r.len some in
     let split = div-add-mod' j r.len in
-    let here : place_at (run_of r k) i ≡ p = sym (run_cells r k i h some_run some_step).0 ∙ ap (place_to ss) split ∙ at in
+    let here : index_at (run_of r k) i ≡ p = sym (run_cells r k i h some_run some_step).0 ∙ ap (index_to ss) split ∙ at in
     record {
       run = k;
       step = i;
       is_step = there_step r k i some_run some_step;
-      place = ap (λ x. place_at x i) (run_there r k some_run) ∙ here;
+      index = ap (λ x. index_at x i) (run_there r k some_run) ∙ here;
     }
 
-number_once : (r : Numbered) → AreNumbered r → (j k : ℕ) → j < cell_count (counts (sides_of r)) → k < cell_count (counts (sides_of r)) → place_to (sides_of r) j ≡ place_to (sides_of r) k → j ≡ k
+number_once : (r : Numbered) → AreNumbered r → (j k : ℕ) → j < cell_count (counts (sides_of r)) → k < cell_count (counts (sides_of r)) → index_to (sides_of r) j ≡ index_to (sides_of r) k → j ≡ k
 number_once r h j k l m e =
     let ss = sides_of r in
     let parts = runs_sided r h in
@@ -129,10 +129,10 @@ number_once r h j k l m e =
     let two = digits_in (counts ss) k m in
     let a = (box_in ss (digits_by (counts ss) j) parts.sound one.0).0 in
     let b = (box_in ss (digits_by (counts ss) k) parts.sound two.0).0 in
-    let same = steps_once ss (digits_by (counts ss) j) (digits_by (counts ss) k) one.0 two.0 (place_once (steps_to ss (digits_by (counts ss) j)) (steps_to ss (digits_by (counts ss) k)) (extents_to ss) a b e) in
-    sym one.1 ∙ ap (λ ds. place ds (counts ss)) same ∙ two.1
+    let same = steps_once ss (digits_by (counts ss) j) (digits_by (counts ss) k) one.0 two.0 (index_once (steps_to ss (digits_by (counts ss) j)) (steps_to ss (digits_by (counts ss) k)) (extents_to ss) a b e) in
+    sym one.1 ∙ ap (λ ds. linear_index ds (counts ss)) same ∙ two.1
 
-step_once : (r : Numbered) → AreNumbered r → (j k i l : ℕ) → (j < r.many) × (i < r.len) → (k < r.many) × (l < r.len) → place_at (run_of r j) i ≡ place_at (run_of r k) l → (j ≡ k) × (i ≡ l)
+step_once : (r : Numbered) → AreNumbered r → (j k i l : ℕ) → (j < r.many) × (i < r.len) → (k < r.many) × (l < r.len) → index_at (run_of r j) i ≡ index_at (run_of r k) l → (j ≡ k) × (i ≡ l)
 step_once r h j k i l one two e =
     let a = run_cells r j i h one.0 one.1 in
     let b = run_cells r k l h two.0 two.1 in
@@ -143,7 +143,7 @@ pub all_once : (r : Numbered) → AreNumbered r → AreOnce (runs_from r 0)
 all_once r h j k i l one two e =
     let a = step_there r j i one in
     let b = step_there r k l two in
-    step_once r h j k i l a b (ap (λ x. place_at x i) (sym (run_there r j a.0)) ∙ e ∙ ap (λ x. place_at x l) (run_there r k b.0))
+    step_once r h j k i l a b (ap (λ x. index_at x i) (sym (run_there r j a.0)) ∙ e ∙ ap (λ x. index_at x l) (run_there r k b.0))
 
 stride_some : (ss : List Side) → AreAxes (map axis_of ss) → 1 ≤ last_step ss
 stride_some [] h = omega arith
@@ -172,7 +172,7 @@ runs_end r k e =
 pub record IsSmall (r : Numbered) (k : ℕ) : Type 0 where
   pub below : k * r.len < r.cells
   pub total : k * r.len ≤ MAX_SELECTED
-  pub place : place_to (sides_of r) (k * r.len) ≤ MAX_SELECTED
+  pub place : index_to (sides_of r) (k * r.len) ≤ MAX_SELECTED
   pub offset : offset_to (sides_of r) (k * r.len) ≤ MAX_CHUNK_BYTES
 
 pub counts_le : (ss : List Side) → AreAxes (map axis_of ss) → cell_count (counts ss) ≤ cell_count (extents_to ss)
@@ -203,7 +203,7 @@ number_small r k h l =
     let parts = runs_sided r h in
     let lies = digits_in (counts (sides_of r)) (k * r.len) start in
     let inside = (inner_in (sides_of r) (digits_by (counts (sides_of r)) (k * r.len)) parts.sound lies.0) in
-    let off = place_below (inner_to (sides_of r) (digits_by (counts (sides_of r)) (k * r.len))) (wides (sides_of r)) inside in
+    let off = index_below (inner_to (sides_of r) (digits_by (counts (sides_of r)) (k * r.len))) (wides (sides_of r)) inside in
     let room = cell_count-room (extents r.slab) in
     record {
       below = omega (arith, start, h.cells, ap cell_count h.counts);
@@ -214,7 +214,7 @@ number_small r k h l =
 
 -- one step of a run's walk, by what the calls have given
 pub step_of : (r : Numbered) (i step rest p o all off m f e w a by lo st : ℕ) → AreNumbered r → i < length r.counts
-    → step ≡ cell_count (counts (drop i (sides_of r))) → rest < step → p * cell_count (extents_to (drop i (sides_of r))) + place_to (drop i (sides_of r)) rest ≡ all → o * cell_count (wides (drop i (sides_of r))) + offset_to (drop i (sides_of r)) rest ≡ off
+    → step ≡ cell_count (counts (drop i (sides_of r))) → rest < step → p * cell_count (extents_to (drop i (sides_of r))) + index_to (drop i (sides_of r)) rest ≡ all → o * cell_count (wides (drop i (sides_of r))) + offset_to (drop i (sides_of r)) rest ≡ off
     → m ≡ get_or r.counts i 0 → f ≡ get_or r.firsts i 0 → e ≡ get_or r.extents i 0 → w ≡ get_or r.chunk i 0
     → a ≡ get_or r.slab.start i 0 → by ≡ get_or r.slab.step i 0 → lo ≡ get_or r.origin i 0 → st ≡ step / m
     → IsTurn (sides_of r) i st rest p o all off m f e w a by lo
@@ -256,7 +256,7 @@ below_extent r i h l =
     let few = below_room (extents r.slab) i 0 (omega (arith, longs.extents, l, ap length h.extents)) in
     omega (arith, e, few, h.slab.room)
 
-pub run_ended : (r : Numbered) (i rest p o all off : ℕ) → AreNumbered r → length r.counts ≤ i → p * cell_count (extents_to (drop i (sides_of r))) + place_to (drop i (sides_of r)) rest ≡ all
+pub run_ended : (r : Numbered) (i rest p o all off : ℕ) → AreNumbered r → length r.counts ≤ i → p * cell_count (extents_to (drop i (sides_of r))) + index_to (drop i (sides_of r)) rest ≡ all
     → o * cell_count (wides (drop i (sides_of r))) + offset_to (drop i (sides_of r)) rest ≡ off → (p ≡ all) × (o ≡ off)
 run_ended r i rest p o all off h l ep eo =
     let past : length (sides_of r) ≤ i = omega (arith, l, ap length h.counts, length-map (sides_of r) count_of) in

@@ -3,13 +3,13 @@ use Rattle.std.proofs.Common.{◌≡◌, ℕ, suc, ◌+◌, ◌*◌, ◌-◌, �
 use Rattle.std.specs.List.{AllZip}
 use Rattle.std.proofs.lemmas.Nat.{mul-le, le-div, div-add-mod', mod-mul-add}
 use Rattle.std.proofs.lemmas.Bool.{cases_lt, lt-ltb, le-leb, eq-eqb, leb-true, ltb-true, eqb-true, and_parts, and_from}
-use Rattle.shapes.specs.Places.{cell_count, IsInside, digits_by, place}
+use Rattle.shapes.specs.RowMajor.{cell_count, IsInside, digits_by, linear_index}
 use Rattle.std.proofs.lemmas.List.Elements.{All-filter}
 use Rattle.shapes.specs.Shapes.{LiesIn, cells_of}
 use Rattle.shapes.proofs.CellLemmas.{digits_in, cells_inside as cells_lie}
 use Rattle.shapes.specs.declared.Shape.{Shape}
 use Rattle.shapes.specs.declared.Shape.TheVariants.{Null, Scalar, Simple}
-use Rattle.shapes.proofs.PlaceLemmas.{place_below, place_once}
+use Rattle.shapes.proofs.RowMajorLemmas.{index_below, index_once}
 use Rattle.hyperslab.specs.declared.Slab.{Slab}
 use Rattle.hyperslab.specs.Selected.{Axis, AreAxes, IsSlab, FitsIn, SlabIn, AreApart, axes_of, is_on, is_at, extent, extents, point, selected, slab_cells, cell_at}
 use Rattle.hyperslab.proofs.AxisLemmas.{axis_with, extent_some}
@@ -93,18 +93,18 @@ point_once (n ∷ ks) (m ∷ ls) (x ∷ xs) h k l e =
 pub cell_selected : (s : Slab) (k : ℕ) → IsSlab s → k < cell_count (extents s) → is_at (axes_of s) (cell_at s k) ≡ true
 cell_selected s k h l = point_at (digits_by (extents s) k) (axes_of s) h.sound (digits_in (extents s) k l).0
 
-pub digits_back : (ks ms : List ℕ) → IsInside ks ms → digits_by ms (place ks ms) ≡ ks
+pub digits_back : (ks ms : List ℕ) → IsInside ks ms → digits_by ms (linear_index ks ms) ≡ ks
 digits_back ks ms h =
-    let lies = digits_in ms (place ks ms) (place_below ks ms h) in
-    place_once (digits_by ms (place ks ms)) ks ms lies.0 h lies.1
+    let lies = digits_in ms (linear_index ks ms) (index_below ks ms h) in
+    index_once (digits_by ms (linear_index ks ms)) ks ms lies.0 h lies.1
 
-pub cell_placed : (s : Slab) (ks : List ℕ) → IsSlab s → IsInside ks (extents s) → cell_at s (place ks (extents s)) ≡ point ks (axes_of s)
-cell_placed s ks h inside = ap (λ ns. point ns (axes_of s)) (digits_back ks (extents s) inside)
+pub cell_indexed : (s : Slab) (ks : List ℕ) → IsSlab s → IsInside ks (extents s) → cell_at s (linear_index ks (extents s)) ≡ point ks (axes_of s)
+cell_indexed s ks h inside = ap (λ ns. point ns (axes_of s)) (digits_back ks (extents s) inside)
 
 pub cell_each : (s : Slab) (at : List ℕ) → IsSlab s → is_at (axes_of s) at ≡ true → (k : ℕ) × (k < cell_count (extents s)) × (cell_at s k ≡ at)
 cell_each s at h e =
     let found = at_point (axes_of s) at h.sound e in
-    (place found.0 (extents s), place_below found.0 (extents s) found.1, cell_placed s found.0 h found.1 ∙ found.2)
+    (linear_index found.0 (extents s), index_below found.0 (extents s) found.1, cell_indexed s found.0 h found.1 ∙ found.2)
 
 pub cell_once : (s : Slab) (k l : ℕ) → IsSlab s → k < cell_count (extents s) → l < cell_count (extents s) → cell_at s k ≡ cell_at s l → k ≡ l
 cell_once s k l h low_k low_l e =
@@ -112,7 +112,7 @@ cell_once s k l h low_k low_l e =
     let one = digits_in ms k low_k in
     let two = digits_in ms l low_l in
     let same = point_once (digits_by ms k) (digits_by ms l) (axes_of s) h.sound one.0 two.0 e in
-    sym one.1 ∙ ap (λ ks. place ks ms) same ∙ two.1
+    sym one.1 ∙ ap (λ ks. linear_index ks ms) same ∙ two.1
 
 pub cell_listed : (s : Slab) (dims : List ℕ) (k : ℕ) → IsSlab s → FitsIn s dims → k < cell_count (extents s) → get_or (selected s dims) k [] ≡ cell_at s k
 cell_listed s dims k h fits l =

@@ -6,7 +6,7 @@ use Rattle.json_trees.proofs.FaultLemmas.{chosen}
 use Rattle.json_trees.proofs.TreeLemmas.{length-AllZip}
 use Rattle.shapes.specs.declared.Shape.{Shape}
 use Rattle.shapes.specs.declared.Shape.TheVariants.{Null, Scalar, Simple}
-use Rattle.shapes.specs.Places.{room_of}
+use Rattle.shapes.specs.RowMajor.{room_of}
 use Rattle.hyperslab.specs.declared.Slab.{Slab}
 use Rattle.hyperslab.specs.declared.SlabFault.{SlabFault}
 use Rattle.hyperslab.specs.declared.SlabFault.TheVariants.{Syntax, Rank, Step, Order, Past, TooMany}

@@ -3,8 +3,8 @@ use Rattle.std.proofs.Common.{◌≡◌, ℕ, zero, suc, ◌+◌, ◌*◌, ◌-�
 use Rattle.std.proofs.lemmas.Nat.{mul-le, mod_below, div-add-mod', div-mul-add, mod-mul-add}
 use Rattle.std.proofs.lemmas.Bool.{cases_lt}
 use Rattle.std.proofs.lemmas.List.{drop_more, length-map}
-use Rattle.shapes.specs.Places.{cell_count}
-use Rattle.shapes.proofs.PlaceLemmas.{cell_count-room, some_factor}
+use Rattle.shapes.specs.RowMajor.{cell_count}
+use Rattle.shapes.proofs.RowMajorLemmas.{cell_count-room, some_factor}
 use Rattle.shapes.specs.declared.TheConstants.{MAX_CHUNK_BYTES}
 use Rattle.hyperslab.specs.declared.TheConstants.{MAX_SELECTED}
 use Rattle.hyperslab.specs.declared.numbered.Numbered.{Numbered}
@@ -12,7 +12,7 @@ use Rattle.hyperslab.specs.declared.numbered.Row.{Row}
 use Rattle.hyperslab.specs.declared.numbered.Last.{Last}
 use Rattle.shapes.specs.ChunkDims.{IsChunkDim}
 use Rattle.hyperslab.specs.Selected.{AreAxes, IsAxis, extents}
-use Rattle.hyperslab.specs.Numbered.{AreNumbered, IsLast, IsRow, Side, sides_of, run_of, moved, first_of, count_of, extent_of, wide_of, place_to, offset_to, last_count}
+use Rattle.hyperslab.specs.Numbered.{AreNumbered, IsLast, IsRow, Side, sides_of, run_of, moved, first_of, count_of, extent_of, wide_of, index_to, offset_to, last_count}
 use Rattle.hyperslab.proofs.BoxLemmas.{axis_of, counts, extents_to, wides, axis_in, lifted, shifted}
 use Rattle.hyperslab.proofs.SideLemmas.{got, by_of, no_side, sound_at, wide_some}
 use Rattle.hyperslab.proofs.BoxRunLemmas.{runs_sided, number_below, number_small, counts_le, same_run}
@@ -25,7 +25,7 @@ split_here r m n e z h =
     (ap (λ j. j / n) whole ∙ div-mul-add e n 0 h, ap (λ j. j % n) whole ∙ mod-mul-add e n 0 h)
 
 row_head : (s : Side) (ss : List Side) (r d : ℕ) → IsAxis s.axis → d + 1 < count_of s → r * (count_of s * cell_count (counts ss)) + (d + 1) * cell_count (counts ss) < count_of s * cell_count (counts ss)
-    → (place_to (s ∷ ss) (r * (count_of s * cell_count (counts ss)) + (d + 1) * cell_count (counts ss)) ≡ place_to (s ∷ ss) (r * (count_of s * cell_count (counts ss)) + d * cell_count (counts ss)) + cell_count (extents_to ss))
+    → (index_to (s ∷ ss) (r * (count_of s * cell_count (counts ss)) + (d + 1) * cell_count (counts ss)) ≡ index_to (s ∷ ss) (r * (count_of s * cell_count (counts ss)) + d * cell_count (counts ss)) + cell_count (extents_to ss))
     × (offset_to (s ∷ ss) (r * (count_of s * cell_count (counts ss)) + (d + 1) * cell_count (counts ss)) ≡ offset_to (s ∷ ss) (r * (count_of s * cell_count (counts ss)) + d * cell_count (counts ss)) + by_of s * cell_count (wides ss))
 row_head s ss r d h l b =
     let m = count_of s in
@@ -41,7 +41,7 @@ row_head s ss r d h l b =
     let off : (s.axis.lo + (first_of s + (d + 1)) * s.axis.by - s.low) ≡ (s.axis.lo + (first_of s + d) * s.axis.by - s.low) + 1 * s.axis.by = shifted s.axis.lo (first_of s) d s.axis.by s.low 1 lies.1 in
     let ce = cell_count (extents_to ss) in
     let cw = cell_count (wides ss) in
-    let p = λ (e j : ℕ). (first_of s + e) * ce + place_to ss j in
+    let p = λ (e j : ℕ). (first_of s + e) * ce + index_to ss j in
     let o = λ (e j : ℕ). (s.axis.lo + (first_of s + e) * s.axis.by - s.low) * cw + offset_to ss j in
     let j = r * (m * n) + d * n in
     let k = r * (m * n) + (d + 1) * n in
@@ -62,7 +62,7 @@ divides_at (s ∷ ss) (suc i) h =
 
 row_step : (ss : List Side) (i r d m n : ℕ) → AreAxes (map axis_of ss) → i < length ss → m ≡ count_of (get_or ss i no_side) → n ≡ cell_count (counts (drop (suc i) ss)) → d + 1 < m
     → r * (m * n) + (d + 1) * n < cell_count (counts ss)
-    → (place_to ss (r * (m * n) + (d + 1) * n) ≡ place_to ss (r * (m * n) + d * n) + cell_count (extents_to (drop (suc i) ss)))
+    → (index_to ss (r * (m * n) + (d + 1) * n) ≡ index_to ss (r * (m * n) + d * n) + cell_count (extents_to (drop (suc i) ss)))
     × (offset_to ss (r * (m * n) + (d + 1) * n) ≡ offset_to ss (r * (m * n) + d * n) + by_of (get_or ss i no_side) * cell_count (wides (drop (suc i) ss)))
 row_step [] i r d m n sound h em en l b = absurd (omega arith)
 row_step (s ∷ ss) zero r d m n sound h em en l b =
@@ -94,7 +94,7 @@ drop_more_at ss i z h =
 
 pub record IsTail (r : Numbered) (i p o : ℕ) : Type 0 where
   pub len : r.len ≡ cell_count (counts (drop i (sides_of r)))
-  pub places : p ≡ cell_count (extents_to (drop i (sides_of r)))
+  pub indices : p ≡ cell_count (extents_to (drop i (sides_of r)))
   pub offsets : o ≡ cell_count (wides (drop i (sides_of r)))
 
 last_tail : (ss : List Side) (k : ℕ) → length ss ≡ suc k → (last_count ss ≡ cell_count (counts (drop k ss))) × (drop k ss ≡ get_or ss k no_side ∷ [])
@@ -121,9 +121,9 @@ factor_some f (s ∷ ss) (suc i) l h = factor_some f ss i (omega arith) (some_fa
 -- what a box of some cells has
 pub record IsFilled (r : Numbered) : Type 0 where
   pub some_cells : 0 < cell_count (counts (sides_of r))
-  pub some_places : 0 < cell_count (extents_to (sides_of r))
+  pub some_indices : 0 < cell_count (extents_to (sides_of r))
   pub some_offsets : 0 < cell_count (wides (sides_of r))
-  pub places_most : cell_count (extents_to (sides_of r)) ≤ MAX_SELECTED
+  pub indices_most : cell_count (extents_to (sides_of r)) ≤ MAX_SELECTED
   pub offsets_most : cell_count (wides (sides_of r)) ≤ MAX_CHUNK_BYTES
 
 pub filled : (r : Numbered) → AreNumbered r → 0 < r.many → IsFilled r
@@ -135,9 +135,9 @@ filled r h l =
     let dims = subst (λ ns. All IsChunkDim ns) parts.side h.chunk.dims in
     record {
       some_cells = pos;
-      some_places = omega (arith, pos, fewer);
+      some_indices = omega (arith, pos, fewer);
       some_offsets = wide_some (sides_of r) 0 dims;
-      places_most = omega (arith, ap cell_count parts.extents, cell_count-room (extents r.slab), h.slab.room);
+      indices_most = omega (arith, ap cell_count parts.extents, cell_count-room (extents r.slab), h.slab.room);
       offsets_most = omega (arith, ap cell_count parts.side, h.chunk.cells);
     }
 
@@ -150,7 +150,7 @@ tail_first r k p o h l ep eo =
     let within : k < length (sides_of r) = omega (arith, long) in
     record {
       len = h.len ∙ last.0;
-      places = ep ∙ got extent_of ss r.extents k (h.extents ∙ parts.extents) within ∙ omega arith ∙ ap (λ ts. cell_count (extents_to ts)) (sym last.1);
+      indices = ep ∙ got extent_of ss r.extents k (h.extents ∙ parts.extents) within ∙ omega arith ∙ ap (λ ts. cell_count (extents_to ts)) (sym last.1);
       offsets = eo ∙ got wide_of ss r.chunk k parts.side within ∙ omega arith ∙ ap (λ ts. cell_count (wides ts)) (sym last.1);
     }
 
@@ -159,7 +159,7 @@ tail_from r i j p o e tail = subst (λ n. IsTail r n p o) e tail
 
 -- with one axis more, which has one number in the box
 pub record IsNext (r : Numbered) (i p o e w : ℕ) : Type 0 where
-  pub places_fit : p * e ≤ MAX_SELECTED
+  pub indices_fit : p * e ≤ MAX_SELECTED
   pub offsets_fit : o * w ≤ MAX_CHUNK_BYTES
   pub tail : IsTail r i (p * e) (o * w)
 
@@ -174,20 +174,20 @@ tail_next r i m p o e w h some l tail em few ee ew =
     let one : count_of (get_or ss i no_side) ≡ 1 = omega (arith, em ∙ got count_of ss r.counts i h.counts long, few, factor_some count_of ss i long box.some_cells) in
     let len : r.len ≡ cell_count (counts (drop i (sides_of r))) =
     tail.len ∙ omega arith ∙ ap (λ n. n * cell_count (counts (drop (suc i) ss))) (sym one) ∙ ap (λ ts. cell_count (counts ts)) (sym cut) in
-    let places : p * e ≡ cell_count (extents_to (drop i (sides_of r))) =
-    ap (λ n. n * e) tail.places ∙ ap (λ n. cell_count (extents_to (drop (suc i) ss)) * n) (ee ∙ got extent_of ss r.extents i (h.extents ∙ parts.extents) long) ∙ omega arith ∙ ap (λ ts. cell_count (extents_to ts)) (sym cut) in
+    let indices : p * e ≡ cell_count (extents_to (drop i (sides_of r))) =
+    ap (λ n. n * e) tail.indices ∙ ap (λ n. cell_count (extents_to (drop (suc i) ss)) * n) (ee ∙ got extent_of ss r.extents i (h.extents ∙ parts.extents) long) ∙ omega arith ∙ ap (λ ts. cell_count (extents_to ts)) (sym cut) in
     let offsets : o * w ≡ cell_count (wides (drop i (sides_of r))) =
     ap (λ n. n * w) tail.offsets ∙ ap (λ n. cell_count (wides (drop (suc i) ss)) * n) (ew ∙ got wide_of ss r.chunk i parts.side long) ∙ omega arith ∙ ap (λ ts. cell_count (wides ts)) (sym cut) in
     record {
-      places_fit = omega (arith, places, factors_most extent_of ss i box.some_places, box.places_most);
+      indices_fit = omega (arith, indices, factors_most extent_of ss i box.some_indices, box.indices_most);
       offsets_fit = omega (arith, offsets, factors_most wide_of ss i box.some_offsets, box.offsets_most);
-      tail = record { len = len; places = places; offsets = offsets };
+      tail = record { len = len; indices = indices; offsets = offsets };
     }
 
 -- ---- the row along an axis
 
 abbrev pub record_row : ℕ → ℕ → ℕ → Row
-record_row m p o = record { many = m; place_step = p; offset_step = o }
+record_row m p o = record { many = m; index_step = p; offset_step = o }
 
 -- a step of an axis with two numbers in the box is less than the box is wide
 pub step_fits : (r : Numbered) (i m p o c : ℕ) → AreNumbered r → 0 < r.many → i < length r.counts → IsTail r (suc i) p o → m ≡ get_or r.counts i 0 → 1 < m → c ≡ get_or r.slab.step i 0 → c * o ≤ MAX_CHUNK_BYTES
@@ -222,12 +222,12 @@ along_goes r i k m p o c h long tail m_is several c_is below more =
     let here : k * n ≡ q * (m * n) + d * n = ap (λ j. j * n) number ∙ omega arith in
     let inside = number_below r (k + 1) 0 h below (h.some_len (k + 1) below) in
     let step = row_step ss i q d m n parts.sound long m_is tail.len (omega (arith, less, digit)) (omega (arith, inside, up)) in
-    let places : place_to ss ((k + 1) * n) ≡ place_to ss (k * n) + p =
-    ap (place_to ss) up ∙ step.0 ∙ ap (λ j. place_to ss j + cell_count (extents_to (drop (suc i) ss))) (sym here) ∙ ap (λ x. place_to ss (k * n) + x) (sym tail.places) in
+    let indices : index_to ss ((k + 1) * n) ≡ index_to ss (k * n) + p =
+    ap (index_to ss) up ∙ step.0 ∙ ap (λ j. index_to ss j + cell_count (extents_to (drop (suc i) ss))) (sym here) ∙ ap (λ x. index_to ss (k * n) + x) (sym tail.indices) in
     let apart : by_of (get_or ss i no_side) * cell_count (wides (drop (suc i) ss)) ≡ c * o = ap (λ x. x * cell_count (wides (drop (suc i) ss))) (sym c_is) ∙ ap (λ x. c * x) (sym tail.offsets) in
     let offsets : offset_to ss ((k + 1) * n) ≡ offset_to ss (k * n) + c * o =
     ap (offset_to ss) up ∙ step.1 ∙ ap (λ j. offset_to ss j + by_of (get_or ss i no_side) * cell_count (wides (drop (suc i) ss))) (sym here) ∙ ap (λ x. offset_to ss (k * n) + x) apart in
-    same_run _ _ _ _ r.stride r.len places offsets
+    same_run _ _ _ _ r.stride r.len indices offsets
 
 pub row_along : (r : Numbered) (i m p o c : ℕ) → AreNumbered r → i < length r.counts → IsTail r (suc i) p o → m ≡ get_or r.counts i 0 → 1 < m → c ≡ get_or r.slab.step i 0 → IsRow r (record_row m p (c * o))
 row_along r i m p o c h l tail em several ec =
@@ -277,7 +277,7 @@ inside_row r w k x h l =
 -- the next run is the one before it moved
 pub record IsMoved (r : Numbered) (w : Row) (k : ℕ) (x : Last) : Type 0 where
   pub run : run_of r k ≡ moved w x.run
-  pub place_fits : x.run.place + w.place_step ≤ MAX_SELECTED
+  pub index_fits : x.run.place + w.index_step ≤ MAX_SELECTED
   pub offset_fits : x.run.offset + w.offset_step ≤ MAX_CHUNK_BYTES
 
 pub is_moved : (r : Numbered) (w : Row) (k : ℕ) (x : Last) → AreNumbered r → IsRow r w → k < r.many → IsLast r w k x → 0 < x.left → IsMoved r w k x
@@ -289,7 +289,7 @@ is_moved r w k x h row below last some =
     let small = number_small r k h below in
     record {
       run = run;
-      place_fits = omega (arith, ap (λ y. y.place) run, small.place);
+      index_fits = omega (arith, ap (λ y. y.place) run, small.place);
       offset_fits = omega (arith, ap (λ y. y.offset) run, small.offset);
     }
 

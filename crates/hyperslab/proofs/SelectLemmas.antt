@@ -7,12 +7,12 @@ use Rattle.std.proofs.lemmas.Bool.{lt-ltb, le-ltb, le-leb, cases_lt}
 use Rattle.std.proofs.lemmas.Bool.Decides.{nat_tests}
 use Rattle.std.proofs.lemmas.List.{drop_all}
 use Rattle.std.proofs.lemmas.List.Elements.{filter-append}
-use Rattle.shapes.specs.Places.{cell_count, room_of, IsInside, place, grid, extents_of, picked, run_from, coordinates}
+use Rattle.shapes.specs.RowMajor.{cell_count, room_of, IsInside, linear_index, grid, extents_of, picked, run_from, coordinates}
 use Rattle.shapes.specs.Shapes.{IsWithin, LiesIn, dims_of}
 use Rattle.shapes.specs.declared.Shape.{Shape}
 use Rattle.shapes.specs.declared.Shape.TheVariants.{Null, Scalar, Simple}
-use Rattle.shapes.proofs.PlaceLemmas.{one-room}
-use Rattle.shapes.proofs.GridLemmas.{length-grid, grid-place}
+use Rattle.shapes.proofs.RowMajorLemmas.{one-room}
+use Rattle.shapes.proofs.GridLemmas.{length-grid, grid-index}
 use Rattle.hyperslab.specs.Selected.{Axis, AreAxes, is_on, is_at, extent, on_count, point}
 use Rattle.hyperslab.proofs.AxisLemmas.{axis_with, extent_some, extent_none}
 
@@ -162,7 +162,7 @@ extents_numbers (x ∷ xs) = ap (λ n. n ∷ extents_of (map numbers xs)) (lengt
 pub selected_count : (xs : List Axis) (dims : List ℕ) → AreAxes xs → AllZip (λ x n. x.hi ≤ n) xs dims → length (filter (is_at xs) (coordinates dims)) ≡ cell_count (map extent xs)
 selected_count xs dims h k = ap length (selected_grid xs dims h k) ∙ length-grid (map numbers xs) ∙ ap cell_count (extents_numbers xs)
 
--- ---- the cell at a place
+-- ---- the cell with a linear index
 
 get_or-steps : (a c n k : ℕ) → k < n → get_or (steps_from a c n) k 0 ≡ a + k * c
 get_or-steps a c zero k h = absurd (omega arith)
@@ -177,12 +177,12 @@ picked_point (k ∷ ks) (x ∷ xs) h =
     ap (λ n. n ∷ picked ks (map numbers xs)) (get_or-steps x.lo x.by (extent x) k h.0) ∙ ap (λ ns. (x.lo + k * x.by) ∷ ns) (picked_point ks xs h.1)
 
 pub selected_at : (xs : List Axis) (dims ks : List ℕ) → AreAxes xs → AllZip (λ x n. x.hi ≤ n) xs dims → IsInside ks (map extent xs)
-    → get_or (filter (is_at xs) (coordinates dims)) (place ks (map extent xs)) [] ≡ point ks xs
+    → get_or (filter (is_at xs) (coordinates dims)) (linear_index ks (map extent xs)) [] ≡ point ks xs
 selected_at xs dims ks h k inside =
     let lies : IsInside ks (extents_of (map numbers xs)) = rw (extents_numbers xs) inside in
-    ap (λ ls. get_or ls (place ks (map extent xs)) []) (selected_grid xs dims h k)
-    ∙ ap (λ ns. get_or (grid (map numbers xs)) (place ks ns) []) (sym (extents_numbers xs))
-    ∙ grid-place ks (map numbers xs) lies
+    ap (λ ls. get_or ls (linear_index ks (map extent xs)) []) (selected_grid xs dims h k)
+    ∙ ap (λ ns. get_or (grid (map numbers xs)) (linear_index ks ns) []) (sym (extents_numbers xs))
+    ∙ grid-index ks (map numbers xs) lies
     ∙ picked_point ks xs inside
 
 -- a step below the extent stays below the end

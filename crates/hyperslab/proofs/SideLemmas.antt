@@ -6,8 +6,8 @@ use Rattle.std.proofs.lemmas.Bool.{cases_lt}
 use Rattle.std.proofs.lemmas.List.{drop_more, drop_all, append_assoc, append-nil, length-map}
 use Rattle.std.specs.List.{AllZip}
 use Rattle.std.proofs.lemmas.List.Elements.{All-tail, AllZip-get_or}
-use Rattle.shapes.specs.Places.{cell_count, room_of, digits_by}
-use Rattle.shapes.proofs.PlaceLemmas.{place_below, one-room, some_factor}
+use Rattle.shapes.specs.RowMajor.{cell_count, room_of, digits_by}
+use Rattle.shapes.proofs.RowMajorLemmas.{index_below, one-room, some_factor}
 use Rattle.shapes.proofs.CellLemmas.{digits_in}
 use Rattle.shapes.specs.declared.TheConstants.{MAX_EXTENT}
 use Rattle.hyperslab.specs.Selected.{Axis, AreAxes, IsAxis, IsSlab, axes, axes_of, extent, extents}
@@ -17,7 +17,7 @@ use Rattle.hyperslab.proofs.SelectLemmas.{point_below}
 use Rattle.hyperslab.proofs.CellLemmas.{extent_above}
 use Rattle.shapes.specs.ChunkDims.{IsChunkDim}
 use Rattle.shapes.proofs.ChunkDimLemmas.{one_cell}
-use Rattle.hyperslab.specs.Numbered.{Side, sides, below, first_of, count_of, extent_of, wide_of, steps_to, place_to, offset_to, last_count, last_step}
+use Rattle.hyperslab.specs.Numbered.{Side, sides, below, first_of, count_of, extent_of, wide_of, steps_to, index_to, offset_to, last_count, last_step}
 use Rattle.hyperslab.proofs.BoxLemmas.{axis_of, low_of, counts, extents_to, wides, axis_in, box_in, last_divides}
 
 abbrev pub no_side : Side
@@ -173,16 +173,16 @@ pub record IsTurn (ss : List Side) (i st rest p o all off m f e w a by lo : ℕ)
   pub low : lo ≤ a + (f + rest / st) * by
   pub high : a + (f + rest / st) * by < lo + w
   pub most : a + (f + rest / st) * by ≤ MAX_EXTENT
-  pub places : (p * e + (f + rest / st)) * cell_count (extents_to (drop (i + 1) ss)) + place_to (drop (i + 1) ss) (rest % st) ≡ all
+  pub indices : (p * e + (f + rest / st)) * cell_count (extents_to (drop (i + 1) ss)) + index_to (drop (i + 1) ss) (rest % st) ≡ all
   pub offsets : (o * w + (a + (f + rest / st) * by - lo)) * cell_count (wides (drop (i + 1) ss)) + offset_to (drop (i + 1) ss) (rest % st) ≡ off
-  pub place_most : p * e + (f + rest / st) ≤ all
+  pub index_most : p * e + (f + rest / st) ≤ all
   pub offset_most : o * w + (a + (f + rest / st) * by - lo) ≤ off
 
 factor_most : (x c q p : ℕ) → 0 < c → x * c + q ≡ p → x ≤ p
 factor_most x c q p h e = omega (arith, mul-le x 1 x c (omega arith) (omega arith), e)
 
 step_here : (s : Side) (ss : List Side) (step rest p o all off : ℕ) → IsAxis s.axis → AreAxes (map axis_of ss) → step ≡ count_of s * cell_count (counts ss) → rest < step
-    → p * cell_count (extents_to (s ∷ ss)) + place_to (s ∷ ss) rest ≡ all → o * cell_count (wides (s ∷ ss)) + offset_to (s ∷ ss) rest ≡ off
+    → p * cell_count (extents_to (s ∷ ss)) + index_to (s ∷ ss) rest ≡ all → o * cell_count (wides (s ∷ ss)) + offset_to (s ∷ ss) rest ≡ off
     → 0 < cell_count (wides ss)
     → (0 < count_of s) × (step / count_of s ≡ cell_count (counts ss)) × (0 < cell_count (counts ss)) × (rest / cell_count (counts ss) < count_of s)
     × (0 < cell_count (extents_to ss))
@@ -192,11 +192,11 @@ step_here s ss step rest p o all off sound more e l x y wide =
     let pos : 0 < count_of s = omega (arith, digit) in
     let lies = digits_in (counts ss) 0 some in
     let inside = (box_in ss (digits_by (counts ss) 0) more lies.0).0 in
-    let ext : 0 < cell_count (extents_to ss) = omega (arith, place_below (steps_to ss (digits_by (counts ss) 0)) (extents_to ss) inside) in
+    let ext : 0 < cell_count (extents_to ss) = omega (arith, index_below (steps_to ss (digits_by (counts ss) 0)) (extents_to ss) inside) in
     (pos, ap (λ n. n / count_of s) e ∙ mul-div_cancel_left (cell_count (counts ss)) pos, some, digit, ext)
 
 pub walk_step : (ss : List Side) (i step st rest p o all off m f e w a by lo : ℕ) → i < length ss → AreAxes (map axis_of ss) → 0 < cell_count (wides (drop (i + 1) ss))
-    → step ≡ cell_count (counts (drop i ss)) → rest < step → p * cell_count (extents_to (drop i ss)) + place_to (drop i ss) rest ≡ all → o * cell_count (wides (drop i ss)) + offset_to (drop i ss) rest ≡ off
+    → step ≡ cell_count (counts (drop i ss)) → rest < step → p * cell_count (extents_to (drop i ss)) + index_to (drop i ss) rest ≡ all → o * cell_count (wides (drop i ss)) + offset_to (drop i ss) rest ≡ off
     → m ≡ count_of (get_or ss i no_side) → f ≡ first_of (get_or ss i no_side) → e ≡ extent_of (get_or ss i no_side) → w ≡ wide_of (get_or ss i no_side)
     → a ≡ lo_of (get_or ss i no_side) → by ≡ by_of (get_or ss i no_side) → lo ≡ low_of (get_or ss i no_side)
     → st ≡ step / m → IsTurn ss i st rest p o all off m f e w a by lo
@@ -212,7 +212,7 @@ walk_step ss i step st rest p o all off m f e w a by lo h sound wide es l ep eo 
     let k = step_here s tail step rest p o all off axis more es_here l ep_here eo_here wide in
     let d = rest / cell_count (counts tail) in
     let lies = axis_in s.axis.lo s.axis.hi s.axis.by s.low s.wide (first_of s + d) axis.2 (omega arith) (omega (arith, k.3)) in
-    let places : (p * extent_of s + (first_of s + d)) * cell_count (extents_to tail) + place_to tail (rest % cell_count (counts tail)) ≡ all = omega (arith, ep_here) in
+    let indices : (p * extent_of s + (first_of s + d)) * cell_count (extents_to tail) + index_to tail (rest % cell_count (counts tail)) ≡ all = omega (arith, ep_here) in
     let offsets : (o * wide_of s + (s.axis.lo + (first_of s + d) * s.axis.by - s.low)) * cell_count (wides tail) + offset_to tail (rest % cell_count (counts tail)) ≡ off = omega (arith, eo_here) in
     let now : st ≡ cell_count (counts tail) = est ∙ ap (λ n. step / n) em ∙ k.1 in
     rw (em, ef, ee, ew, ea, ec, el, now) (record {
@@ -224,9 +224,9 @@ walk_step ss i step st rest p o all off m f e w a by lo h sound wide es l ep eo 
       low = lies.1;
       high = lies.2;
       most = omega (arith, point_below s.axis.lo s.axis.hi s.axis.by (first_of s + d) axis.2 lies.0, axis.1);
-      places = places;
+      indices = indices;
       offsets = offsets;
-      place_most = factor_most (p * extent_of s + (first_of s + d)) (cell_count (extents_to tail)) _ all k.4 places;
+      index_most = factor_most (p * extent_of s + (first_of s + d)) (cell_count (extents_to tail)) _ all k.4 indices;
       offset_most = factor_most (o * wide_of s + (s.axis.lo + (first_of s + d) * s.axis.by - s.low)) (cell_count (wides tail)) _ off wide offsets;
     })
 

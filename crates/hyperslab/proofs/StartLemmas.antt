@@ -3,9 +3,9 @@ use Rattle.std.proofs.Common.{◌≡◌, ℕ, zero, suc, ◌+◌, ◌*◌, ◌-�
 use Rattle.std.proofs.Math.Nat.{div-le_self, mod-le}
 use Rattle.std.proofs.lemmas.Bool.{cases_lt, lt-ltb, le-ltb, and_parts, ltb-true}
 use Rattle.std.proofs.lemmas.List.{append-nil, drop_all, drop_more, length-append, length-drop, length-take-le, take_all}
-use Rattle.shapes.specs.Places.{cell_count, IsInside, place, digits_by}
+use Rattle.shapes.specs.RowMajor.{cell_count, IsInside, linear_index, digits_by}
 use Rattle.shapes.proofs.CellLemmas.{digits_in}
-use Rattle.shapes.proofs.PlaceLemmas.{place_below, place_once}
+use Rattle.shapes.proofs.RowMajorLemmas.{index_below, index_once}
 use Rattle.hyperslab.specs.declared.Slab.{Slab}
 use Rattle.hyperslab.specs.Selected.{Axis, AreAxes, IsSlab, axes, axes_of, is_on, is_at, extent, extents, point, cell_at}
 use Rattle.hyperslab.proofs.AxisLemmas.{axis_at, axes_end, axes_from, axes_more, length-axes}

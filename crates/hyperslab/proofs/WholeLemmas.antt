@@ -4,7 +4,7 @@ use Rattle.std.specs.Prelude.{IfOk}
 use Rattle.shapes.specs.declared.Shape.{Shape}
 use Rattle.shapes.specs.declared.Shape.TheVariants.{Null, Scalar, Simple}
 use Rattle.shapes.specs.declared.TheConstants.{MAX_EXTENT}
-use Rattle.shapes.specs.Places.{grid, run_from, coordinates}
+use Rattle.shapes.specs.RowMajor.{grid, run_from, coordinates}
 use Rattle.shapes.specs.Shapes.{IsSound, cells_of}
 use Rattle.hyperslab.specs.declared.Slab.{Slab}
 use Rattle.hyperslab.specs.Selected.{axes, axes_of, extents, selected, slab_cells}

@@ -3,7 +3,7 @@ use Rattle.std.specs.Prelude.{ℕ, suc, ◌&&◌, Bool, true, false, List, [], �
 use Rattle.serde_json.specs.Data.{Data}
 use Rattle.shapes.specs.declared.Shape.{Shape}
 use Rattle.shapes.specs.declared.Shape.TheVariants.{Null, Scalar, Simple}
-use Rattle.shapes.specs.Places.{room_of}
+use Rattle.shapes.specs.RowMajor.{room_of}
 use Rattle.shapes.specs.Shapes.{dims_of}
 use Rattle.shapes.specs.Extents.{dims_in}
 use Rattle.shapes.specs.Spelled.{few_of}

@@ -7,7 +7,7 @@ pub mod Outcomes
 pub mod Runs
 pub mod Numbered
 pub use Rattle.shapes.specs.Shapes
-pub use Rattle.shapes.specs.Places
+pub use Rattle.shapes.specs.RowMajor
 pub use Rattle.shapes.specs.Extents
 pub use Rattle.shapes.specs.Spelled
 pub use Rattle.serde_json.specs.View

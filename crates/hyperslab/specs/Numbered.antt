@@ -1,7 +1,7 @@
 -- The runs of a selection in a box by their numbers.
 use Rattle.std.specs.Prelude.{◌≡◌, ℕ, ◌+◌, ◌*◌, ◌-◌, ◌%◌, ◌<◌, ◌≤◌, min, List, [], ◌∷◌, map, length}
 use Rattle.std.specs.List.{range_with_len}
-use Rattle.shapes.specs.Places.{cell_count, digits_by, place}
+use Rattle.shapes.specs.RowMajor.{cell_count, digits_by, linear_index}
 use Rattle.hyperslab.specs.Selected.{Axis, IsSlab, axes_of, extent, extents}
 use Rattle.shapes.specs.ChunkDims.{IsChunk}
 use Rattle.hyperslab.specs.declared.numbered.Numbered.{Numbered}
@@ -49,12 +49,12 @@ abbrev pub inner_to : List Side → List ℕ → List ℕ
 inner_to (s ∷ ss) (d ∷ ds) = (s.axis.lo + (first_of s + d) * s.axis.by - s.low) ∷ inner_to ss ds
 inner_to ss ds = []
 
--- the place among the selected, and in the box
-abbrev pub place_to : List Side → ℕ → ℕ
-place_to ss j = place (steps_to ss (digits_by (map count_of ss) j)) (map extent_of ss)
+-- the linear index among the selected, and in the box
+abbrev pub index_to : List Side → ℕ → ℕ
+index_to ss j = linear_index (steps_to ss (digits_by (map count_of ss) j)) (map extent_of ss)
 
 abbrev pub offset_to : List Side → ℕ → ℕ
-offset_to ss j = place (inner_to ss (digits_by (map count_of ss) j)) (map wide_of ss)
+offset_to ss j = linear_index (inner_to ss (digits_by (map count_of ss) j)) (map wide_of ss)
 
 -- how many numbers of the last axis lie in the box, and how far apart they are
 abbrev pub last_count : List Side → ℕ
@@ -88,7 +88,7 @@ pub record AreNumbered (r : Numbered) : Type 0 where
 
 -- the run number `k` begins with the cell number `k * len`
 abbrev pub run_of : Numbered → ℕ → Run
-run_of r k = record { place = place_to (sides_of r) (k * r.len); offset = offset_to (sides_of r) (k * r.len); stride = r.stride; len = r.len }
+run_of r k = record { place = index_to (sides_of r) (k * r.len); offset = offset_to (sides_of r) (k * r.len); stride = r.stride; len = r.len }
 
 -- the runs from a number on
 abbrev pub runs_from : Numbered → ℕ → List Run
@@ -98,7 +98,7 @@ runs_from r k = map (run_of r) (range_with_len k (r.many - k))
 
 -- the run after this one in its row
 abbrev pub moved : Row → Run → Run
-moved w x = record { place = x.place + w.place_step; offset = x.offset + w.offset_step; stride = x.stride; len = x.len }
+moved w x = record { place = x.place + w.index_step; offset = x.offset + w.offset_step; stride = x.stride; len = x.len }
 
 -- every so many runs are a row
 pub record IsRow (r : Numbered) (w : Row) : Type 0 where

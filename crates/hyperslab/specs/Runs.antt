@@ -1,6 +1,6 @@
 -- Runs that cover the cells of a selection that lie in a box.
 use Rattle.std.specs.Prelude.{◌≡◌, ℕ, ◌+◌, ◌*◌, ◌-◌, ◌<◌, ◌≤◌, List, [], ◌∷◌, length, slice_index_or}
-use Rattle.shapes.specs.Places.{cell_count, place}
+use Rattle.shapes.specs.RowMajor.{cell_count, linear_index}
 use Rattle.hyperslab.specs.Selected.{extents, cell_at}
 use Rattle.hyperslab.specs.declared.Slab.{Slab}
 use Rattle.hyperslab.specs.declared.runs.Run.{Run}
@@ -17,9 +17,9 @@ inner [] os = []
 inner (x ∷ xs) [] = []
 inner (x ∷ xs) (o ∷ os) = (x - o) ∷ inner xs os
 
--- the row-major place in the box
+-- the linear index in the box (row-major)
 abbrev pub offset_from : List ℕ → List ℕ → List ℕ → ℕ
-offset_from at origin dims = place (inner at origin) dims
+offset_from at origin dims = linear_index (inner at origin) dims
 
 -- the selected cell number `p` lies in the box, at the offset `o`
 pub record IsBoxed (s : Slab) (origin dims : List ℕ) (p o : ℕ) : Type 0 where
@@ -35,8 +35,8 @@ run_at runs k = slice_index_or runs k (record { place = 0; offset = 0; stride = 
 abbrev pub IsStep : List Run → ℕ → ℕ → Type 0
 IsStep runs k i = (k < length runs) × (i < (run_at runs k).len)
 
-abbrev pub place_at : Run → ℕ → ℕ
-place_at r i = r.place + i
+abbrev pub index_at : Run → ℕ → ℕ
+index_at r i = r.place + i
 
 abbrev pub offset_at : Run → ℕ → ℕ
 offset_at r i = r.offset + i * r.stride
@@ -49,21 +49,21 @@ pub record IsRun (r : Run) : Type 0 where
 abbrev pub AreRuns : List Run → Type 0
 AreRuns runs = (k : ℕ) → k < length runs → IsRun (run_at runs k)
 
--- each step is a selected cell in the box, at its place and offset
+-- each step is a selected cell in the box, with its linear index and offset
 abbrev pub AreBoxed : Slab → List ℕ → List ℕ → List Run → Type 0
-AreBoxed s origin dims runs = (k i : ℕ) → IsStep runs k i → IsBoxed s origin dims (place_at (run_at runs k) i) (offset_at (run_at runs k) i)
+AreBoxed s origin dims runs = (k i : ℕ) → IsStep runs k i → IsBoxed s origin dims (index_at (run_at runs k) i) (offset_at (run_at runs k) i)
 
--- a run has a step at this place
+-- a run has a step with this linear index
 pub record IsInRun (runs : List Run) (p : ℕ) : Type 0 where
   pub run : ℕ
   pub step : ℕ
   pub is_step : IsStep runs run step
-  pub place : place_at (run_at runs run) step ≡ p
+  pub index : index_at (run_at runs run) step ≡ p
 
 -- each selected cell in the box is a step
 abbrev pub AreAll : Slab → List ℕ → List ℕ → List Run → Type 0
 AreAll s origin dims runs = (p : ℕ) → p < cell_count (extents s) → InBox (cell_at s p) origin dims → IsInRun runs p
 
--- no two steps have the same place
+-- no two steps have the same linear index
 abbrev pub AreOnce : List Run → Type 0
-AreOnce runs = (j k i l : ℕ) → IsStep runs j i → IsStep runs k l → place_at (run_at runs j) i ≡ place_at (run_at runs k) l → (j ≡ k) × (i ≡ l)
+AreOnce runs = (j k i l : ℕ) → IsStep runs j i → IsStep runs k l → index_at (run_at runs j) i ≡ index_at (run_at runs k) l → (j ≡ k) × (i ≡ l)

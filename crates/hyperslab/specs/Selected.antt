@@ -1,7 +1,7 @@
 -- Which cells a selection selects.
 use Rattle.std.specs.Prelude.{◌≡◌, ℕ, ◌+◌, ◌-◌, ◌*◌, ◌/◌, ◌%◌, ◌<◌, ◌≤◌, ◌⊎◌, ◌&&◌, Bool, true, false, List, [], ◌∷◌, map, length, slice_index_or, nat_le, nat_lt, nat_eq, if◌then◌else◌}
 use Rattle.std.specs.List.{filter, AllZip}
-use Rattle.shapes.specs.Places.{cell_count, coordinates, digits_by, room_of, run_from}
+use Rattle.shapes.specs.RowMajor.{cell_count, coordinates, digits_by, room_of, run_from}
 use Rattle.shapes.specs.declared.Shape.{Shape}
 use Rattle.shapes.specs.declared.Shape.TheVariants.{Null, Scalar, Simple}
 use Rattle.shapes.specs.declared.TheConstants.{MAX_RANK, MAX_EXTENT}
@@ -91,7 +91,7 @@ slab_cells s Null = []
 slab_cells s Scalar = selected s []
 slab_cells s (Simple dims limits) = selected s dims
 
--- no cell stands at two places
+-- no cell has two linear indices
 abbrev pub AreApart : List (List ℕ) → Type 0
 AreApart cells = (p q : ℕ) → p < length cells → q < length cells → slice_index_or cells p [] ≡ slice_index_or cells q [] → p ≡ q
 

@@ -1,7 +1,7 @@
 //! The tests of a selection in their order.
 
 ghost use Rattle.std.specs.Prelude.{◌≡◌, ◌↔◌, ◌≤◌, ℕ, List, All, Option, Some, None, Result, Ok, Err, IfOk, length, map};
-ghost use Rattle.shapes.specs.Places.{room_of};
+ghost use Rattle.shapes.specs.RowMajor.{room_of};
 ghost use Rattle.shapes.specs.Shapes.{IsSound};
 ghost use Rattle.shapes.specs.declared.TheConstants.{MAX_CELLS, MAX_EXTENT};
 ghost use Rattle.shapes.specs.declared.Shape.{Shape};

@@ -39,7 +39,7 @@ pub(crate) struct Row {
     /// How many they are.
     many: u64,
     /// How far each is from the one before it among the selected.
-    place_step: u64,
+    index_step: u64,
     /// How far it is from it in the box.
     offset_step: u64,
 }
@@ -148,7 +148,7 @@ impl Numbered {
         if rank == 0 || self.many < 2 {
             return Row::single();
         }
-        let mut place_step = self.extents.get(rank - 1);
+        let mut index_step = self.extents.get(rank - 1);
         let mut offset_step = self.chunk.get(rank - 1);
         for behind in 1..rank {
             let axis = rank - 1 - behind;
@@ -159,11 +159,11 @@ impl Numbered {
             if many > 1 {
                 return Row {
                     many,
-                    place_step,
+                    index_step,
                     offset_step: apart * offset_step,
                 };
             }
-            place_step *= extent;
+            index_step *= extent;
             offset_step *= wide;
         }
         Row::single()
@@ -185,7 +185,7 @@ impl Numbered {
             };
         }
         let run = Run {
-            place: last.run.place + row.place_step,
+            place: last.run.place + row.index_step,
             offset: last.run.offset + row.offset_step,
             stride: last.run.stride,
             len: last.run.len,
@@ -204,7 +204,7 @@ impl Row {
     {
         Row {
             many: 1,
-            place_step: 0,
+            index_step: 0,
             offset_step: 0,
         }
     }

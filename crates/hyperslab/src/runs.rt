@@ -15,9 +15,9 @@ use std::marker::Model;
 /// Selected cells of a box that follow one another among the selected, a stride apart in the box.
 #[derive(Clone, Copy, Debug, PartialEq, Eq)]
 pub struct Run {
-    /// The place of the first among the selected.
+    /// The linear index of the first among the selected.
     pub place: u64,
-    /// Its row-major place in the box.
+    /// Its linear index in the box (row-major).
     pub offset: u64,
     /// How far apart they are in the box.
     pub stride: u64,

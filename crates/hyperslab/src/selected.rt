@@ -2,7 +2,7 @@
 
 ghost use Rattle.std.specs.Prelude.{◌≡◌, ◌≤◌, ◌<◌, ℕ, List, [], All, true, map, length, slice_index_or};
 ghost use Rattle.std.specs.List.{AllZip};
-ghost use Rattle.shapes.specs.Places.{cell_count, room_of, IsInside, place};
+ghost use Rattle.shapes.specs.RowMajor.{cell_count, room_of, IsInside, linear_index};
 ghost use Rattle.shapes.specs.Shapes.{IsSound, dims_of, count_of, LiesIn};
 ghost use Rattle.shapes.specs.declared.Shape.{Shape};
 ghost use Rattle.shapes.specs.declared.TheConstants.{MAX_RANK};
@@ -68,8 +68,8 @@ pub fn each_cell_once()
         → is_at (axes_of s) (cell_at s k) ≡ true }
     ensures each { (s : Slab) (at : List ℕ) → IsSlab s → is_at (axes_of s) at ≡ true
         → (k : ℕ) × (k < cell_count (extents s)) × (cell_at s k ≡ at) }
-    ensures placed { (s : Slab) (ks : List ℕ) → IsSlab s → IsInside ks (extents s)
-        → cell_at s (place ks (extents s)) ≡ point ks (axes_of s) }
+    ensures indexed { (s : Slab) (ks : List ℕ) → IsSlab s → IsInside ks (extents s)
+        → cell_at s (linear_index ks (extents s)) ≡ point ks (axes_of s) }
     ensures once { (s : Slab) (k l : ℕ) → IsSlab s → k < cell_count (extents s)
         → l < cell_count (extents s) → cell_at s k ≡ cell_at s l → k ≡ l }
     ensures apart { (s : Slab) (shape : Shape) → IsSlab s → SlabIn s shape

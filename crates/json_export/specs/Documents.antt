@@ -19,7 +19,7 @@ home_of (Some Folder) = None
 home_of (Some (Domain number root)) = Some (record { number = number; root = root })
 
 abbrev pub home_at : World → List ℕ → Option Home
-home_at w path = home_of (class_at w.door.catalogue path)
+home_at w path = home_of (class_at w.register.catalogue path)
 
 -- its document: none where no domain is at the path
 abbrev pub doc : World → List ℕ → Option Data

@@ -13,7 +13,7 @@ use Rattle.json_trees.specs.Faults.{◌>>=◌}
 use Rattle.json_trees.proofs.FaultLemmas.{chosen, test_ok, bind_ok}
 use Rattle.shapes.specs.declared.Shape.{Shape}
 use Rattle.shapes.specs.declared.Shape.TheVariants.{Null, Scalar, Simple}
-use Rattle.shapes.specs.Places.{IsInside, is_inside}
+use Rattle.shapes.specs.RowMajor.{IsInside, is_inside}
 use Rattle.shapes.specs.Shapes.{IsDims, LiesIn}
 use Rattle.shapes.proofs.ShapeLemmas.{dims_alone_told, dims_alone_read}
 use Rattle.shapes.specs.declared.TheConstants.{MAX_RANK}

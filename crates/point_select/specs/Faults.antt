@@ -6,7 +6,7 @@ use Rattle.json_trees.specs.Faults.{◌>>=◌, Gives, Fails}
 use Rattle.shapes.specs.declared.Shape.{Shape}
 use Rattle.shapes.specs.declared.Shape.TheVariants.{Null, Scalar, Simple}
 use Rattle.shapes.specs.Extents.{dims_in}
-use Rattle.shapes.specs.Places.{is_inside}
+use Rattle.shapes.specs.RowMajor.{is_inside}
 use Rattle.shapes.specs.Spelled.{few_of}
 use Rattle.point_select.specs.declared.TheConstants.{MAX_POINTS}
 use Rattle.point_select.specs.declared.PointFault.{PointFault}

@@ -1,7 +1,7 @@
 pub mod Points
 pub mod Faults
 pub use Rattle.shapes.specs.Extents
-pub use Rattle.shapes.specs.Places
+pub use Rattle.shapes.specs.RowMajor
 pub use Rattle.shapes.specs.Shapes
 pub use Rattle.shapes.specs.Spelled
 pub use Rattle.json_trees.specs.Trees

@@ -5,7 +5,7 @@ use Rattle.serde_json.specs.Data.{Data, Items, array}
 use Rattle.json_trees.specs.Trees.{list_of}
 use Rattle.shapes.specs.declared.Shape.{Shape}
 use Rattle.shapes.specs.declared.Shape.TheVariants.{Null, Scalar, Simple}
-use Rattle.shapes.specs.Places.{IsInside}
+use Rattle.shapes.specs.RowMajor.{IsInside}
 use Rattle.shapes.specs.Shapes.{IsDims}
 use Rattle.point_select.specs.declared.TheConstants.{MAX_POINTS}
 use Rattle.point_select.specs.declared.PointFault.{PointFault}

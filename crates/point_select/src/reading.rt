@@ -6,7 +6,7 @@ ghost use Rattle.serde_json.specs.Data.{Data, Items, array};
 ghost use Rattle.serde_json.specs.View.{view};
 ghost use Rattle.shapes.specs.declared.Shape.{Shape};
 ghost use Rattle.shapes.specs.declared.Shape.TheVariants.{Simple};
-ghost use Rattle.shapes.specs.Places.{is_inside};
+ghost use Rattle.shapes.specs.RowMajor.{is_inside};
 ghost use Rattle.shapes.specs.Shapes.{LiesIn, lies_in, dims_of};
 ghost use Rattle.shapes.specs.Extents.{extent_in};
 ghost use Rattle.shapes.specs.Spelled.{few_of};

@@ -22,7 +22,7 @@ use Rattle.domains.specs.Records.Nodes.{node_of_body}
 use Rattle.register.specs.Installed.Registers.{DescribesRegister, IsNextNumber, IsNodeRecord, IsRun, KeepsNumber, class_at, count_nodes, is_node_key, node_at}
 use Rattle.register.proofs.OfInstalled.NodeWalks.{one_next}
 use Rattle.register.specs.Marks.{Marked, no_marks}
-use Rattle.register.specs.Decided.{Door, IsDoor}
+use Rattle.register.specs.Decided.{IsRegister, RegisterState}
 use Rattle.register.specs.Kept.{AreTexts, IsHeldNode, RegisterSays, is_marked, is_marked_in}
 use Rattle.register.specs.Cutting.{IsAmong}
 use Rattle.register.proofs.Installing.{one_run}
@@ -118,12 +118,12 @@ few path body rest (e ∷ front) m sorted h = by_bool (is_node_key e.0) (count_n
 none_body : {P : Type 0} (x : List ℕ) → None ≡ Some x → P
 none_body x e = absurd (cc)
 
-module _ (d : Door) (held : Held) (marks : d.marks ≡ no_marks) (door : IsDoor d) (valid : IsCatalogue d.catalogue) (texts : AreTexts d.catalogue) (says : RegisterSays d held) where
+module _ (d : RegisterState) (held : Held) (marks : d.marks ≡ no_marks) (register : IsRegister d) (valid : IsCatalogue d.catalogue) (texts : AreTexts d.catalogue) (says : RegisterSays d held) where
   unmarked : (path : List ℕ) → is_marked d path ≡ false
   unmarked path = ap (λ (m : Marked). is_marked_in d.catalogue m path) marks ∙ ap (λ b. b || (false && contains_key d.catalogue.nodes path)) (ap is_some (get-empty text_order path))
 
   run_kept : IsRun held d.run
-  run_kept = record { small = door.run; here = says.run (ap (λ (m : Marked). m.run) marks) }
+  run_kept = record { small = register.run; here = says.run (ap (λ (m : Marked). m.run) marks) }
 
   next_kept : IsNextNumber held d.catalogue.next
   next_kept = record { small = valid.fits; here = says.next (ap (λ (m : Marked). m.next) marks) }
@@ -147,7 +147,7 @@ module _ (d : Door) (held : Held) (marks : d.marks ≡ no_marks) (door : IsDoor 
   number_kept : (path : List ℕ) (class : NodeClass) → class_in d.catalogue path ≡ Some class → KeepsNumber held path class
   number_kept path Folder at = tt
   number_kept path (Domain number root) at = record {
-    made = λ run is. subst (λ (n : ℕ). root.run ≤ n) (one_run held d.run run run_kept is) (door.roots path number root at).run;
+    made = λ run is. subst (λ (n : ℕ). root.run ≤ n) (one_run held d.run run run_kept is) (register.roots path number root at).run;
     given = λ next is. subst (λ (n : ℕ). number < n) (one_next held d.catalogue.next next next_kept is) (valid.below path number root at);
     free = λ other id less e. never (valid.distinct other path number id root (class_kept other ∙ e) at) less;
   } where

@@ -20,7 +20,7 @@ use Rattle.object_records.specs.declared.install_fault.InstallFault.{InstallFaul
 use Rattle.object_records.specs.declared.install_fault.InstallFault.TheVariants as records
 use Rattle.register.specs.Installed.Registers.{DescribesRegister, IsRegisterFault, IsRun, KeepsNumber, no_run, bad_node, no_root, no_next}
 use Rattle.register.specs.declared.installs.InstallFault.{InstallFault}
-use Rattle.register.specs.Decided.{AreGivenOut, Door}
+use Rattle.register.specs.Decided.{AreGivenOut, RegisterState}
 use Rattle.register.specs.Kept.{IsHeldNode, IsInstalled, IsUsedUp, MatchFault, MatchUsed, RegisterSays, TellsUsed, installed, last_run, of_records}
 
 none_class : {P : Type 0} (x : NodeClass) → None ≡ Some x → P
@@ -83,16 +83,16 @@ module _ (held : Held) (run : ℕ) (c : Contents) (h : DescribesRegister held ru
   pub not_used_up : run < last_run → IsUsedUp held → ⊥
   not_used_up below u = let same = one_run held run last_run h.kept u.last in omega (arith, below, same)
 
-  module _ (lanes : ℕ) (r : Door) (e : r ≡ installed c lanes (run + 1)) where
+  module _ (lanes : ℕ) (r : RegisterState) (e : r ≡ installed c lanes (run + 1)) where
     pub is_installed : IsInstalled held lanes r
     is_installed = record {
       kept = run;
-      described = subst (λ (k : Contents). DescribesRegister held run k) (sym (ap (λ (d : Door). d.catalogue) e)) h;
-      begins = e ∙ ap (λ (k : Contents). installed k lanes (run + 1)) (sym (ap (λ (d : Door). d.catalogue) e));
+      described = subst (λ (k : Contents). DescribesRegister held run k) (sym (ap (λ (d : RegisterState). d.catalogue) e)) h;
+      begins = e ∙ ap (λ (k : Contents). installed k lanes (run + 1)) (sym (ap (λ (d : RegisterState). d.catalogue) e));
     }
 
     pub installed_says : RegisterSays r held
-    installed_says = subst (λ (d : Door). RegisterSays d held) (sym e) (said lanes)
+    installed_says = subst (λ (d : RegisterState). RegisterSays d held) (sym e) (said lanes)
 
 -- ---- faults
 

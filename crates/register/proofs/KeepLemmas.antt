@@ -24,18 +24,18 @@ use Rattle.object_ops.specs.declared.ops.Request.{Request}
 use Rattle.object_ops.specs.declared.refusals.Refusal.{Refusal}
 use Rattle.object_ops.specs.declared.refusals.Refusal.TheVariants.{Limit, NoDomain}
 use Rattle.object_ops.specs.declared.replies.Reply.TheVariants.{Done}
-use Rattle.register.specs.Decided.{Door, at_maybe, changed_at, decided, domain_added, domain_made, entry_put, entry_read, fits, folder_made, foreign_in, forgotten, granted, in_domain, make_steps, most_of, node_made, node_removed, object_granted, one_step, owner_of, passed, refused, serial_limit}
+use Rattle.register.specs.Decided.{RegisterState, at_maybe, changed_at, decided, domain_added, domain_made, entry_put, entry_read, fits, folder_made, foreign_in, forgotten, granted, in_domain, make_steps, most_of, node_made, node_removed, object_granted, one_step, owner_of, passed, refused, serial_limit}
 use Rattle.register.specs.Laws.{DecisionsKeep, TakesPlace}
 use Rattle.register.specs.declared.verdicts.Verdict.{Verdict}
 use Rattle.register.specs.declared.verdicts.Verdict.TheVariants.{Granted, Answered, Denied, Refused, NoMemory}
 
 -- one place more was given, and a denial and a refusal leave all else
-abbrev Keeps : Door → Verdict × Door → Type 0
+abbrev Keeps : RegisterState → Verdict × RegisterState → Type 0
 Keeps d (Denied right, new) = new ≡ passed d
 Keeps d (Refused refusal, new) = new ≡ passed d
 Keeps d (v, new) = new.places ≡ d.places + 1
 
-module _ (d : Door) where
+module _ (d : RegisterState) where
   folder_keeps : (path owner : List ℕ) (fault : Option CatFault) → Keeps d (folder_made d path owner fault)
   folder_keeps path owner None = refl
   folder_keeps path owner (Some fault) = refl
@@ -122,21 +122,21 @@ module _ (d : Door) where
 
 -- ---- the laws
 
-place_of : (d : Door) (p : Verdict × Door) → Keeps d p → p.1.places ≡ d.places + 1
+place_of : (d : RegisterState) (p : Verdict × RegisterState) → Keeps d p → p.1.places ≡ d.places + 1
 place_of d (Granted issue, new) keeps = keeps
 place_of d (Answered reply, new) keeps = keeps
-place_of d (Denied right, new) keeps = ap (λ (x : Door). x.places) keeps
-place_of d (Refused refusal, new) keeps = ap (λ (x : Door). x.places) keeps
+place_of d (Denied right, new) keeps = ap (λ (x : RegisterState). x.places) keeps
+place_of d (Refused refusal, new) keeps = ap (λ (x : RegisterState). x.places) keeps
 place_of d (NoMemory, new) keeps = keeps
 
-denial_keeps : (d : Door) (p : Verdict × Door) (right : Right) → Keeps d p → p.0 ≡ Denied right → p.1 ≡ passed d
+denial_keeps : (d : RegisterState) (p : Verdict × RegisterState) (right : Right) → Keeps d p → p.0 ≡ Denied right → p.1 ≡ passed d
 denial_keeps d (Granted issue, new) right keeps e = absurd (cc)
 denial_keeps d (Answered reply, new) right keeps e = absurd (cc)
 denial_keeps d (Denied other, new) right keeps e = keeps
 denial_keeps d (Refused refusal, new) right keeps e = absurd (cc)
 denial_keeps d (NoMemory, new) right keeps e = absurd (cc)
 
-refusal_keeps : (d : Door) (p : Verdict × Door) (refusal : Refusal) → Keeps d p → p.0 ≡ Refused refusal → p.1 ≡ passed d
+refusal_keeps : (d : RegisterState) (p : Verdict × RegisterState) (refusal : Refusal) → Keeps d p → p.0 ≡ Refused refusal → p.1 ≡ passed d
 refusal_keeps d (Granted issue, new) refusal keeps e = absurd (cc)
 refusal_keeps d (Answered reply, new) refusal keeps e = absurd (cc)
 refusal_keeps d (Denied right, new) refusal keeps e = absurd (cc)

@@ -16,7 +16,7 @@ use Rattle.object_records.specs.Keys.Keys.{next_key, node_key, run_key}
 use Rattle.object_records.specs.Keys.Numbers.{next_bytes, run_bytes}
 use Rattle.domains.specs.Records.Nodes.{node_of_body}
 use Rattle.register.specs.Marks.{Marked}
-use Rattle.register.specs.Decided.{Door}
+use Rattle.register.specs.Decided.{RegisterState}
 use Rattle.register.specs.Kept.{IsHeldNode, IsRegisterMarked, the_run, the_next, a_node, IsRegisterRecord, of_run, of_next, of_node, of_none, RegisterSays, all_kept, is_marked, is_marked_in}
 use Rattle.register.specs.Cutting.{AddsRegister, AreAdded, IsAmong, IsDueNode, IsDueOne, IsNodeBody, IsRightNode, IsRightOne, OfEither, is_of_all, is_of_paths}
 use Rattle.containers.proofs.Passing.{by_bool, contrary}
@@ -144,7 +144,7 @@ module _ (run : ℕ) (c : Contents) (m : Marked) where
 
 -- ---- the register
 
-module _ (d : Door) where
+module _ (d : RegisterState) where
   right_marked : (r : Record) → Right d.run d.catalogue d.marks r → IsRegisterMarked d r.0
   right_marked r (inl (inl h)) = the_run h.0 (ap (λ (x : Record). x.0) h.1)
   right_marked r (inl (inr h)) = the_next h.0 (ap (λ (x : Record). x.0) h.1)
@@ -167,7 +167,7 @@ module _ (d : Door) where
       appends_all (λ r. IsRegisterMarked d r.0 × IsRegisterRecord d r) old new adds.0
       (all_more (Right d.run d.catalogue d.marks) (λ r. IsRegisterMarked d r.0 × IsRegisterRecord d r) adds.0 (λ r h. (right_marked r h, right_stands r h)) adds.1.right) adds.2
 
-module _ (d : Door) (added : List Record) (whole : Bool) (a : AreAdded (Right d.run d.catalogue d.marks) (Due d.run d.catalogue d.marks) whole added) (base : Held) where
+module _ (d : RegisterState) (added : List Record) (whole : Bool) (a : AreAdded (Right d.run d.catalogue d.marks) (Due d.run d.catalogue d.marks) whole added) (base : Held) where
   run_there : (get base run_key ≡ Some (run_bytes d.run)) ⊎ IsAmong run_key added → get (put_all added base) run_key ≡ Some (run_bytes d.run)
   run_there s = settled (λ o. o ≡ Some (run_bytes d.run)) run_key added base
       (all_more (Right d.run d.catalogue d.marks) (λ r. r.0 ≡ run_key → kept_body r.1 ≡ Some (run_bytes d.run)) added (λ r h. run_said d.run d.catalogue d.marks r h) a.right) s
@@ -207,10 +207,10 @@ module _ (d : Door) (added : List Record) (whole : Bool) (a : AreAdded (Right d.
     stands = stands;
   }
 
-pub whole_cut : (d : Door) (old new : List Record) → AddsRegister d.run d.catalogue d.marks true old new → (base : Held)
+pub whole_cut : (d : RegisterState) (old new : List Record) → AddsRegister d.run d.catalogue d.marks true old new → (base : Held)
     → IsCut (IsRegisterMarked d) base old new (λ held. RegisterSays d base → RegisterSays (all_kept d) held)
 whole_cut d old new adds base = added_cut d adds.0 true adds.1 base old new (λ held. RegisterSays d base → RegisterSays (all_kept d) held) adds.2 (says_all d adds.0 true adds.1 base refl)
 
-pub front_cut : (d : Door) (old new : List Record) → AddsRegister d.run d.catalogue d.marks false old new → (base : Held)
+pub front_cut : (d : RegisterState) (old new : List Record) → AddsRegister d.run d.catalogue d.marks false old new → (base : Held)
     → IsCut (IsRegisterMarked d) base old new (λ held. RegisterSays d base → RegisterSays d held)
 front_cut d old new adds base = added_cut d adds.0 false adds.1 base old new (λ held. RegisterSays d base → RegisterSays d held) adds.2 (says_still d adds.0 false adds.1 base)

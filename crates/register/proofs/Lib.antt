@@ -1,5 +1,5 @@
 pub mod Counting
-pub mod Doors
+pub mod RegisterStates
 pub mod GrantLemmas
 pub mod Meetings
 pub mod Roots

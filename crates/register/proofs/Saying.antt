@@ -28,7 +28,7 @@ use Rattle.object_ops.specs.declared.refusals.Refusal.TheVariants.{Limit, NoDoma
 use Rattle.object_ops.specs.declared.replies.Reply.TheVariants.{Done}
 use Rattle.object_records.specs.Keys.Keys.{next_key, node_key, run_key}
 use Rattle.object_records.specs.Keys.Numbers.{next_bytes, run_bytes}
-use Rattle.register.specs.Decided.{Decides, Door, at_maybe, changed_at, decided, domain_added, domain_made, entry_put, entry_read, fits, folder_made, foreign_in, forgotten, granted, in_domain, make_steps, most_of, node_made, node_removed, object_granted, one_step, owner_of, passed, refused, serial_limit}
+use Rattle.register.specs.Decided.{Decides, RegisterState, at_maybe, changed_at, decided, domain_added, domain_made, entry_put, entry_read, fits, folder_made, foreign_in, forgotten, granted, in_domain, make_steps, most_of, node_made, node_removed, object_granted, one_step, owner_of, passed, refused, serial_limit}
 use Rattle.register.specs.Kept.{IsHeldNode, RegisterSays, is_marked, is_marked_in}
 use Rattle.register.specs.Laws.{DecisionsKeepWhatIsSaid}
 use Rattle.register.specs.Marks.{Marked, all_marks, with_domain, with_path}
@@ -36,19 +36,19 @@ use Rattle.register.specs.declared.verdicts.Verdict.{Verdict}
 use Rattle.register.specs.declared.verdicts.Verdict.TheVariants.{Granted, Answered, Denied, Refused, NoMemory}
 use Rattle.containers.proofs.Passing.{by_bool, contrary}
 
-abbrev pub StillSays : Door → Door → Type 0
+abbrev pub StillSays : RegisterState → RegisterState → Type 0
 StillSays d new = (held : Held) → RegisterSays d held → RegisterSays new held
 
 -- serials, places and tickets aren't held
-as_counted : (d : Door) (serial places : ℕ) (issued : List ℕ) → StillSays d (record d { serial = serial; places = places; issued = issued })
+as_counted : (d : RegisterState) (serial places : ℕ) (issued : List ℕ) → StillSays d (record d { serial = serial; places = places; issued = issued })
 as_counted d serial places issued held says = record { run = says.run; next = says.next; nodes = says.nodes }
 
-passed_says : (d : Door) → StillSays d (passed d)
+passed_says : (d : RegisterState) → StillSays d (passed d)
 passed_says d = as_counted d d.serial (d.places + 1) d.issued
 
 -- ---- the nodes at all paths but one are as they were, and this one is marked
 
-module _ (d : Door) (path : List ℕ) (c : Contents) (others : (q : List ℕ) → eq_by_cmp text_order q path ≡ false → get c.nodes q ≡ get d.catalogue.nodes q) where
+module _ (d : RegisterState) (path : List ℕ) (c : Contents) (others : (q : List ℕ) → eq_by_cmp text_order q path ≡ false → get c.nodes q ≡ get d.catalogue.nodes q) where
   path_in : (q : List ℕ) (b : Bool) → eq_by_cmp text_order q path ≡ b → contains_key (insert d.marks.paths path true) q ≡ is_some (cond b (Some true) (get d.marks.paths q))
   path_in q b e = ap is_some (get-insert nat_list_cmp_total d.marks.paths path true q) ∙ ap (λ x. is_some (cond x (Some true) (get d.marks.paths q))) e
 
@@ -79,7 +79,7 @@ entry_others c path name rights None q apart = refl
 entry_others c path name rights (Some node) q apart = with_others c path (node_with node name rights) q apart
 
 -- a domain is made, and the next number is marked too
-pub domain_says : (d : Door) (path owner : List ℕ) → StillSays d (domain_added d path owner)
+pub domain_says : (d : RegisterState) (path owner : List ℕ) → StillSays d (domain_added d path owner)
 domain_says d path owner held says =
     let node : Node = new_domain d.catalogue.next d.run d.serial owner in
     record {
@@ -90,11 +90,11 @@ domain_says d path owner held says =
 
 -- ---- decisions
 
-abbrev Says : Door → Verdict × Door → Type 0
+abbrev Says : RegisterState → Verdict × RegisterState → Type 0
 Says d p = StillSays d p.1
 
-module _ (d : Door) where
-  then_passed : (new : Door) → StillSays d new → StillSays d (passed new)
+module _ (d : RegisterState) where
+  then_passed : (new : RegisterState) → StillSays d new → StillSays d (passed new)
   then_passed new says held h = passed_says new held (says held h)
 
   folder_says : (path owner : List ℕ) (fault : Option CatFault) → Says d (folder_made d path owner fault)
@@ -156,13 +156,13 @@ module _ (d : Door) where
   in_says op (Domain number root) = object_says op number root (foreign_in number op)
 
 -- a node is removed, and of a domain the objects are dropped
-removed_says : (d : Door) (path : List ℕ) (class : NodeClass) (fault : Option CatFault) → Says d (node_removed d path class fault)
+removed_says : (d : RegisterState) (path : List ℕ) (class : NodeClass) (fault : Option CatFault) → Says d (node_removed d path class fault)
 removed_says d path class None =
     let c : Contents = without_node d.catalogue path in
     λ held says. forgotten_says (changed_at d path c) class held (change_says d path c (without_others d.catalogue path) refl held says)
 removed_says d path class (Some fault) = passed_says d
 
-module _ (d : Door) where
+module _ (d : RegisterState) where
   granted_says : (caller : Caller) (path : List ℕ) (op : Op) (node : Node) → Says d (granted d caller path op node)
   granted_says caller path GetNode node = passed_says d
   granted_says caller path (PutNode folder) node = node_says d caller path folder
@@ -189,20 +189,20 @@ still_said d caller request = at_says d caller request.path request.op (get d.ca
 
 -- ---- what a call leaves
 
-as_decided : (d : Door) (caller : Caller) (request : Request) (v : Verdict) (new : Door) → (v, new) ≡ decided d caller request → StillSays d new
-as_decided d caller request v new e held says = subst (λ (p : Verdict × Door). RegisterSays p.1 held) (sym e) (still_said d caller request held says)
+as_decided : (d : RegisterState) (caller : Caller) (request : Request) (v : Verdict) (new : RegisterState) → (v, new) ≡ decided d caller request → StillSays d new
+as_decided d caller request v new e held says = subst (λ (p : Verdict × RegisterState). RegisterSays p.1 held) (sym e) (still_said d caller request held says)
 
-pub decides_says : (d : Door) (caller : Caller) (request : Request) (v : Verdict) (new : Door) → Decides d caller request v new → StillSays d new
+pub decides_says : (d : RegisterState) (caller : Caller) (request : Request) (v : Verdict) (new : RegisterState) → Decides d caller request v new → StillSays d new
 decides_says d caller request (Granted issue) new h = as_decided d caller request (Granted issue) new h
 decides_says d caller request (Answered reply) new h = as_decided d caller request (Answered reply) new h
 decides_says d caller request (Denied right) new h = as_decided d caller request (Denied right) new h
 decides_says d caller request (Refused refusal) new h = as_decided d caller request (Refused refusal) new h
-decides_says d caller request NoMemory new h = λ held says. subst (λ (x : Door). RegisterSays x held) (sym h.2) (passed_says d held says)
+decides_says d caller request NoMemory new h = λ held says. subst (λ (x : RegisterState). RegisterSays x held) (sym h.2) (passed_says d held says)
 
-pub domain_left : (d : Door) (path owner : List ℕ) (catalogue : Contents) (marks : Marked) → catalogue ≡ with_node d.catalogue path (new_domain d.catalogue.next d.run d.serial owner)
+pub domain_left : (d : RegisterState) (path owner : List ℕ) (catalogue : Contents) (marks : Marked) → catalogue ≡ with_node d.catalogue path (new_domain d.catalogue.next d.run d.serial owner)
     → marks ≡ with_domain d.marks path → StillSays d (record d { catalogue = catalogue; serial = d.serial + 1; marks = marks })
 domain_left d path owner catalogue marks made marked held says =
-    subst (λ (x : Door). RegisterSays x held) (λ i. record d { catalogue = sym made i; serial = d.serial + 1; marks = sym marked i }) (domain_says d path owner held says)
+    subst (λ (x : RegisterState). RegisterSays x held) (λ i. record d { catalogue = sym made i; serial = d.serial + 1; marks = sym marked i }) (domain_says d path owner held says)
 
 -- ---- a register that was made
 
@@ -212,7 +212,7 @@ node_to_write true (Some node) body none unmarked = contrary true (IsHeldNode (S
 node_to_write false (Some node) body none unmarked = contrary true (IsHeldNode (Some node) body) refl unmarked
 
 -- nothing is held, and all is marked
-pub unheld_says : (d : Door) → d.marks ≡ all_marks → RegisterSays d empty
+pub unheld_says : (d : RegisterState) → d.marks ≡ all_marks → RegisterSays d empty
 unheld_says d all = record {
   run = λ unmarked. contrary d.marks.run (get empty run_key ≡ Some (run_bytes d.run)) (ap (λ (m : Marked). m.run) all) unmarked;
   next = λ unmarked. contrary d.marks.next (get empty next_key ≡ Some (next_bytes d.catalogue.next)) (ap (λ (m : Marked). m.next) all) unmarked;

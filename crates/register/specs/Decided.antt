@@ -39,7 +39,7 @@ use Rattle.register.specs.declared.verdicts.Verdict.{Verdict}
 use Rattle.register.specs.declared.verdicts.Verdict.TheVariants.{Granted, Answered, Denied, Refused, NoMemory}
 
 -- the catalogue, the run, the next serial, how many places were given, how many tickets each lane gave, and what a journal doesn't hold yet
-pub record Door : Type 0 where
+pub record RegisterState : Type 0 where
   pub catalogue : Contents
   pub run : ℕ
   pub serial : ℕ
@@ -72,25 +72,25 @@ fits op class = is_domain class
 -- ---- the register afterwards
 
 -- one place more was given
-abbrev pub passed : Door → Door
+abbrev pub passed : RegisterState → RegisterState
 passed d = record d { places = d.places + 1 }
 
-abbrev pub refused : Refusal → Door → Verdict × Door
+abbrev pub refused : Refusal → RegisterState → Verdict × RegisterState
 refused refusal d = (Refused refusal, passed d)
 
-abbrev pub answered : ℕ → Data → Door → Verdict × Door
+abbrev pub answered : ℕ → Data → RegisterState → Verdict × RegisterState
 answered status body d = (Answered (Done status body), passed d)
 
 -- another catalogue, in which a node was made, changed or removed
-abbrev pub changed_at : Door → List ℕ → Contents → Door
+abbrev pub changed_at : RegisterState → List ℕ → Contents → RegisterState
 changed_at d path catalogue = record d { catalogue = catalogue; marks = with_path d.marks path }
 
 -- answered, with another catalogue
-abbrev pub changed : ℕ → Data → List ℕ → Contents → Door → Verdict × Door
+abbrev pub changed : ℕ → Data → List ℕ → Contents → RegisterState → Verdict × RegisterState
 changed status body path catalogue d = (Answered (Done status body), passed (changed_at d path catalogue))
 
 -- a new domain, whose root has the next serial
-abbrev pub domain_added : Door → List ℕ → List ℕ → Door
+abbrev pub domain_added : RegisterState → List ℕ → List ℕ → RegisterState
 domain_added d path owner =
     record d { catalogue = with_node d.catalogue path (new_domain d.catalogue.next d.run d.serial owner); serial = d.serial + 1; marks = with_domain d.marks path }
 
@@ -123,12 +123,12 @@ cat_refusal path cat.NotEmpty = NotEmpty
 cat_refusal path cat.Root = Root
 cat_refusal path cat.NoMemory = NoDomain
 
-abbrev pub folder_made : Door → List ℕ → List ℕ → Option CatFault → Verdict × Door
+abbrev pub folder_made : RegisterState → List ℕ → List ℕ → Option CatFault → Verdict × RegisterState
 folder_made d path owner None = let node = new_node Folder owner in changed 201 (node_tree node) path (with_node d.catalogue path node) d
 folder_made d path owner (Some fault) = refused (cat_refusal path fault) d
 
 -- a domain takes the next serial for its root
-abbrev pub domain_made : Door → List ℕ → List ℕ → Option CatFault → Verdict × Door
+abbrev pub domain_made : RegisterState → List ℕ → List ℕ → Option CatFault → Verdict × RegisterState
 domain_made d path owner None =
     let node = new_domain d.catalogue.next d.run d.serial owner in
     if nat_lt d.serial serial_limit then (Answered (Done 201 (node_tree node)), passed (domain_added d path owner))
@@ -138,21 +138,21 @@ domain_made d path owner (Some fault) = refused (cat_refusal path fault) d
 abbrev pub children_body : Contents → List ℕ → Data
 children_body catalogue path = only (codes "domains") (children_tree catalogue path)
 
-abbrev pub node_made : Door → Caller → List ℕ → Bool → Verdict × Door
+abbrev pub node_made : RegisterState → Caller → List ℕ → Bool → Verdict × RegisterState
 node_made d caller path true = folder_made d path (owner_of caller) (make_fault d.catalogue path)
 node_made d caller path false = domain_made d path (owner_of caller) (domain_fault d.catalogue path)
 
 -- what a request of a domain is granted with
-abbrev pub grant_of : Door → ℕ → Id → Option Id → Grant
+abbrev pub grant_of : RegisterState → ℕ → Id → Option Id → Grant
 grant_of d number root fresh = record { number = number; root = root; fresh = fresh; run = d.run; serial = d.serial }
 
 -- of a removed domain the objects are dropped, in a turn of each lane
-abbrev pub forgotten : Door → NodeClass → Verdict × Door
+abbrev pub forgotten : RegisterState → NodeClass → Verdict × RegisterState
 forgotten d Folder = answered 200 nothing d
 forgotten d (Domain number root) =
     (Granted (record { place = d.places; grant = grant_of d number root None; left = turns_from 0 d.issued }), record (passed d) { issued = all_counted d.issued })
 
-abbrev pub node_removed : Door → List ℕ → NodeClass → Option CatFault → Verdict × Door
+abbrev pub node_removed : RegisterState → List ℕ → NodeClass → Option CatFault → Verdict × RegisterState
 node_removed d path class None = forgotten (changed_at d path (without_node d.catalogue path)) class
 node_removed d path class (Some fault) = refused (cat_refusal path fault) d
 
@@ -164,11 +164,11 @@ acls_body list = only (codes "acls") (acls_tree list)
 abbrev pub acl_body : List ℕ → Rights → Data
 acl_body name rights = only (codes "acl") (acl_tree name rights)
 
-abbrev pub entry_read : Door → List ℕ → Option Rights → Verdict × Door
+abbrev pub entry_read : RegisterState → List ℕ → Option Rights → Verdict × RegisterState
 entry_read d name None = refused (NoName name) d
 entry_read d name (Some rights) = answered 200 (acl_body name rights) d
 
-abbrev pub entry_put : Door → List ℕ → List ℕ → Rights → Option CatFault → Verdict × Door
+abbrev pub entry_put : RegisterState → List ℕ → List ℕ → Rights → Option CatFault → Verdict × RegisterState
 entry_put d path name rights None = changed 201 nothing path (with_entry d.catalogue path name rights) d
 entry_put d path name rights (Some fault) = refused (cat_refusal path fault) d
 
@@ -184,17 +184,17 @@ foreign_in number (PutLink id title link) = foreign number link
 foreign_in number op = None
 
 -- one step, in the lane of the object
-abbrev pub one_step : Door → ℕ → Id → Option Id → Verdict × Door
+abbrev pub one_step : RegisterState → ℕ → Id → Option Id → Verdict × RegisterState
 one_step d number root None = refused NoDomain d
 one_step d number root (Some id) =
     (Granted (record { place = d.places; grant = grant_of d number root None; left = turn_at d.issued id Only ∷ [] }), record (passed d) { issued = counted d.issued id })
 
-abbrev pub object_granted : Door → ℕ → Id → Op → Option Id → Verdict × Door
+abbrev pub object_granted : RegisterState → ℕ → Id → Op → Option Id → Verdict × RegisterState
 object_granted d number root op None = one_step d number root (id_of op)
 object_granted d number root op (Some target) = refused (NoObject target) d
 
 -- a new object takes the next serial; a link to it comes first, in the lane of the group
-abbrev pub make_steps : Door → ℕ → Id → Id → Option LinkPlace → Verdict × Door
+abbrev pub make_steps : RegisterState → ℕ → Id → Id → Option LinkPlace → Verdict × RegisterState
 make_steps d number root fresh None =
     (Granted (record { place = d.places; grant = grant_of d number root (Some fresh); left = turn_at d.issued fresh Only ∷ [] }), record (passed d) { issued = counted d.issued fresh })
 make_steps d number root fresh (Some place) =
@@ -203,13 +203,13 @@ make_steps d number root fresh (Some place) =
       record (passed d) { issued = counted first fresh },
     )
 
-abbrev pub make_granted : Door → ℕ → Id → Make → Option LinkPlace → Verdict × Door
+abbrev pub make_granted : RegisterState → ℕ → Id → Make → Option LinkPlace → Verdict × RegisterState
 make_granted d number root make place =
     if nat_lt d.serial serial_limit then
     make_steps (record d { serial = d.serial + 1 }) number root (record { kind = kind_made make; domain = number; run = d.run; serial = d.serial }) place
     else refused (Limit (most_of limit.Serial) limit.Serial) d
 
-abbrev pub in_domain : Door → Op → NodeClass → Verdict × Door
+abbrev pub in_domain : RegisterState → Op → NodeClass → Verdict × RegisterState
 in_domain d op Folder = refused NoDomain d
 in_domain d (MakeObject make place) (Domain number root) = make_granted d number root make place
 in_domain d op (Domain number root) = object_granted d number root op (foreign_in number op)
@@ -217,7 +217,7 @@ in_domain d op (Domain number root) = object_granted d number root op (foreign_i
 -- ---- the whole
 
 -- what is granted at a node
-abbrev pub granted : Door → Caller → List ℕ → Op → Node → Verdict × Door
+abbrev pub granted : RegisterState → Caller → List ℕ → Op → Node → Verdict × RegisterState
 granted d caller path GetNode node = answered 200 (node_tree node) d
 granted d caller path (PutNode folder) node = node_made d caller path folder
 granted d caller path Flush node = answered 204 nothing d
@@ -228,27 +228,27 @@ granted d caller path (GetAcl name) node = entry_read d name (get node.list name
 granted d caller path (PutAcl name rights) node = entry_put d path name rights (entry_fault d.catalogue path name)
 granted d caller path op node = in_domain d op node.class
 
-abbrev pub at_node : Door → Caller → List ℕ → Op → Node → Verdict × Door
+abbrev pub at_node : RegisterState → Caller → List ℕ → Op → Node → Verdict × RegisterState
 at_node d caller path op node =
     if fits op node.class then (if has node.list caller (right_for op) then granted d caller path op node else (Denied (right_for op), passed d)) else refused NoDomain d
 
-abbrev pub at_maybe : Door → Caller → List ℕ → Op → Option Node → Verdict × Door
+abbrev pub at_maybe : RegisterState → Caller → List ℕ → Op → Option Node → Verdict × RegisterState
 at_maybe d caller path op None = refused NoDomain d
 at_maybe d caller path op (Some node) = at_node d caller path op node
 
 -- the verdict on a request at the next place, and the register afterwards: the node that decides comes first, then the right, then the rest
-abbrev pub decided : Door → Caller → Request → Verdict × Door
+abbrev pub decided : RegisterState → Caller → Request → Verdict × RegisterState
 decided d caller request = at_maybe d caller request.path request.op (get d.catalogue.nodes (decided_at request))
 
 -- ---- without a request, so that no place is taken
 
 -- what speaks against a new domain: what the catalogue refuses, then that no serial is left
-abbrev pub domain_refused : Door → Option CatFault → Option CatFault
+abbrev pub domain_refused : RegisterState → Option CatFault → Option CatFault
 domain_refused d (Some fault) = Some fault
 domain_refused d None = if nat_lt d.serial serial_limit then None else Some (cat.Limit limit.Serial)
 
 -- a new id has the next serial; there is none where no serial is left
-abbrev pub fresh_given : Door → Kind → ℕ → Option Id × Door
+abbrev pub fresh_given : RegisterState → Kind → ℕ → Option Id × RegisterState
 fresh_given d kind number =
     if nat_lt d.serial serial_limit then (Some (record { kind = kind; domain = number; run = d.run; serial = d.serial }), record d { serial = d.serial + 1 }) else (None, d)
 
@@ -271,7 +271,7 @@ IsDenial (Denied right) = Unit {0}
 IsDenial verdict = ⊥
 
 -- the verdict and the register are as decided; or memory ran out, on an operation on nodes that isn't denied, and the place alone was taken
-abbrev pub Decides : Door → Caller → Request → Verdict → Door → Type 0
+abbrev pub Decides : RegisterState → Caller → Request → Verdict → RegisterState → Type 0
 Decides d caller request NoMemory new = (is_of_nodes request.op ≡ true) × (IsDenial (decided d caller request).0 → ⊥) × (new ≡ passed d)
 Decides d caller request verdict new = (verdict, new) ≡ decided d caller request
 
@@ -280,11 +280,11 @@ abbrev pub first_serial : Contents → ℕ → ℕ
 first_serial catalogue run = if run == 0 then domain_count catalogue else 0
 
 -- a register at the begin of a run, of which nothing is held
-abbrev pub opened : Contents → ℕ → ℕ → Door
+abbrev pub opened : Contents → ℕ → ℕ → RegisterState
 opened catalogue lanes run = record { catalogue = catalogue; run = run; serial = first_serial catalogue run; places = 0; issued = replicate lanes 0; marks = all_marks }
 
 -- a place and a ticket of each lane are left
-pub record HasRoom (d : Door) : Type 0 where
+pub record HasRoom (d : RegisterState) : Type 0 where
   pub places : d.places < 2 ^ 62
   pub tickets : All (λ n. n < 2 ^ 62) d.issued
 
@@ -298,7 +298,7 @@ abbrev pub AreGivenOut : Contents → ℕ → ℕ → Type 0
 AreGivenOut catalogue run serial = (path : List ℕ) (number : ℕ) (root : Id) → IsDomainAt catalogue path number root → IsGivenOut run serial root
 
 -- what is true of every register
-pub record IsDoor (d : Door) : Type 0 where
+pub record IsRegister (d : RegisterState) : Type 0 where
   pub run : d.run < 2 ^ 22
   pub serial : d.serial ≤ serial_limit
   pub some_lane : 0 < length d.issued

@@ -11,7 +11,7 @@ use Rattle.register.specs.Tickets.{AreEach, AreInLanes, Issue}
 use Rattle.register.specs.declared.tickets.Turn.{Turn}
 use Rattle.register.specs.declared.verdicts.Verdict.{Verdict}
 use Rattle.register.specs.declared.verdicts.Verdict.TheVariants.{Granted}
-use Rattle.register.specs.Decided.{Door}
+use Rattle.register.specs.Decided.{RegisterState}
 
 -- a link is put in the lane of its group, and what is made in that of the new object; every other step is done in the lane of the object that it
 -- names
@@ -37,12 +37,12 @@ HasSteps lanes (MakeObject make (Some place)) turns = map (λ t. t.step) turns �
 HasSteps lanes op turns = map (λ t. t.step) turns ≡ Some Only ∷ []
 
 -- a new object's id is of its kind and domain, of this run, and has the next serial, which is taken; without a new object none is
-abbrev pub IsFreshFor : Door → Op → Grant → Type 0
+abbrev pub IsFreshFor : RegisterState → Op → Grant → Type 0
 IsFreshFor d (MakeObject make place) grant =
     (grant.serial ≡ d.serial + 1) × (grant.fresh ≡ Some (record { kind = kind_made make; domain = grant.number; run = d.run; serial = d.serial }))
 IsFreshFor d op grant = (grant.serial ≡ d.serial) × (grant.fresh ≡ None)
 
-pub record IsIssueOf (d : Door) (op : Op) (issue : Issue) : Type 0 where
+pub record IsIssueOf (d : RegisterState) (op : Op) (issue : Issue) : Type 0 where
   pub place : issue.place ≡ d.places
   pub run : issue.grant.run ≡ d.run
   pub lanes : AreInLanes (length d.issued) issue.left

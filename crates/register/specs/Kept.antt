@@ -22,7 +22,7 @@ use Rattle.register.specs.Installed.Registers.{DescribesRegister, IsRegisterFaul
 use Rattle.register.specs.declared.installs.InstallFault.{InstallFault}
 use Rattle.register.specs.declared.installs.InstallFault.TheVariants.{BadRecord, RunsUsed, NoMemory}
 use Rattle.register.specs.Marks.{Marked, no_marks, run_marks}
-use Rattle.register.specs.Decided.{Door}
+use Rattle.register.specs.Decided.{RegisterState}
 
 -- ---- what is to be written
 
@@ -30,16 +30,16 @@ abbrev pub is_marked_in : Contents → Marked → List ℕ → Bool
 is_marked_in c m path = contains_key m.paths path || (m.all && contains_key c.nodes path)
 
 -- the path is marked, or all nodes are and one stands there
-abbrev pub is_marked : Door → List ℕ → Bool
+abbrev pub is_marked : RegisterState → List ℕ → Bool
 is_marked d path = is_marked_in d.catalogue d.marks path
 
-pub data IsRegisterMarked (d : Door) (key : List ℕ) : Type 0 where
+pub data IsRegisterMarked (d : RegisterState) (key : List ℕ) : Type 0 where
   the_run : d.marks.run ≡ true → key ≡ run_key → IsRegisterMarked d key
   the_next : d.marks.next ≡ true → key ≡ next_key → IsRegisterMarked d key
   a_node : (path : List ℕ) → is_marked d path ≡ true → key ≡ node_key path → IsRegisterMarked d key
 
 -- the record of what stands: of the run, of the next domain's number, of a node, or without a byte where no node stands
-pub data IsRegisterRecord (d : Door) (r : Record) : Type 0 where
+pub data IsRegisterRecord (d : RegisterState) (r : Record) : Type 0 where
   of_run : r ≡ (run_key, run_bytes d.run) → IsRegisterRecord d r
   of_next : r ≡ (next_key, next_bytes d.catalogue.next) → IsRegisterRecord d r
   of_node : (path : List ℕ) (node : Node) → get d.catalogue.nodes path ≡ Some node
@@ -53,15 +53,15 @@ abbrev pub IsHeldNode : Option Node → Option (List ℕ) → Type 0
 IsHeldNode None body = body ≡ None
 IsHeldNode (Some node) body = option_and_then node_of_body body ≡ Some node
 
-pub record RegisterSays (d : Door) (held : Held) : Type 0 where
+pub record RegisterSays (d : RegisterState) (held : Held) : Type 0 where
   pub run : d.marks.run ≡ false → get held run_key ≡ Some (run_bytes d.run)
   pub next : d.marks.next ≡ false → get held next_key ≡ Some (next_bytes d.catalogue.next)
   pub nodes : (path : List ℕ) → is_marked d path ≡ false → IsHeldNode (get d.catalogue.nodes path) (get held (node_key path))
 
-abbrev pub all_kept : Door → Door
+abbrev pub all_kept : RegisterState → RegisterState
 all_kept d = record d { marks = no_marks }
 
-abbrev pub run_kept : Door → Door
+abbrev pub run_kept : RegisterState → RegisterState
 run_kept d = record d { marks = record d.marks { run = false } }
 
 -- each path is UTF-8, as the text of every path is
@@ -71,11 +71,11 @@ AreTexts c = (path : List ℕ) → IsSome (get c.nodes path) → IsUtf8 path
 -- ---- a register that was made from records
 
 -- at the begin of a run, of which nothing is held but the run
-abbrev pub installed : Contents → ℕ → ℕ → Door
+abbrev pub installed : Contents → ℕ → ℕ → RegisterState
 installed catalogue lanes run = record { catalogue = catalogue; run = run; serial = 0; places = 0; issued = replicate lanes 0; marks = run_marks }
 
 -- records describe its catalogue, and its run is the one after that which they tell
-pub record IsInstalled (held : Held) (lanes : ℕ) (d : Door) : Type 0 where
+pub record IsInstalled (held : Held) (lanes : ℕ) (d : RegisterState) : Type 0 where
   pub kept : ℕ
   pub described : DescribesRegister held kept d.catalogue
   pub begins : d ≡ installed d.catalogue lanes (kept + 1)

@@ -19,7 +19,7 @@ use Rattle.register.specs.declared.verdicts.Verdict.{Verdict}
 use Rattle.register.specs.declared.verdicts.Verdict.TheVariants.{Answered, Refused, NoMemory}
 use Rattle.register.specs.declared.looking.Looked.{Looked}
 use Rattle.register.specs.declared.looking.Looked.TheVariants as seen
-use Rattle.register.specs.Decided.{Door, IsDenial, acl_body, cat_refusal, decided, fits, is_of_nodes, passed}
+use Rattle.register.specs.Decided.{IsDenial, RegisterState, acl_body, cat_refusal, decided, fits, is_of_nodes, passed}
 
 abbrev pub looked : Caller → Op → Option Node → Looked
 looked caller op None = seen.Missing
@@ -58,21 +58,21 @@ Reads name None = Refuses (NoName name)
 Reads name (Some rights) = Answers (Done 200 (acl_body name rights))
 
 -- a call that takes no memory settles as a definition says; the place is counted afterwards
-abbrev pub Settles : Verdict × Door → Verdict → Door → Type 0
+abbrev pub Settles : Verdict × RegisterState → Verdict → RegisterState → Type 0
 Settles p NoMemory new = ⊥
 Settles p verdict new = (verdict, passed new) ≡ p
 
 -- a call that takes memory settles so, or leaves all as it was
-abbrev pub MaySettle : Verdict × Door → Door → Verdict → Door → Type 0
+abbrev pub MaySettle : Verdict × RegisterState → RegisterState → Verdict → RegisterState → Type 0
 MaySettle p old NoMemory new = new ≡ old
 MaySettle p old verdict new = (verdict, passed new) ≡ p
 
 -- the same of any operation: memory is taken on those on folders, domains and access lists alone
-abbrev pub SettlesOp : Op → Verdict × Door → Door → Verdict → Door → Type 0
+abbrev pub SettlesOp : Op → Verdict × RegisterState → RegisterState → Verdict → RegisterState → Type 0
 SettlesOp op p old NoMemory new = (is_of_nodes op ≡ true) × (new ≡ old)
 SettlesOp op p old verdict new = (verdict, passed new) ≡ p
 
 -- a request is decided, but for the place
-abbrev pub Leaves : Door → Caller → Request → Verdict → Door → Type 0
+abbrev pub Leaves : RegisterState → Caller → Request → Verdict → RegisterState → Type 0
 Leaves d caller request NoMemory new = (is_of_nodes request.op ≡ true) × (IsDenial (decided d caller request).0 → ⊥) × (new ≡ d)
 Leaves d caller request verdict new = (verdict, passed new) ≡ decided d caller request

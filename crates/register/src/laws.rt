@@ -3,7 +3,7 @@
 ghost use Rattle.std.specs.Prelude.{◌≡◌};
 ghost use Rattle.domains.specs.Contents.{IsCatalogue};
 ghost use Rattle.flush_journal.specs.Records.{Held};
-ghost use Rattle.register.specs.Decided.{Door, IsDoor};
+ghost use Rattle.register.specs.Decided.{IsRegister, RegisterState};
 ghost use Rattle.register.specs.Kept.{AreTexts, RegisterSays};
 ghost use Rattle.register.specs.Laws.{DecisionsKeep, DecisionsKeepWhatIsSaid};
 ghost use Rattle.register.specs.Laws.{GrantsAreIssues, TakesPlace};
@@ -22,6 +22,7 @@ pub fn decisions_keep()
 /// Where nothing of a register is marked, what is held describes it: each of its records keeps to the rules, and an install
 /// finds the same run, catalogue and next number.
 pub fn kept_registers_are_described()
-    ensures { (d : Door) (held : Held) → d.marks ≡ no_marks → IsDoor d → IsCatalogue d.catalogue
-        → AreTexts d.catalogue → RegisterSays d held → DescribesRegister held d.run d.catalogue }
+    ensures { (d : RegisterState) (held : Held) → d.marks ≡ no_marks → IsRegister d
+        → IsCatalogue d.catalogue → AreTexts d.catalogue → RegisterSays d held
+        → DescribesRegister held d.run d.catalogue }
 {}

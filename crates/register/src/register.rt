@@ -15,7 +15,7 @@ ghost use Rattle.containers.specs.TextMaps.Fronts.{IsLeast};
 ghost use Rattle.object_ops.specs.Needs.{decided_at, right_for};
 ghost use Rattle.object_ops.specs.declared.replies.Reply.TheVariants.{Done};
 ghost use Rattle.flush_journal.specs.Cuts.Cuts.{AppendsEach, IsCut};
-ghost use Rattle.register.specs.Decided.{AreGivenOut, Decides, HasRoom, IsDoor, acls_body, children_body};
+ghost use Rattle.register.specs.Decided.{AreGivenOut, Decides, HasRoom, IsRegister, acls_body, children_body};
 ghost use Rattle.register.specs.Decided.{domain_added, domain_made, domain_refused, entry_put, first_serial, fits};
 ghost use Rattle.register.specs.Decided.{folder_made, foreign, fresh_given};
 ghost use Rattle.register.specs.Decided.{forgotten, grant_of, granted, in_domain, make_granted};
@@ -76,11 +76,11 @@ impl Model for Register {
     ghost use Rattle.std.specs.Coded.{code_by, coded×, coded_ℕ, coded_list};
     ghost use Rattle.domains.specs.Contents.{Contents};
     ghost use Rattle.domains.specs.contracts.catalogue.Catalogue as catalogue_row;
-    ghost use Rattle.register.specs.Decided.{Door, IsDoor};
+    ghost use Rattle.register.specs.Decided.{IsRegister, RegisterState};
     ghost use Rattle.register.specs.Marks.{Marked};
     ghost use Rattle.register.specs.contracts.marks.Marks as marks_row;
 
-    ghost Value = { Door };
+    ghost Value = { RegisterState };
 
     ghost coded = { code_by (Contents × (Marked × (ℕ × (ℕ × (ℕ × List ℕ)))))
         (coded× catalogue_row.the_row.coded (coded× marks_row.the_row.coded
@@ -105,7 +105,7 @@ impl Model for Register {
       marks = a.marks;
     } };
 
-    ghost invariant = { λ a. IsDoor (record {
+    ghost invariant = { λ a. IsRegister (record {
       catalogue = a.catalogue;
       run = a.run;
       serial = a.serial;
@@ -257,7 +257,7 @@ impl Register {
     /// How many lanes there are, from 1 to 16.
     pub fn lanes(&self) -> u32
         ensures lanes { result ≡ length self.now.issued }
-        ensures valid { IsDoor self.now }
+        ensures valid { IsRegister self.now }
     {
         self.issued.len() as u32
     }

@@ -37,27 +37,27 @@ use Rattle.rest_session.proofs.Following.{StoodSince as Since}
 module _ {D : Type 0} {met : Ghosts D} (next : PlacesGoOn) where
   -- the number that is kept doesn't fall, and stays within the places
   abbrev pub KeepsOn : Served met → Served met → Type 0
-  KeepsOn s t = s.keeping.kept ≤ s.world.door.places → (s.keeping.kept ≤ t.keeping.kept) × (t.keeping.kept ≤ t.world.door.places)
+  KeepsOn s t = s.keeping.kept ≤ s.world.register.places → (s.keeping.kept ≤ t.keeping.kept) × (t.keeping.kept ≤ t.world.register.places)
 
-  keeps_as : (s t : Served met) (mid : State) → t.world ≡ mid → t.keeping ≡ s.keeping → s.world.door.places ≤ mid.door.places → KeepsOn s t
+  keeps_as : (s t : Served met) (mid : State) → t.world ≡ mid → t.keeping ≡ s.keeping → s.world.register.places ≤ mid.register.places → KeepsOn s t
   keeps_as s t mid world keeping later k = (
     omega (arith, ap (λ (l : Keeping D met). l.kept) keeping),
-    omega (arith, k, later, ap (λ (l : Keeping D met). l.kept) keeping, ap (λ (u : State). u.door.places) world),
+    omega (arith, k, later, ap (λ (l : Keeping D met). l.kept) keeping, ap (λ (u : State). u.register.places) world),
   )
 
-  keeps_tried : (s t : Served met) (mid : State) (result : Result ℕ Why) → KeepsWorld s.keeping mid t.keeping t.world result → s.world.door.places ≤ mid.door.places → KeepsOn s t
-  keeps_tried s t mid (Ok n) h later k = (omega (arith, k, later, h.kept, h.number, ap (λ (w : World). w.door.places) h.same), omega (arith, h.kept, h.number))
-  keeps_tried s t mid (Err e) h later k = (omega (arith, h.refused), omega (arith, k, later, h.refused, ap (λ (w : World). w.door.places) h.same))
+  keeps_tried : (s t : Served met) (mid : State) (result : Result ℕ Why) → KeepsWorld s.keeping mid t.keeping t.world result → s.world.register.places ≤ mid.register.places → KeepsOn s t
+  keeps_tried s t mid (Ok n) h later k = (omega (arith, k, later, h.kept, h.number, ap (λ (w : World). w.register.places) h.same), omega (arith, h.kept, h.number))
+  keeps_tried s t mid (Err e) h later k = (omega (arith, h.refused), omega (arith, k, later, h.refused, ap (λ (w : World). w.register.places) h.same))
 
   keeps_finished : (s t : Served met) (mid : State) (path : List ℕ) (what : What) (close : Bool) (bytes : List ℕ) (b : Bool) → IsFinished b path what close s.keeping mid bytes t
-      → s.world.door.places ≤ mid.door.places → KeepsOn s t
+      → s.world.register.places ≤ mid.register.places → KeepsOn s t
   keeps_finished s t mid path what close bytes false h later = keeps_as s t mid h.0 h.1 later
   keeps_finished s t mid path what close bytes true h later = keeps_tried s t mid h.0 h.1 later
 
   keeps_answered : (s t : Served met) (target : List ℕ) (r : Result (Caller × Request) Refusal) (close : Bool) (bytes : List ℕ) → IsAnsweredBy s target r close bytes t → KeepsOn s t
   keeps_answered s t target (Err refusal) close bytes h = keeps_as s t s.world h.1.world h.1.keeping (omega arith)
   keeps_answered s t target (Ok read) close bytes h =
-      let place : h.mid.door.places ≡ s.world.door.places + 1 = next (seen s.world) (seen h.mid) read.0 read.1 h.answer h.steps in
+      let place : h.mid.register.places ≡ s.world.register.places + 1 = next (seen s.world) (seen h.mid) read.0 read.1 h.answer h.steps in
       keeps_finished s t h.mid (decided_at read.1) h.answer.what close bytes (acknowledges read.1.op h.answer.what) h.finished (omega (arith, place))
 
   pub keeps_on : (s t : Served met) (m : RequestMessage) (bytes : List ℕ) → IsAnswer IsServed s m bytes t → KeepsOn s t
@@ -69,7 +69,7 @@ module _ {D : Type 0} {met : Ghosts D} (next : PlacesGoOn) where
   keeps_all = related IsServed KeepsOn (λ s k. (omega arith, k))
       (λ s t u first then_ k. let a = first k in let b = then_ a.1 in (omega (arith, a.0, b.0), b.1)) keeps_on
 
-  pub never_less : (s t : Served met) (taken : List ℕ) (u v : Served met) → IsStretch s t taken u v → s.keeping.kept ≤ s.world.door.places → u.keeping.kept ≤ v.keeping.kept
+  pub never_less : (s t : Served met) (taken : List ℕ) (u v : Served met) → IsStretch s t taken u v → s.keeping.kept ≤ s.world.register.places → u.keeping.kept ≤ v.keeping.kept
   never_less s t taken u v is k = (keeps_all u is.between is.answers v is.passes (keeps_all s is.before is.first_answers u is.reaches k).1).0
 
 -- ---- what a state shows
@@ -79,7 +79,7 @@ module _ {D : Type 0} {met : Ghosts D} where
   kept_of s = s.keeping.kept
 
   abbrev pub places_of : Served met → ℕ
-  places_of s = s.world.door.places
+  places_of s = s.world.register.places
 
   abbrev pub shown : Served met → World
   shown s = as_kept s.world
@@ -107,7 +107,7 @@ module _ {D : Type 0} {met : Ghosts D} where
   }
 
   -- the world behind all messages stood
-  pub stands_now : (s t : Served met) (taken : List ℕ) → Answered IsServed s t taken → (kept : ℕ) → kept ≤ t.world.door.places → StoodSince s t taken kept (as_kept t.world)
+  pub stands_now : (s t : Served met) (taken : List ℕ) → Answered IsServed s t taken → (kept : ℕ) → kept ≤ t.world.register.places → StoodSince s t taken kept (as_kept t.world)
   stands_now s t taken a kept le = record {
     at = t;
     before = a.messages;
@@ -221,7 +221,7 @@ module _ {D : Type 0} {met : Ghosts D} (honest : met.honest) (next : PlacesGoOn)
   advance s m bytes t ws is b = (goes s m bytes t ws is b).advances
 
   pub what_stood : (s t : Served met) (taken sent : List ℕ) (left : Option (List ℕ)) (end : LinkEnd) → IsTranscript IsServed s taken sent left t end
-      → IsBackedBy s (as_kept s.world ∷ []) → s.keeping.kept ≤ s.world.door.places → AreKept s t taken
+      → IsBackedBy s (as_kept s.world ∷ []) → s.keeping.kept ≤ s.world.register.places → AreKept s t taken
   what_stood s t taken sent left end transcript b k = record {
     worlds = f.left;
     backed = f.is_backed;
@@ -237,7 +237,7 @@ module _ {D : Type 0} {met : Ghosts D} (honest : met.honest) (next : PlacesGoOn)
     f = follow IsServed IsBackedBy shown kept_of places_of advance (keeps_on next) s a.messages a.answers t (as_kept s.world ∷ []) a.replays b k
 
   -- at each moment of a stretch
-  pub what_is_left : (s t : Served met) (taken : List ℕ) (u v : Served met) → IsStretch s t taken u v → IsBackedBy s (as_kept s.world ∷ []) → s.keeping.kept ≤ s.world.door.places
+  pub what_is_left : (s t : Served met) (taken : List ℕ) (u v : Served met) → IsStretch s t taken u v → IsBackedBy s (as_kept s.world ∷ []) → s.keeping.kept ≤ s.world.register.places
       → Leaves met (disk_of u.keeping.journal) (disk_of v.keeping.journal) (HoldsStood s v taken u.keeping.kept)
   what_is_left s t taken u v is b k =
       wider u v (Since IsServed IsBackedBy shown kept_of places_of s (is.before ++ is.between) v u.keeping.kept) (StoodSince s v taken u.keeping.kept)

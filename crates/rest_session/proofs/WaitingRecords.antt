@@ -133,7 +133,7 @@ module _ {D : Type 0} {met : Ghosts D} where
   -- ---- the whole link
 
   pub what_waits : PlacesGoOn → (s t : Served met) (taken sent : List ℕ) (left : Option (List ℕ)) (end : LinkEnd) → IsTranscript IsServed s taken sent left t end
-      → pending_of s.keeping.journal ≡ None → records s.keeping.building ≡ [] → s.keeping.kept ≤ s.world.door.places → AreOfStood s t taken
+      → pending_of s.keeping.journal ≡ None → records s.keeping.building ≡ [] → s.keeping.kept ≤ s.world.register.places → AreOfStood s t taken
   what_waits next s t taken sent left end transcript none all k = record {
     waiting = λ rs is. all_more (IsOfOne f.left) (IsOfStood s t taken t.keeping.kept) rs of_stood (f.is_backed.waiting rs is);
     building = all_more (IsOfOne f.left) (IsOfStood s t taken t.keeping.kept) (records t.keeping.building) of_stood f.is_backed.building;

@@ -35,14 +35,14 @@ pub record StoodSince {D : Type 0} {met : Ghosts D} (s t : Served met) (taken : 
   pub reaches : Replays IsServed s before answers at
   pub follows : Replays IsServed at after later_answers t
   pub shown : w ≡ as_kept at.world
-  pub late : kept ≤ at.world.door.places
+  pub late : kept ≤ at.world.register.places
 
 pub record AreKept {D : Type 0} {met : Ghosts D} (s t : Served met) (taken : List ℕ) : Type 0 where
   pub worlds : List World
   pub backed : IsBackedBy t worlds
   pub each : AllByRecursion (StoodSince s t taken t.keeping.kept) worlds
-  pub within : t.keeping.kept ≤ t.world.door.places
-  pub now : (kept : ℕ) → kept ≤ t.world.door.places → StoodSince s t taken kept (as_kept t.world)
+  pub within : t.keeping.kept ≤ t.world.register.places
+  pub now : (kept : ℕ) → kept ≤ t.world.register.places → StoodSince s t taken kept (as_kept t.world)
 
 -- ---- what waits to be written
 

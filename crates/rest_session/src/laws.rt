@@ -42,16 +42,16 @@ pub fn what_is_kept_stood<D: Disk>()
         → SameDisk D.Disk (disk_of s.keeping.journal) (disk_of t.keeping.journal) }
     ensures stood { (s t : Served D.Disk) (taken sent : List ℕ) (left : Option (List ℕ)) (end : LinkEnd)
         → IsTranscript IsServed s taken sent left t end → D.honest
-        → IsBackedBy s (as_kept s.world ∷ []) → s.keeping.kept ≤ s.world.door.places
+        → IsBackedBy s (as_kept s.world ∷ []) → s.keeping.kept ≤ s.world.register.places
         → AreKept s t taken }
     ensures stretch { (s t : Served D.Disk) (taken sent : List ℕ) (left : Option (List ℕ)) (end : LinkEnd)
         → IsTranscript IsServed s taken sent left t end → IsStretch s t taken s t }
     ensures crash { (s t u v : Served D.Disk) (taken : List ℕ) → IsStretch s t taken u v
-        → D.honest → IsBackedBy s (as_kept s.world ∷ []) → s.keeping.kept ≤ s.world.door.places
+        → D.honest → IsBackedBy s (as_kept s.world ∷ []) → s.keeping.kept ≤ s.world.register.places
         → Leaves D.Disk (disk_of u.keeping.journal) (disk_of v.keeping.journal)
         (HoldsStood s v taken u.keeping.kept) }
     ensures onward { (s t u v : Served D.Disk) (taken : List ℕ) → IsStretch s t taken u v
-        → s.keeping.kept ≤ s.world.door.places → u.keeping.kept ≤ v.keeping.kept }
+        → s.keeping.kept ≤ s.world.register.places → u.keeping.kept ≤ v.keeping.kept }
 {
     images_are_kept::<D, World>();
     places_in_order();
@@ -64,7 +64,7 @@ pub fn what_waits_stood<D: Disk>()
     ensures { (s t : Served D.Disk) (taken sent : List ℕ) (left : Option (List ℕ)) (end : LinkEnd)
         → IsTranscript IsServed s taken sent left t end
         → pending_of s.keeping.journal ≡ None → records s.keeping.building ≡ []
-        → s.keeping.kept ≤ s.world.door.places → AreOfStood s t taken }
+        → s.keeping.kept ≤ s.world.register.places → AreOfStood s t taken }
 {
     places_in_order();
 }

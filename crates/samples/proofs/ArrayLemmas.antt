@@ -13,7 +13,7 @@ use Rattle.hdf_values.specs.Shaped.{value_from}
 use Rattle.hdf_values.specs.declared.faults.ValueFault.{ValueFault}
 use Rattle.hdf_values.proofs.NestedLemmas.{nested_read}
 use Rattle.hdf_values.proofs.RowLemmas.{row_bytes}
-use Rattle.shapes.specs.Places.{IsInside, place}
+use Rattle.shapes.specs.RowMajor.{IsInside, linear_index}
 use Rattle.shapes.specs.Shapes.{IsShape, LiesIn, dims_of, shape_of}
 use Rattle.shapes.specs.declared.Shape.{Shape}
 use Rattle.shapes.specs.declared.Shape.TheVariants.{Simple}
@@ -63,7 +63,7 @@ value_bytes n e s bs limits small kind shape read =
 
 pub sample_is : (n : ℕ) (g : Grid) (bs : List ℕ) → n < 2 ^ 64 → IsType (string (codes "H5T_STD_I32LE")) g.kind → IsShape (Some shape_tree) None g.shape
     → value_from g.kind g.shape (value_tree n 1000 1000) ≡ Ok bs
-    → ((at : List ℕ) → LiesIn at g.shape → value_at g at ≡ piece_at (size_of g.kind) (place at (dims_of g.shape)) bs)
+    → ((at : List ℕ) → LiesIn at g.shape → value_at g at ≡ piece_at (size_of g.kind) (linear_index at (dims_of g.shape)) bs)
     → IsSample n g
 sample_is n g bs small type shape read cells =
     let kind = kind_is g.kind type in
@@ -82,9 +82,9 @@ sample_is n g bs small type shape read cells =
           let found = row_bytes i32 dims at v i32_sound (value_fits n 1000 1000 small) inside in
           let is = same_Some found.0 (whole (element n (row * 1000 + column))) (sym found.1 ∙ value_at_cell n 1000 1000 row column h k) in
           cells at lies
-          ∙ ap (λ e. piece_at (size_of e) (place at (dims_of g.shape)) bs) kind
-          ∙ ap (λ (s : Shape). piece_at 4 (place at (dims_of s)) bs) square
-          ∙ ap (piece_at 4 (place at dims)) bytes
+          ∙ ap (λ e. piece_at (size_of e) (linear_index at (dims_of g.shape)) bs) kind
+          ∙ ap (λ (s : Shape). piece_at 4 (linear_index at (dims_of s)) bs) square
+          ∙ ap (piece_at 4 (linear_index at dims)) bytes
           ∙ found.3
           ∙ ap (bytes_of i32) is;
     }

@@ -11,7 +11,7 @@ use Rattle.object_ids.specs.declared.ids.Kind.TheVariants as kind
 use Rattle.object_ids.proofs.IdOrders.{id_order_total}
 use Rattle.hdf_types.specs.Reading.{size_of}
 use Rattle.hdf_values.specs.Nested.{piece_at}
-use Rattle.shapes.specs.Places.{place}
+use Rattle.shapes.specs.RowMajor.{linear_index}
 use Rattle.shapes.specs.Shapes.{LiesIn, dims_of}
 use Rattle.chunk_store.specs.Grids.{Grid, value_at}
 use Rattle.documents.specs.Parts.Arrays.{blank, with_bytes}
@@ -73,9 +73,9 @@ loads_one n l h =
 
 -- ---- the array
 
--- in each cell of an array with bytes stands the element at the cell's place
+-- in each cell of an array with bytes stands the element at the cell's linear index
 abbrev pub CellsHaveElements : Type 0
-CellsHaveElements = (g : Grid) (bytes at : List ℕ) → LiesIn at g.shape → value_at (with_bytes g bytes) at ≡ piece_at (size_of g.kind) (place at (dims_of g.shape)) bytes
+CellsHaveElements = (g : Grid) (bytes at : List ℕ) → LiesIn at g.shape → value_at (with_bytes g bytes) at ≡ piece_at (size_of g.kind) (linear_index at (dims_of g.shape)) bytes
 
 pub array_is : CellsHaveElements → (n : ℕ) (g : Grid) → n < 2 ^ 64 → IsArray (dataset_tree (value_tree n 1000 1000)) g → IsSample n g
 array_is law n g small h =
@@ -124,15 +124,15 @@ domain_is : (next run serial : ℕ) (user : List ℕ) → next ≡ 1 → run ≡
 domain_is next run serial user h k l m =
     ap (λ (i : ℕ). new_domain i run serial user) h ∙ ap (λ (i : ℕ). new_domain 1 i serial user) k ∙ ap (λ (i : ℕ). new_domain 1 1 i user) l ∙ ap (new_domain 1 1 0) m
 
-pub adopted_holds : CellsHaveElements → (n : ℕ) (l : Loaded) (old new : State) (path user : List ℕ) → n < 2 ^ 64 → Loads (sample_tree n) l → IsFirst old.door → path ≡ sample_path → user ≡ sample_user
-    → get new.door.catalogue.nodes path ≡ Some (new_domain old.door.catalogue.next old.door.run old.door.serial user)
-    → (seen new).objects ≡ objects_adopted old.door l (seen old).objects → HoldsSample n (seen new)
+pub adopted_holds : CellsHaveElements → (n : ℕ) (l : Loaded) (old new : State) (path user : List ℕ) → n < 2 ^ 64 → Loads (sample_tree n) l → IsFirst old.register → path ≡ sample_path → user ≡ sample_user
+    → get new.register.catalogue.nodes path ≡ Some (new_domain old.register.catalogue.next old.register.run old.register.serial user)
+    → (seen new).objects ≡ objects_adopted old.register l (seen old).objects → HoldsSample n (seen new)
 adopted_holds law n l old new path user small h first at by domain objects =
     let one = loads_one n l h in
     record {
-      node = ap (get new.door.catalogue.nodes) (sym at) ∙ domain ∙ ap Some (domain_is old.door.catalogue.next old.door.run old.door.serial user first.next first.run first.serial by);
+      node = ap (get new.register.catalogue.nodes) (sym at) ∙ domain ∙ ap Some (domain_is old.register.catalogue.next old.register.run old.register.serial user first.next first.run first.serial by);
       attributes = one.dataset.attributes;
       array = one.dataset.array;
-      object = ap (λ (m : FinMap id_order Object). get m dataset_id) objects ∙ dataset_put n l (root_at old.door) (seen old).objects one first.next first.run first.serial;
+      object = ap (λ (m : FinMap id_order Object). get m dataset_id) objects ∙ dataset_put n l (root_at old.register) (seen old).objects one first.next first.run first.serial;
       elements = array_is law n one.dataset.array small one.array;
     }

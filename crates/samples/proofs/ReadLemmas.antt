@@ -14,7 +14,7 @@ use Rattle.hdf_values.proofs.JoinLemmas.{joined_piece}
 use Rattle.hdf_values.proofs.NestedLemmas.{nested_fits}
 use Rattle.hdf_values.proofs.PieceLemmas.{gathered_encoded}
 use Rattle.hdf_values.proofs.RowLemmas.{element_found, item_at}
-use Rattle.shapes.specs.Places.{IsInside, cell_count, room_of}
+use Rattle.shapes.specs.RowMajor.{IsInside, cell_count, room_of}
 use Rattle.shapes.specs.Shapes.{LiesIn}
 use Rattle.shapes.specs.declared.Shape.{Shape}
 use Rattle.shapes.specs.declared.Shape.TheVariants.{Simple}

@@ -21,7 +21,7 @@ made_more f many vs now v made pushed is =
 
 -- ---- a run
 
--- the elements from the place k on were made, and the others are to come
+-- the elements from the linear index k on were made, and the others are to come
 pub record AreNext (n k many : ℕ) (elements : ℕ) (vs : List Value) : Type 0 where
   pub left : elements ≡ state n (k + many)
   pub made : AreMade (λ i. whole (element n (k + i))) many vs

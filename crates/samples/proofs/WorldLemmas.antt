@@ -21,7 +21,7 @@ use Rattle.domains.specs.Changes.{new_domain, root_of}
 use Rattle.domains.specs.declared.classes.Node.{Node}
 use Rattle.object_ops.specs.Needs.{on_for, path_on}
 use Rattle.object_ops.specs.declared.ops.Request.{Request}
-use Rattle.register.specs.Decided.{Door, at_maybe, decided, grant_of, granted, passed}
+use Rattle.register.specs.Decided.{RegisterState, at_maybe, decided, grant_of, granted, passed}
 use Rattle.register.specs.Tickets.{Issue, counted, turn_at}
 use Rattle.register.specs.declared.verdicts.Verdict.{Verdict}
 use Rattle.register.specs.declared.verdicts.Verdict.TheVariants.{Denied, Granted}
@@ -52,14 +52,14 @@ owner_reads caller user is =
     ap (λ (u : Option (List ℕ)). unwrap_or (option_map (holds Read) (option_and_then (get list) u)) otherwise) is
     ∙ ap (λ (r : Option Rights). unwrap_or (option_map (holds Read) r) otherwise) (get_put nat_list_cmp_total empty user all_rights)
 
-abbrev issue_of : Door → Issue
+abbrev issue_of : RegisterState → Issue
 issue_of d = record { place = d.places; grant = grant_of d 1 (root_of 1 1 0) None; left = turn_at d.issued dataset_id Only ∷ [] }
 
-abbrev door_after : Door → Door
-door_after d = record (passed d) { issued = counted d.issued dataset_id }
+abbrev register_after : RegisterState → RegisterState
+register_after d = record (passed d) { issued = counted d.issued dataset_id }
 
-decided_read : (a : ℕ) (d : Door) (caller : Caller) (request : Request) → get d.catalogue.nodes sample_path ≡ Some (new_domain 1 1 0 sample_user) → caller.user ≡ Some sample_user
-    → request.path ≡ sample_path → request.op ≡ slab_op a → decided d caller request ≡ (Granted (issue_of d), door_after d)
+decided_read : (a : ℕ) (d : RegisterState) (caller : Caller) (request : Request) → get d.catalogue.nodes sample_path ≡ Some (new_domain 1 1 0 sample_user) → caller.user ≡ Some sample_user
+    → request.path ≡ sample_path → request.op ≡ slab_op a → decided d caller request ≡ (Granted (issue_of d), register_after d)
 decided_read a d caller request node user path op =
     ap (λ (o : Op). at_maybe d caller request.path o (get d.catalogue.nodes (path_on (on_for o) request.path))) op
     ∙ ap (λ (p : List ℕ). at_maybe d caller p (slab_op a) (get d.catalogue.nodes p)) path
@@ -68,14 +68,14 @@ decided_read a d caller request node user path op =
 
 -- ---- the answer
 
-read_served : (a : ℕ) (d : Door) (m : Objects) (o : Object) → get m dataset_id ≡ Some o → served (slab_op a) (issue_of d) m ≡ ((on_object (grant_of d 1 (root_of 1 1 0) None) (slab_op a) dataset_id (Some o)).0, insert m dataset_id o)
+read_served : (a : ℕ) (d : RegisterState) (m : Objects) (o : Object) → get m dataset_id ≡ Some o → served (slab_op a) (issue_of d) m ≡ ((on_object (grant_of d 1 (root_of 1 1 0) None) (slab_op a) dataset_id (Some o)).0, insert m dataset_id o)
 read_served a d m o is =
     let g = grant_of d 1 (root_of 1 1 0) None in
     ap (λ (x : Option Object). ((on_object g (slab_op a) dataset_id x).0, set_at m dataset_id (on_object g (slab_op a) dataset_id x).1)) is
 
 -- the world afterwards
 abbrev after : World → Object → World
-after w o = record { door = door_after w.door; objects = insert w.objects dataset_id o }
+after w o = record { register = register_after w.register; objects = insert w.objects dataset_id o }
 
 abbrev body_of : ℕ → ℕ → Data
 body_of n a = only (codes "value") (read_tree n a 100 143)
@@ -87,10 +87,10 @@ step_is : (n a : ℕ) (w : World) (caller : Caller) (request : Request) → n < 
     → step w caller request ≡ (Replied (Done 200 (body_of n a)), after w (dataset_of n w h))
 step_is n a w caller request small low h user path op =
     let o = dataset_of n w h in
-    let next = λ (x : Op) (p : Verdict × Door). let q = by_verdict x p.0 w.objects in (let whole : What × World = (q.0, record { door = p.1; objects = q.1 }) in whole) in
-    ap (λ (x : Op). next x (decided w.door caller request)) op
-    ∙ ap (next (slab_op a)) (decided_read a w.door caller request h.node user path op)
-    ∙ ap (λ (q : Reply × Objects). let whole : What × World = (Replied q.0, record { door = door_after w.door; objects = q.1 }) in whole) (read_served a w.door w.objects o h.object)
+    let next = λ (x : Op) (p : Verdict × RegisterState). let q = by_verdict x p.0 w.objects in (let whole : What × World = (q.0, record { register = p.1; objects = q.1 }) in whole) in
+    ap (λ (x : Op). next x (decided w.register caller request)) op
+    ∙ ap (next (slab_op a)) (decided_read a w.register caller request h.node user path op)
+    ∙ ap (λ (q : Reply × Objects). let whole : What × World = (Replied q.0, record { register = register_after w.register; objects = q.1 }) in whole) (read_served a w.register w.objects o h.object)
     ∙ ap (λ (r : Reply). let whole : What × World = (Replied r, after w o) in whole) (slab_answered a n h.array small low h.elements)
 
 holds_after : (n : ℕ) (w : World) (h : HoldsSample n w) → HoldsSample n (after w (dataset_of n w h))

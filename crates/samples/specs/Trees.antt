@@ -18,7 +18,7 @@ listed ds = array (items_of ds)
 
 -- ---- the dataset's value
 
--- so many elements from the place k on
+-- so many elements from the linear index k on
 unfoldable pub run_tree : ℕ → ℕ → ℕ → Data
 run_tree n many k = listed (map (λ i. whole (element n (k + i))) (range_with_len 0 many))
 

@@ -9,7 +9,7 @@ use Rattle.object_acts.specs.Objects.{bare}
 use Rattle.object_acts.specs.declared.objects.Body.TheVariants.{Dataset}
 use Rattle.object_ops.specs.Answers.{only}
 use Rattle.object_ops.specs.declared.replies.Reply.TheVariants.{Done}
-use Rattle.register.specs.Decided.{Door}
+use Rattle.register.specs.Decided.{RegisterState}
 use Rattle.service_core.specs.Steps.{World}
 use Rattle.service_core.specs.declared.answers.What.{What}
 use Rattle.service_core.specs.declared.answers.What.TheVariants.{Replied}
@@ -18,14 +18,14 @@ use Rattle.samples.specs.Requests.{dataset_id, sample_path, sample_user}
 use Rattle.samples.specs.Trees.{IsSample, read_tree}
 
 -- a register that gave out nothing in run 1
-pub record IsFirst (d : Door) : Type 0 where
+pub record IsFirst (d : RegisterState) : Type 0 where
   pub next : d.catalogue.next ≡ 1
   pub run : d.run ≡ 1
   pub serial : d.serial ≡ 0
 
 -- the domain of the user stands at its path, and its dataset has the elements
 pub record HoldsSample (n : ℕ) (w : World) : Type 0 where
-  pub node : get w.door.catalogue.nodes sample_path ≡ Some (new_domain 1 1 0 sample_user)
+  pub node : get w.register.catalogue.nodes sample_path ≡ Some (new_domain 1 1 0 sample_user)
   pub attributes : AttributeMap
   pub array : Grid
   pub object : get w.objects dataset_id ≡ Some (record { attributes = attributes; body = Dataset (bare array) })

@@ -44,7 +44,7 @@ fn load(alloc: Global, number: u32) -> Result<Loaded, AllocError>
 
 // A world of one lane in run 1, with the folder `/` alone.
 fn empty_world(alloc: Global) -> Result<World, AllocError>
-    ensures { IfOk result (λ world. IsFirst world.door) }
+    ensures { IfOk result (λ world. IsFirst world.register) }
 {
     let user = sample_user(alloc)?;
     let catalogue = Catalogue::new(alloc, user)?;

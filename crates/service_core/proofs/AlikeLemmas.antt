@@ -24,7 +24,7 @@ use Rattle.object_ops.specs.declared.ops.Request.{Request}
 use Rattle.object_ops.specs.declared.refusals.Refusal.TheVariants.{Limit, NoDomain}
 use Rattle.object_ops.specs.declared.replies.Reply.{Reply}
 use Rattle.object_ops.specs.declared.replies.Reply.TheVariants.{Done}
-use Rattle.register.specs.Decided.{Door, at_maybe, changed_at, decided, domain_added, domain_made, entry_put, entry_read, fits, folder_made, foreign_in, forgotten, granted, in_domain, make_steps, most_of, node_made, node_removed, object_granted, one_step, owner_of, passed, refused, serial_limit}
+use Rattle.register.specs.Decided.{RegisterState, at_maybe, changed_at, decided, domain_added, domain_made, entry_put, entry_read, fits, folder_made, foreign_in, forgotten, granted, in_domain, make_steps, most_of, node_made, node_removed, object_granted, one_step, owner_of, passed, refused, serial_limit}
 use Rattle.register.specs.Tickets.{Issue}
 use Rattle.register.specs.declared.verdicts.Verdict.{Verdict}
 use Rattle.register.specs.declared.verdicts.Verdict.TheVariants as verdict
@@ -43,26 +43,26 @@ served_alike op i j m grant steps =
     run_by_steps j.grant op (started m) j.left ∙ (λ k. run_steps (grant k) op (started m) (steps k)) ∙ sym (run_by_steps i.grant op (started m) i.left)
 
 -- verdicts that are obeyed alike, and registers that are alike
-record IsAlike (op : Op) (a b : Verdict × Door) : Type 0 where
+record IsAlike (op : Op) (a b : Verdict × RegisterState) : Type 0 where
   pub obeyed : (m : Objects) → by_verdict op b.0 m ≡ by_verdict op a.0 m
   pub catalogue : b.1.catalogue ≡ a.1.catalogue
   pub run : b.1.run ≡ a.1.run
   pub serial : b.1.serial ≡ a.1.serial
 
 -- a register with other places, tickets and marks
-module _ (d : Door) (places : ℕ) (issued : List ℕ) (marks : Marked) where
-  abbrev e : Door
+module _ (d : RegisterState) (places : ℕ) (issued : List ℕ) (marks : Marked) where
+  abbrev e : RegisterState
   e = record d { places = places; issued = issued; marks = marks }
 
   -- the same verdict
-  same : (op : Op) (v : Verdict) (x y : Door) → y.catalogue ≡ x.catalogue → y.run ≡ x.run → y.serial ≡ x.serial → IsAlike op (v, x) (v, y)
+  same : (op : Op) (v : Verdict) (x y : RegisterState) → y.catalogue ≡ x.catalogue → y.run ≡ x.run → y.serial ≡ x.serial → IsAlike op (v, x) (v, y)
   same op v x y catalogue run serial = record { obeyed = λ m. refl; catalogue = catalogue; run = run; serial = serial }
 
   same_here : (op : Op) (v : Verdict) → IsAlike op (v, passed d) (v, passed e)
   same_here op v = same op v (passed d) (passed e) refl refl refl
 
   -- the same grant and steps
-  issued_alike : (op : Op) (i j : Issue) (x y : Door) → j.grant ≡ i.grant → map (λ t. t.step) j.left ≡ map (λ t. t.step) i.left
+  issued_alike : (op : Op) (i j : Issue) (x y : RegisterState) → j.grant ≡ i.grant → map (λ t. t.step) j.left ≡ map (λ t. t.step) i.left
       → y.catalogue ≡ x.catalogue → y.run ≡ x.run → y.serial ≡ x.serial → IsAlike op (verdict.Granted i, x) (verdict.Granted j, y)
   issued_alike op i j x y grant steps catalogue run serial = record {
     obeyed = λ m. ap (λ (p : Reply × Objects). (Replied p.0, p.1)) (served_alike op i j m grant steps);
@@ -168,12 +168,12 @@ module _ (d : Door) (places : ℕ) (issued : List ℕ) (marks : Marked) where
 
 pub steps_alike : StepsAlike
 steps_alike w v caller request alike =
-    let other : World = record { door = record w.door { places = v.door.places; issued = v.door.issued; marks = v.door.marks }; objects = w.objects } in
+    let other : World = record { register = record w.register { places = v.register.places; issued = v.register.issued; marks = v.register.marks }; objects = w.objects } in
     let is : v ≡ other = λ k. record {
-      door = record { catalogue = alike.catalogue k; run = alike.run k; serial = alike.serial k; places = v.door.places; issued = v.door.issued; marks = v.door.marks };
+      register = record { catalogue = alike.catalogue k; run = alike.run k; serial = alike.serial k; places = v.register.places; issued = v.register.issued; marks = v.register.marks };
       objects = alike.objects k;
     } in
-    let a = decided_alike w.door v.door.places v.door.issued v.door.marks caller request in
+    let a = decided_alike w.register v.register.places v.register.issued v.register.marks caller request in
     let Alike : World → Type 0 = λ x. ((step x caller request).0 ≡ (step w caller request).0) × AreAlike (step w caller request).1 (step x caller request).1 in
     subst Alike (sym is) (
       ap (λ (q : What × Objects). q.0) (a.obeyed w.objects),

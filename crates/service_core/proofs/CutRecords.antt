@@ -11,14 +11,14 @@ use Rattle.chunk_owner.specs.declared.slots.slot.Mark.{Mark}
 use Rattle.chunk_owner.specs.declared.slots.slot.Mark.TheVariants.{Kept}
 use Rattle.chunk_owner.specs.Lanes.{Lane}
 use Rattle.chunk_owner.specs.Owners.Records.{AreStillIn, IsMarkedIn}
-use Rattle.register.specs.Decided.{Door}
+use Rattle.register.specs.Decided.{RegisterState}
 use Rattle.register.specs.Kept.{IsRegisterMarked, all_kept, is_marked_in}
 use Rattle.register.specs.Kept.IsRegisterMarked.{the_run, the_next, a_node}
 use Rattle.register.specs.Marks.{Marked, no_marks}
 use Rattle.service_core.specs.Records.{IsCutRecord, IsKept, IsWorldMarked}
 use Rattle.service_core.specs.Worlds.{State}
 
-register_still : (d : Door) (key : List ℕ) → d.marks ≡ no_marks → IsRegisterMarked d key → ⊥
+register_still : (d : RegisterState) (key : List ℕ) → d.marks ≡ no_marks → IsRegisterMarked d key → ⊥
 register_still d key marks (the_run due is) = true≢false (sym due ∙ ap (λ (m : Marked). m.run) marks)
 register_still d key marks (the_next due is) = true≢false (sym due ∙ ap (λ (m : Marked). m.next) marks)
 register_still d key marks (a_node path due is) =
@@ -40,7 +40,7 @@ lanes_still (l ∷ ls) key still (inl m) = let s = still.0 m.id m.slot m.here in
 lanes_still (l ∷ ls) key still (inr more) = lanes_still ls key still.1 more
 
 unmarked : (s : State) (key : List ℕ) → IsKept s → IsWorldMarked s key → ⊥
-unmarked s key kept (inl door) = register_still s.door key (ap (λ (d : Door). d.marks) kept.register) door
+unmarked s key kept (inl register) = register_still s.register key (ap (λ (d : RegisterState). d.marks) kept.register) register
 unmarked s key kept (inr lanes) = lanes_still s.lanes key kept.lanes lanes
 
 pub nothing_to_cut : (s : State) → IsKept s → (r : Record) → IsCutRecord s r → ⊥

@@ -40,7 +40,7 @@ use Rattle.chunk_owner.proofs.KeptLemmas.{touched_named}
 use Rattle.register.proofs.Counting.{length-counted}
 use Rattle.register.proofs.GrantLemmas.{each_from}
 use Rattle.register.specs.Marks.{Marked, with_path}
-use Rattle.register.specs.Decided.{Decides, Door, IsDoor, acl_body, acls_body, answered, at_maybe, cat_refusal, children_body, decided, domain_added, domain_made, entry_put, entry_read, fits, folder_made, foreign_in, forgotten, grant_of, granted, in_domain, make_granted, make_steps, most_of, node_made, node_removed, object_granted, one_step, owner_of, passed, refused, serial_limit}
+use Rattle.register.specs.Decided.{Decides, IsRegister, RegisterState, acl_body, acls_body, answered, at_maybe, cat_refusal, children_body, decided, domain_added, domain_made, entry_put, entry_read, fits, folder_made, foreign_in, forgotten, grant_of, granted, in_domain, make_granted, make_steps, most_of, node_made, node_removed, object_granted, one_step, owner_of, passed, refused, serial_limit}
 use Rattle.register.specs.Tickets.{Issue, all_counted, counted}
 use Rattle.register.specs.declared.tickets.Turn.{Turn}
 use Rattle.register.specs.declared.verdicts.Verdict.{Verdict}
@@ -52,21 +52,21 @@ use Rattle.chunk_owner.proofs.OfOwners.WholeLemmas.{get-set_at}
 use Rattle.object_ids.proofs.IdOrders.{tied_ids}
 
 -- what was given stays given, of as many lanes, and one place more is
-pub record Grows (old new : Door) : Type 0 where
+pub record Grows (old new : RegisterState) : Type 0 where
   pub run : new.run ≡ old.run
   pub serial : old.serial ≤ new.serial
   pub next : old.catalogue.next ≤ new.catalogue.next
   pub lanes : length new.issued ≡ length old.issued
   pub places : new.places ≡ old.places + 1
 
-pub given_later : (old new : Door) → Grows old new → (id : Id) → IsGiven old id → IsGiven new id
+pub given_later : (old new : RegisterState) → Grows old new → (id : Id) → IsGiven old id → IsGiven new id
 given_later old new grows id h = record {
   number = omega (arith, h.number, grows.next);
   out = record { run = omega (arith, h.out.run, grows.run); serial = λ same. omega (arith, h.out.serial (same ∙ grows.run), grows.serial) };
 }
 
 -- the register has grown, and what was granted can be served
-pub record IsDecided (d : Door) (op : Op) (m : Objects) (p : Verdict × Door) : Type 0 where
+pub record IsDecided (d : RegisterState) (op : Op) (m : Objects) (p : Verdict × RegisterState) : Type 0 where
   pub grows : Grows d p.1
   pub given : MayGrant p.1 p.0
   pub servable : IsServable (length d.issued) op p.0 m
@@ -97,7 +97,7 @@ object_servable n op issue m id e h = h
 some_id : (x y : Id) → Some x ≡ Some y → x ≡ y
 some_id x y e = cc
 
-module _ (d : Door) (m : Objects) (door : IsDoor d) (all : AreGiven d m) where
+module _ (d : RegisterState) (m : Objects) (register : IsRegister d) (all : AreGiven d m) where
   -- ---- the register
 
   grows_with : (c : Contents) (marks : Marked) → d.catalogue.next ≤ c.next → Grows d (record (passed d) { catalogue = c; marks = marks })
@@ -164,7 +164,7 @@ module _ (d : Door) (m : Objects) (door : IsDoor d) (all : AreGiven d m) where
     -- ---- one step
 
     lane_below : (counts : List ℕ) (id : Id) → length counts ≡ length d.issued → lane_of (length counts) id < length d.issued
-    lane_below counts id e = let some : 0 < length d.issued = door.some_lane in subst (λ j. lane_of j id < length d.issued) (sym e) (omega arith)
+    lane_below counts id e = let some : 0 < length d.issued = register.some_lane in subst (λ j. lane_of j id < length d.issued) (sym e) (omega arith)
 
     step_is : (op : Op) (o : Option Id) → id_of op ≡ o → IsDecided d op m (one_step d number root o)
     step_is op None e = refused_is op NoDomain
@@ -198,7 +198,7 @@ module _ (d : Door) (m : Objects) (door : IsDoor d) (all : AreGiven d m) where
       abbrev fresh : Id
       fresh = record { kind = kind_made make; domain = number; run = d.run; serial = d.serial }
 
-      abbrev taken : Door
+      abbrev taken : RegisterState
       taken = record d { serial = d.serial + 1 }
 
       -- the new id was not given before
@@ -293,7 +293,7 @@ module _ (d : Door) (m : Objects) (door : IsDoor d) (all : AreGiven d m) where
     root_given : (number : ℕ) (root : Id) → node.class ≡ Domain number root → IsGiven d root
     root_given number root e = record {
       number = omega (arith, root_below number root e, (catalogue.roots path number root (stands number root e)).1);
-      out = door.roots path number root (stands number root e);
+      out = register.roots path number root (stands number root e);
     }
 
     drop_at : (class : NodeClass) → node.class ≡ class → (c : Contents) (marks : Marked) → d.catalogue.next ≤ c.next → IsDecided d DropNode m (forgotten (record d { catalogue = c; marks = marks }) class)
@@ -338,10 +338,10 @@ module _ (d : Door) (m : Objects) (door : IsDoor d) (all : AreGiven d m) where
   decided_is catalogue caller request = maybe_is catalogue caller request.path (decided_at request) request.op (get d.catalogue.nodes (decided_at request)) refl
 
   -- the same of what a call says
-  pub decides_is : IsCatalogue d.catalogue → (caller : Caller) (request : Request) (v : Verdict) (new : Door) → Decides d caller request v new → IsDecided d request.op m (v, new)
+  pub decides_is : IsCatalogue d.catalogue → (caller : Caller) (request : Request) (v : Verdict) (new : RegisterState) → Decides d caller request v new → IsDecided d request.op m (v, new)
   decides_is catalogue caller request (verdict.Granted issue) new e = subst (IsDecided d request.op m) (sym e) (decided_is catalogue caller request)
   decides_is catalogue caller request (verdict.Answered answer) new e = subst (IsDecided d request.op m) (sym e) (decided_is catalogue caller request)
   decides_is catalogue caller request (verdict.Denied right) new e = subst (IsDecided d request.op m) (sym e) (decided_is catalogue caller request)
   decides_is catalogue caller request (verdict.Refused refusal) new e = subst (IsDecided d request.op m) (sym e) (decided_is catalogue caller request)
   decides_is catalogue caller request verdict.NoMemory new e =
-      subst (λ (x : Door). IsDecided d request.op m (verdict.NoMemory, x)) (sym e.2) (record { grows = grows_place; given = tt; servable = tt })
+      subst (λ (x : RegisterState). IsDecided d request.op m (verdict.NoMemory, x)) (sym e.2) (record { grows = grows_place; given = tt; servable = tt })

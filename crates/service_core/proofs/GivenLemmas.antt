@@ -21,7 +21,7 @@ use Rattle.object_acts.specs.Acts.{change_of, reads_object, reply_of}
 use Rattle.chunk_owner.specs.Lanes.{set_at}
 use Rattle.chunk_owner.specs.Acts.{act, changed_by, changing, group_of, linking, link_to, make_act, missing, on_touched, reading, removed, seen, touched, touched_by_make}
 use Rattle.chunk_owner.proofs.Eaches.{each_insert, each_remove, stays}
-use Rattle.register.specs.Decided.{Door, fresh_given, serial_limit}
+use Rattle.register.specs.Decided.{RegisterState, fresh_given, serial_limit}
 use Rattle.register.specs.Tickets.{Issue}
 use Rattle.register.specs.declared.tickets.Turn.{Turn}
 use Rattle.register.specs.declared.verdicts.Verdict.{Verdict}
@@ -34,7 +34,7 @@ use Rattle.service_core.proofs.ForgetLemmas.{get-without}
 use Rattle.object_ops.specs.Answers.{was_done}
 
 -- ids of one number, run and serial are given together
-pub given_same : (d : Door) (id root : Id) → id_eq id root ≡ true → IsGiven d root → IsGiven d id
+pub given_same : (d : RegisterState) (id root : Id) → id_eq id root ≡ true → IsGiven d root → IsGiven d id
 given_same d id root e h =
     let a = and_parts _ _ e in
     let b = and_parts _ _ a.1 in
@@ -44,11 +44,11 @@ given_same d id root e h =
     let serial : id.serial ≡ root.serial = eqb-true id.serial root.serial c.1 in
     record { number = omega (arith, h.number, domain); out = record { run = omega (arith, h.out.run, run); serial = λ same. omega (arith, h.out.serial (sym run ∙ same), serial) } }
 
-given_set : (d : Door) (m : Objects) (k : Id) (w : Option Object) → ((o : Object) → w ≡ Some o → IsGiven d k) → AreGiven d m → AreGiven d (set_at m k w)
+given_set : (d : RegisterState) (m : Objects) (k : Id) (w : Option Object) → ((o : Object) → w ≡ Some o → IsGiven d k) → AreGiven d m → AreGiven d (set_at m k w)
 given_set d m k None h all = each_remove (λ id o. IsGiven d id) m k all
 given_set d m k (Some o) h all = each_insert (λ id o. IsGiven d id) m k o (h o refl) all
 
-module _ (d : Door) (g : Grant) (root : IsGiven d g.root) (fresh : (id : Id) → g.fresh ≡ Some id → IsGiven d id) where
+module _ (d : RegisterState) (g : Grant) (root : IsGiven d g.root) (fresh : (id : Id) → g.fresh ≡ Some id → IsGiven d id) where
   -- ---- what one step leaves where no object was
 
   -- a change leaves an object of a root alone
@@ -114,28 +114,28 @@ module _ (d : Door) (g : Grant) (root : IsGiven d g.root) (fresh : (id : Id) →
   stop_given : (op : Op) (ts : List Turn) (m new : Objects) → StopsIn g op ts m new → AreGiven d m → AreGiven d new
   stop_given op ts m new stops all = subst (AreGiven d) (sym stops.stands) (run_given op (started m) stops.front all)
 
-without_given : (d : Door) (number : ℕ) (m : Objects) → AreGiven d m → AreGiven d (without_domain number m)
+without_given : (d : RegisterState) (number : ℕ) (m : Objects) → AreGiven d m → AreGiven d (without_domain number m)
 without_given d number m all = λ q o e. all q o (stays (q.domain == number) (get m q) o (sym (get-without number m q) ∙ e))
 
 -- ---- a granted request, and any
 
 -- the root and the new id of what is granted were given
-pub record HasGiven (d : Door) (issue : Issue) : Type 0 where
+pub record HasGiven (d : RegisterState) (issue : Issue) : Type 0 where
   pub root : IsGiven d issue.grant.root
   pub fresh : (id : Id) → issue.grant.fresh ≡ Some id → IsGiven d id
 
-abbrev pub MayGrant : Door → Verdict → Type 0
+abbrev pub MayGrant : RegisterState → Verdict → Type 0
 MayGrant d (verdict.Granted issue) = HasGiven d issue
 MayGrant d v = Unit {0}
 
-served_given : (d : Door) (op : Op) (issue : Issue) (m : Objects) → HasGiven d issue → AreGiven d m → AreGiven d (served op issue m).1
+served_given : (d : RegisterState) (op : Op) (issue : Issue) (m : Objects) → HasGiven d issue → AreGiven d m → AreGiven d (served op issue m).1
 served_given d DropNode issue m h all = without_given d issue.grant.number m all
 served_given d op issue m h all = run_given d issue.grant h.root h.fresh op (started m) issue.left all
 
-same_given : (d : Door) (what : What) (new : Objects) (p : What × Objects) → (what, new) ≡ p → AreGiven d p.1 → AreGiven d new
+same_given : (d : RegisterState) (what : What) (new : Objects) (p : What × Objects) → (what, new) ≡ p → AreGiven d p.1 → AreGiven d new
 same_given d what new p e all = subst (AreGiven d) (sym (ap (λ x. x.1) e)) all
 
-pub obeys_given : (d : Door) (op : Op) (v : Verdict) (m new : Objects) (what : What) → MayGrant d v → Obeys op v m what new → AreGiven d m → AreGiven d new
+pub obeys_given : (d : RegisterState) (op : Op) (v : Verdict) (m new : Objects) (what : What) → MayGrant d v → Obeys op v m what new → AreGiven d m → AreGiven d new
 obeys_given d op (verdict.Granted issue) m new (Replied r) h e all = same_given d (Replied r) new _ e (served_given d op issue m h all)
 obeys_given d op (verdict.Granted issue) m new (Denied right) h e all = same_given d (Denied right) new _ e (served_given d op issue m h all)
 obeys_given d op (verdict.Granted issue) m new NoMemory h e all = stop_given d issue.grant h.root h.fresh op issue.left m new e all
@@ -153,18 +153,18 @@ obeys_given d op verdict.NoMemory m new what h e all = subst (AreGiven d) (sym e
 -- ---- an id without a request
 
 -- an id that wasn't given has no object
-none_given : (d : Door) (m : Objects) (id : Id) → AreGiven d m → (IsGiven d id → ⊥) → get m id ≡ None
+none_given : (d : RegisterState) (m : Objects) (id : Id) → AreGiven d m → (IsGiven d id → ⊥) → get m id ≡ None
 none_given d m id all never = at (get m id) refl where
   at : (o : Option Object) → get m id ≡ o → get m id ≡ None
   at None e = e
   at (Some x) e = absurd (never (all id x e))
 
-pub fresh_is : (d new : Door) (m : Objects) (k : Kind) (number : ℕ) (r : Option Id) → AreGiven d m → number < d.catalogue.next → (r, new) ≡ fresh_given d k number
-    → IfSome r (IsFreshId k number (record { door = new; objects = m }))
+pub fresh_is : (d new : RegisterState) (m : Objects) (k : Kind) (number : ℕ) (r : Option Id) → AreGiven d m → number < d.catalogue.next → (r, new) ≡ fresh_given d k number
+    → IfSome r (IsFreshId k number (record { register = new; objects = m }))
 fresh_is d new m k number r all below e =
-    subst (λ (p : Option Id × Door). IfSome p.0 (IsFreshId k number (record { door = p.1; objects = m }))) (sym e) (at (nat_lt d.serial serial_limit)) where
-      at : (b : Bool) → let p : Option Id × Door = cond b (Some (record { kind = k; domain = number; run = d.run; serial = d.serial }), record d { serial = d.serial + 1 }) (None, d) in
-          IfSome p.0 (IsFreshId k number (record { door = p.1; objects = m }))
+    subst (λ (p : Option Id × RegisterState). IfSome p.0 (IsFreshId k number (record { register = p.1; objects = m }))) (sym e) (at (nat_lt d.serial serial_limit)) where
+      at : (b : Bool) → let p : Option Id × RegisterState = cond b (Some (record { kind = k; domain = number; run = d.run; serial = d.serial }), record d { serial = d.serial + 1 }) (None, d) in
+          IfSome p.0 (IsFreshId k number (record { register = p.1; objects = m }))
       at true = record {
         kind = refl;
         domain = refl;

@@ -12,7 +12,7 @@ use Rattle.chunk_owner.specs.Owners.Joined.{AreLanes, whole}
 use Rattle.chunk_owner.specs.Owners.Records.{AreFaultless, AreGivenUpTo, DescribesObjects, IsFirstFault}
 use Rattle.register.specs.Installed.Registers.{IsNextNumber, IsRegisterFault, IsRun}
 use Rattle.register.proofs.Installing.{faultless}
-use Rattle.register.specs.Decided.{Door}
+use Rattle.register.specs.Decided.{RegisterState}
 use Rattle.register.specs.Kept.{IsInstalled, MatchFault, MatchUsed, of_records}
 use Rattle.register.specs.declared.installs.InstallFault.{InstallFault}
 use Rattle.register.specs.declared.installs.InstallFault.TheVariants.{BadRecord, RunsUsed, NoMemory}
@@ -20,9 +20,9 @@ use Rattle.service_core.specs.Strays.Strays.{HasNoStrays, IsStray}
 use Rattle.service_core.specs.Records.{IsWorldFault, IsWorldOf, Names, of_lane, of_none, of_register}
 use Rattle.service_core.specs.Worlds.{IsBuilt}
 
-module _ (held : Held) (lanes : ℕ) (d : Door) (is : IsInstalled held lanes d) (run next : ℕ) (runs : run ≡ d.run - 1) (nexts : next ≡ d.catalogue.next) where
+module _ (held : Held) (lanes : ℕ) (d : RegisterState) (is : IsInstalled held lanes d) (run next : ℕ) (runs : run ≡ d.run - 1) (nexts : next ≡ d.catalogue.next) where
   later : d.run ≡ is.kept + 1
-  later = ap (λ (x : Door). x.run) is.begins
+  later = ap (λ (x : RegisterState). x.run) is.begins
 
   kept_run : run ≡ is.kept
   kept_run = omega (arith, runs, later)
@@ -52,7 +52,7 @@ module _ (held : Held) (lanes : ℕ) (d : Door) (is : IsInstalled held lanes d) 
   module _ (owners : List Lane) (given : AreGivenUpTo run next (whole owners)) where
     pub built : length owners ≡ lanes → AreLanes lanes 0 owners → IsBuilt d owners
     built count numbered = record {
-      count = count ∙ sym (ap (λ (x : Door). length x.issued) is.begins ∙ length-replicate lanes 0);
+      count = count ∙ sym (ap (λ (x : RegisterState). length x.issued) is.begins ∙ length-replicate lanes 0);
       lanes = subst (λ (n : ℕ). AreLanes n 0 owners) (sym count) numbered;
       given = λ id o there. let g = given id o there in record {
         number = omega (arith, g.1, nexts);
@@ -60,7 +60,7 @@ module _ (held : Held) (lanes : ℕ) (d : Door) (is : IsInstalled held lanes d) 
       };
     }
 
-    pub world_of : DescribesObjects held (whole owners) → HasNoStrays held → IsWorldOf held lanes (record { door = d; lanes = owners })
+    pub world_of : DescribesObjects held (whole owners) → HasNoStrays held → IsWorldOf held lanes (record { register = d; lanes = owners })
     world_of objects strays = record {
       register = is;
       describes = record {
@@ -72,8 +72,8 @@ module _ (held : Held) (lanes : ℕ) (d : Door) (is : IsInstalled held lanes d) 
     }
 
 -- the run before
-pub has_run : (held : Held) (lanes : ℕ) (d : Door) → IsInstalled held lanes d → 1 ≤ d.run
-has_run held lanes d is = let e = ap (λ (x : Door). x.run) is.begins in omega (arith, e)
+pub has_run : (held : Held) (lanes : ℕ) (d : RegisterState) → IsInstalled held lanes d → 1 ≤ d.run
+has_run held lanes d is = let e = ap (λ (x : RegisterState). x.run) is.begins in omega (arith, e)
 
 -- a fault of the register
 pub of_register_fault : (lanes : ℕ) (held : Held) (e : InstallFault) → MatchFault e (IsLeast (IsRegisterFault held)) → MatchFault e (IsWorldFault lanes held)

@@ -31,7 +31,7 @@ use Rattle.object_ops.specs.declared.refusals.Refusal.TheVariants.{Limit, NoDoma
 use Rattle.chunk_owner.specs.Acts.{acted}
 use Rattle.chunk_owner.specs.Lanes.{AreShown}
 use Rattle.chunk_owner.specs.Laws.{RefusalsLeaveAll}
-use Rattle.register.specs.Decided.{Door, at_maybe, changed_at, decided, domain_added, domain_made, entry_put, entry_read, fits, folder_made, foreign_in, forgotten, grant_of, granted, in_domain, make_steps, most_of, node_made, node_removed, object_granted, one_step, owner_of, passed, refused, serial_limit}
+use Rattle.register.specs.Decided.{RegisterState, at_maybe, changed_at, decided, domain_added, domain_made, entry_put, entry_read, fits, folder_made, foreign_in, forgotten, grant_of, granted, in_domain, make_steps, most_of, node_made, node_removed, object_granted, one_step, owner_of, passed, refused, serial_limit}
 use Rattle.register.specs.Tickets.{Issue}
 use Rattle.register.specs.declared.tickets.Turn.{Turn}
 use Rattle.register.specs.declared.verdicts.Verdict.{Verdict}
@@ -80,19 +80,19 @@ module _ (kept : RefusalsLeaveAll) (m : Objects) (seen : AreShown m) where
 
 -- ---- what is decided
 
-abbrev Granting : Door → Op → Issue → Door → Type 0
+abbrev Granting : RegisterState → Op → Issue → RegisterState → Type 0
 Granting d DropNode issue new = Unit {0}
 Granting d op issue new = KeepsAll op d new × FirstDecides issue.grant op issue.left
 
 -- the verdict leaves the register but for what is granted
-abbrev Leaving : Door → Op → Verdict × Door → Type 0
+abbrev Leaving : RegisterState → Op → Verdict × RegisterState → Type 0
 Leaving d op (verdict.Granted issue, new) = Granting d op issue new
 Leaving d op (verdict.Answered answer, new) = was_done answer ≡ true
 Leaving d op (verdict.Denied right, new) = new ≡ passed d
 Leaving d op (verdict.Refused refusal, new) = new ≡ passed d
 Leaving d op (verdict.NoMemory, new) = Unit {0}
 
-module _ (d : Door) where
+module _ (d : RegisterState) where
   folder_left : (op : Op) (path owner : List ℕ) (fault : Option CatFault) → Leaving d op (folder_made d path owner fault)
   folder_left op path owner None = refl
   folder_left op path owner (Some fault) = refl
@@ -128,7 +128,7 @@ module _ (d : Door) where
 
   -- ---- objects
 
-  granting : (op : Op) (issue : Issue) (new : Door) → KeepsAll op d new → FirstDecides issue.grant op issue.left → Granting d op issue new
+  granting : (op : Op) (issue : Issue) (new : RegisterState) → KeepsAll op d new → FirstDecides issue.grant op issue.left → Granting d op issue new
   granting DropNode issue new all first = tt
   granting op issue new all first = (all, first)
 
@@ -192,7 +192,7 @@ module _ (d : Door) where
 
 -- ---- the laws
 
-denied_left : (d : Door) (m : Objects) (op : Op) (p : Verdict × Door) (right : Right) → Leaving d op p → (by_verdict op p.0 m).0 ≡ Denied right → (p.1 ≡ passed d) × ((by_verdict op p.0 m).1 ≡ m)
+denied_left : (d : RegisterState) (m : Objects) (op : Op) (p : Verdict × RegisterState) (right : Right) → Leaving d op p → (by_verdict op p.0 m).0 ≡ Denied right → (p.1 ≡ passed d) × ((by_verdict op p.0 m).1 ≡ m)
 denied_left d m op (verdict.Granted issue, new) right left e = absurd (cc)
 denied_left d m op (verdict.Answered answer, new) right left e = absurd (cc)
 denied_left d m op (verdict.Denied other, new) right left e = (left, refl)
@@ -201,28 +201,28 @@ denied_left d m op (verdict.NoMemory, new) right left e = absurd (cc)
 
 pub denials_kept : DenialsKeep
 denials_kept w caller request right e =
-    let left = denied_left w.door w.objects request.op (decided w.door caller request) right (decided_left w.door caller request) e in
-    λ i. record { door = left.0 i; objects = left.1 i }
+    let left = denied_left w.register w.objects request.op (decided w.register caller request) right (decided_left w.register caller request) e in
+    λ i. record { register = left.0 i; objects = left.1 i }
 
 answer_in : (r : Reply) (refusal : Refusal) → Replied r ≡ Replied (Refused refusal) → r ≡ Refused refusal
 answer_in r refusal e = cc
 
-module _ (kept : RefusalsLeaveAll) (d : Door) (m : Objects) (seen : AreShown m) where
-  served_left : (op : Op) (issue : Issue) (new : Door) (refusal : Refusal) → Granting d op issue new → (served op issue m).0 ≡ Refused refusal → KeepsAll op d new × ((served op issue m).1 ≡ m)
+module _ (kept : RefusalsLeaveAll) (d : RegisterState) (m : Objects) (seen : AreShown m) where
+  served_left : (op : Op) (issue : Issue) (new : RegisterState) (refusal : Refusal) → Granting d op issue new → (served op issue m).0 ≡ Refused refusal → KeepsAll op d new × ((served op issue m).1 ≡ m)
   served_left DropNode issue new refusal left e = absurd (cc)
   served_left op issue new refusal left e = (left.0, run_kept kept m seen issue.grant op issue.left left.1 refusal e)
 
-  same_door : (op : Op) (new : Door) → new ≡ passed d → KeepsAll op d new
-  same_door op new e = subst (KeepsAll op d) (sym e) (record { catalogue = refl; run = refl; places = refl; serial = inl refl })
+  same_register : (op : Op) (new : RegisterState) → new ≡ passed d → KeepsAll op d new
+  same_register op new e = subst (KeepsAll op d) (sym e) (record { catalogue = refl; run = refl; places = refl; serial = inl refl })
 
-  refused_left : (op : Op) (p : Verdict × Door) (refusal : Refusal) → Leaving d op p → (by_verdict op p.0 m).0 ≡ Replied (Refused refusal)
+  refused_left : (op : Op) (p : Verdict × RegisterState) (refusal : Refusal) → Leaving d op p → (by_verdict op p.0 m).0 ≡ Replied (Refused refusal)
       → KeepsAll op d p.1 × ((by_verdict op p.0 m).1 ≡ m)
   refused_left op (verdict.Granted issue, new) refusal left e = served_left op issue new refusal left (answer_in _ refusal e)
   refused_left op (verdict.Answered answer, new) refusal left e = absurd (refused_done answer refusal (answer_in answer refusal e) left)
   refused_left op (verdict.Denied right, new) refusal left e = absurd (cc)
-  refused_left op (verdict.Refused other, new) refusal left e = (same_door op new left, refl)
+  refused_left op (verdict.Refused other, new) refusal left e = (same_register op new left, refl)
   refused_left op (verdict.NoMemory, new) refusal left e = absurd (cc)
 
 pub refusals_kept : RefusalsLeaveAll → RefusalsKeep
 refusals_kept kept w caller request refusal seen e =
-    refused_left kept w.door w.objects seen request.op (decided w.door caller request) refusal (decided_left w.door caller request) e
+    refused_left kept w.register w.objects seen request.op (decided w.register caller request) refusal (decided_left w.register caller request) e

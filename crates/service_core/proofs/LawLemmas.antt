@@ -30,7 +30,7 @@ use Rattle.object_acts.specs.declared.objects.Object.{Object}
 use Rattle.chunk_owner.specs.Acts.{act, acted, on_touched}
 use Rattle.chunk_owner.specs.Lanes.{at_id}
 use Rattle.chunk_owner.proofs.KeptLemmas.{touched_named}
-use Rattle.register.specs.Decided.{Door, at_maybe, changed_at, decided, forgotten, node_removed, passed}
+use Rattle.register.specs.Decided.{RegisterState, at_maybe, changed_at, decided, forgotten, node_removed, passed}
 use Rattle.register.specs.Grants.{HasSteps, IfGranted, IsIssueOf}
 use Rattle.register.specs.Laws.{GrantsAreIssues, TakesPlace}
 use Rattle.register.specs.Tickets.{Issue}
@@ -51,22 +51,22 @@ use Rattle.object_acts.specs.Objects.{Objects}
 -- ---- places
 
 module _ (takes : TakesPlace) where
-  place_after : (w new : World) (caller : Caller) (request : Request) (what : What) → IsAnswered w caller request what new → new.door.places ≡ w.door.places + 1
-  place_after w new caller request (Replied r) said = ap (λ (p : What × World). p.1.door.places) said ∙ takes w.door caller request
-  place_after w new caller request (Denied right) said = ap (λ (p : What × World). p.1.door.places) said ∙ takes w.door caller request
+  place_after : (w new : World) (caller : Caller) (request : Request) (what : What) → IsAnswered w caller request what new → new.register.places ≡ w.register.places + 1
+  place_after w new caller request (Replied r) said = ap (λ (p : What × World). p.1.register.places) said ∙ takes w.register caller request
+  place_after w new caller request (Denied right) said = ap (λ (p : What × World). p.1.register.places) said ∙ takes w.register caller request
   place_after w new caller request NoMemory said = ⊎_elim
-      (λ early. ap (λ (x : World). x.door.places) early.1)
-      (λ late. ap (λ (x : Door). x.places) late.0 ∙ takes w.door caller request)
+      (λ early. ap (λ (x : World). x.register.places) early.1)
+      (λ late. ap (λ (x : RegisterState). x.places) late.0 ∙ takes w.register caller request)
       said.1
 
   pub places_go_on : PlacesGoOn
   places_go_on w new caller request answer steps = place_after w new caller request answer.what steps.answered
 
   pub places_in_order : PlacesInOrder
-  places_in_order w last [] after c calls = let place : c.answer.place ≡ w.door.places = calls.0.place in omega (arith, place)
+  places_in_order w last [] after c calls = let place : c.answer.place ≡ w.register.places = calls.0.place in omega (arith, place)
   places_in_order w last (b ∷ bs) after c calls =
-      let next : b.after.door.places ≡ w.door.places + 1 = place_after w b.after b.caller b.request b.answer.what calls.0.answered in
-      let place : c.answer.place ≡ b.after.door.places + length bs = places_in_order b.after last bs after c calls.1 in
+      let next : b.after.register.places ≡ w.register.places + 1 = place_after w b.after b.caller b.request b.answer.what calls.0.answered in
+      let place : c.answer.place ≡ b.after.register.places + length bs = places_in_order b.after last bs after c calls.1 in
       omega (arith, next, place)
 
 -- ---- what is granted
@@ -85,13 +85,13 @@ issue_in : (v : Verdict) (issue : Issue) (P : Issue → Type 0) → v ≡ verdic
 issue_in v issue P e given = subst (λ (x : Verdict). IfGranted x P) e given
 
 module _ (issues : GrantsAreIssues) (w : World) (caller : Caller) (request : Request) (issue : Issue) (is : IsGranted w caller request issue) where
-  steps_of : HasSteps (length w.door.issued) request.op issue.left
-  steps_of = (issue_in (decided w.door caller request).0 issue (IsIssueOf w.door request.op) is.granted (issues w.door caller request is.lanes)).steps
+  steps_of : HasSteps (length w.register.issued) request.op issue.left
+  steps_of = (issue_in (decided w.register caller request).0 issue (IsIssueOf w.register request.op) is.granted (issues w.register caller request is.lanes)).steps
 
   -- what serves it is answered and left
   gives : (p : Reply × Objects) → served request.op issue w.objects ≡ p → Gives w caller request p
   gives p e =
-      let obeyed : by_verdict request.op (decided w.door caller request).0 w.objects ≡ (Replied p.0, p.1) =
+      let obeyed : by_verdict request.op (decided w.register caller request).0 w.objects ≡ (Replied p.0, p.1) =
       ap (λ (v : Verdict). by_verdict request.op v w.objects) is.granted ∙ ap (λ (q : Reply × Objects). (Replied q.0, q.1)) e in
       record { reply = ap (λ (q : What × Objects). q.0) obeyed; objects = ap (λ (q : What × Objects). q.1) obeyed }
 
@@ -104,8 +104,8 @@ module _ (issues : GrantsAreIssues) (w : World) (caller : Caller) (request : Req
   make_served : (make : Make) (place : Option LinkPlace) → request.op ≡ MakeObject make place → served request.op issue w.objects ≡ run_on issue.grant request.op (started w.objects) issue.left
   make_served make place e = subst (λ (op : Op). served op issue w.objects ≡ run_on issue.grant op (started w.objects) issue.left) (sym e) refl
 
-  make_steps_of : (make : Make) (place : Option LinkPlace) → request.op ≡ MakeObject make place → HasSteps (length w.door.issued) (MakeObject make place) issue.left
-  make_steps_of make place e = subst (λ (op : Op). HasSteps (length w.door.issued) op issue.left) e steps_of
+  make_steps_of : (make : Make) (place : Option LinkPlace) → request.op ≡ MakeObject make place → HasSteps (length w.register.issued) (MakeObject make place) issue.left
+  make_steps_of make place e = subst (λ (op : Op). HasSteps (length w.register.issued) op issue.left) e steps_of
 
   -- ---- one object
 
@@ -115,7 +115,7 @@ module _ (issues : GrantsAreIssues) (w : World) (caller : Caller) (request : Req
   named_gives : (id : Id) → id_of request.op ≡ Some id → Gives w caller request (at_id id (act issue.grant request.op Only id) w.objects)
   named_gives id names =
       subst (λ (p : Reply × Objects). Gives w caller request p) (at_named id names)
-      (by_steps (Some Only ∷ []) (object_served request.op issue w.objects id names) (only_of (length w.door.issued) request.op issue.left id names steps_of))
+      (by_steps (Some Only ∷ []) (object_served request.op issue w.objects id names) (only_of (length w.register.issued) request.op issue.left id names steps_of))
 
 done_at : (w : World) (caller : Caller) (request : Request) (id : Id) (f : Option Object → Reply × Option Object) → Gives w caller request (at_id id f w.objects)
     → IsDoneAt w caller request id (f (get w.objects id))
@@ -146,8 +146,8 @@ module _ (issues : GrantsAreIssues) where
 
 -- ---- domains
 
-module _ (d : Door) (path : List ℕ) (number : ℕ) (root : Id) (m : Objects) where
-  abbrev Drops : Verdict × Door → Type 0
+module _ (d : RegisterState) (path : List ℕ) (number : ℕ) (root : Id) (m : Objects) where
+  abbrev Drops : Verdict × RegisterState → Type 0
   Drops p = (by_verdict DropNode p.0 m).0 ≡ Replied (Done 200 nothing) → (by_verdict DropNode p.0 m).1 ≡ without_domain number m
 
   forgotten_drops : (c : Contents) (class : NodeClass) → class ≡ Domain number root → Drops (forgotten (changed_at d path c) class)
@@ -168,7 +168,7 @@ domain_in (Some node) class e = (node, refl, cc)
 
 pub domains_are_forgotten : DomainsAreForgotten
 domains_are_forgotten w caller path number root at done =
-    let d = w.door in
+    let d = w.register in
     let found = domain_in (get d.catalogue.nodes path) (Domain number root) at in
     let Drops' : Option Node → Type 0 = λ o. Drops d path number root w.objects (at_maybe d caller path DropNode o) in
     let drops : Drops d path number root w.objects (at_maybe d caller path DropNode (get d.catalogue.nodes path)) =

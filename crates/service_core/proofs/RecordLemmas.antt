@@ -22,7 +22,7 @@ use Rattle.chunk_owner.specs.Lanes.{IsWhole, Lane}
 use Rattle.chunk_owner.specs.Owners.Joined.{whole}
 use Rattle.chunk_owner.specs.Owners.Records.{AreStillIn, AreUndropped, DescribesObjects, IsMarkedIn, IsStandingIn, IsStandingRecord, LaneSays, LanesSay, LanesStillSay}
 use Rattle.register.specs.Installed.Registers.{DescribesRegister, is_node_key}
-use Rattle.register.specs.Decided.{Door}
+use Rattle.register.specs.Decided.{RegisterState}
 use Rattle.register.specs.Kept.{IsHeldNode, IsRegisterMarked, IsRegisterRecord, RegisterSays, a_node, all_kept, of_next, of_node, of_none, of_run, run_kept, the_next}
 use Rattle.register.specs.Kept.{the_run as marks_run}
 use Rattle.register.specs.Marks.{no_marks}
@@ -59,17 +59,17 @@ lane_byte : (ls : List Lane) (key : List ℕ) → IsMarkedIn ls key → (first_b
 lane_byte ls key h = ⊎_elim (λ of. inl (ap first_byte of.2)) (λ of. inr (ap first_byte of.3)) (lane_key ls key h)
 
 -- and one of the register with 1, 2 or 5
-low_byte : (d : Door) (key : List ℕ) → IsRegisterMarked d key → (first_byte key ≡ 3 → ⊥) × (first_byte key ≡ 4 → ⊥)
+low_byte : (d : RegisterState) (key : List ℕ) → IsRegisterMarked d key → (first_byte key ≡ 3 → ⊥) × (first_byte key ≡ 4 → ⊥)
 low_byte d key (marks_run on is) = (λ e. let w = ap first_byte is in absurd (omega (arith, e, w)), λ e. let w = ap first_byte is in absurd (omega (arith, e, w)))
 low_byte d key (the_next on is) = (λ e. let w = ap first_byte is in absurd (omega (arith, e, w)), λ e. let w = ap first_byte is in absurd (omega (arith, e, w)))
 low_byte d key (a_node path on is) = (λ e. let w = ap first_byte is in absurd (omega (arith, e, w)), λ e. let w = ap first_byte is in absurd (omega (arith, e, w)))
 
-pub parts_apart : (d : Door) (ls : List Lane) → AreApart (IsRegisterMarked d) (IsMarkedIn ls)
+pub parts_apart : (d : RegisterState) (ls : List Lane) → AreApart (IsRegisterMarked d) (IsMarkedIn ls)
 parts_apart d ls key mine theirs = let low = low_byte d key mine in ⊎_elim low.0 low.1 (lane_byte ls key theirs)
 
 -- ---- keys of no part
 
-register_no_stray : (d : Door) (key : List ℕ) → IsRegisterMarked d key → IsStrayKey key → ⊥
+register_no_stray : (d : RegisterState) (key : List ℕ) → IsRegisterMarked d key → IsStrayKey key → ⊥
 register_no_stray d key (marks_run on is) stray = stray.no_subject the_run tt (sym is)
 register_no_stray d key (the_next on is) stray = stray.no_subject next_number tt (sym is)
 register_no_stray d key (a_node path on is) stray = let c : true ≡ false = sym (ap is_node_key is) ∙ stray.no_node in cc
@@ -87,7 +87,7 @@ strays_stay P none added m all before key stray =
 
 -- ---- the register beside records of lanes
 
-module _ (d : Door) (ls : List Lane) (added : List Record) (m : Held) (all : AllByRecursion (λ r. IsMarkedIn ls r.0) added) where
+module _ (d : RegisterState) (ls : List Lane) (added : List Record) (m : Held) (all : AllByRecursion (λ r. IsMarkedIn ls r.0) added) where
   low_stays : (key : List ℕ) → (first_byte key ≡ 3 → ⊥) → (first_byte key ≡ 4 → ⊥) → get (put_all added m) key ≡ get m key
   low_stays key three four =
       put_others m added key (all_more (λ r. IsMarkedIn ls r.0) (λ r. r.0 ≢ key) added
@@ -102,7 +102,7 @@ module _ (d : Door) (ls : List Lane) (added : List Record) (m : Held) (all : All
 
 -- ---- lanes beside records of the register
 
-module _ (d : Door) (added : List Record) (m : Held) (all : AllByRecursion (λ r. IsRegisterMarked d r.0) added) where
+module _ (d : RegisterState) (added : List Record) (m : Held) (all : AllByRecursion (λ r. IsRegisterMarked d r.0) added) where
   apart_from : (q : Id) → AllByRecursion (λ r. IsKeyApart q r.0) added
   apart_from q = all_more (λ r. IsRegisterMarked d r.0) (λ r. IsKeyApart q r.0) added (λ r h. let low = low_byte d r.0 h in (
     λ same. low.0 (ap first_byte same),
@@ -118,13 +118,13 @@ module _ (d : Door) (added : List Record) (m : Held) (all : AllByRecursion (λ r
 
 -- ---- a cut of the register, and then of the lanes
 
-module _ (s : State) (wholes : AllByRecursion IsWhole s.lanes) (d : Door) (first mid : List Record)
-    (register : (base : Held) → IsCut (IsRegisterMarked s.door) base first mid (λ held. RegisterSays s.door base → RegisterSays d held)) where
+module _ (s : State) (wholes : AllByRecursion IsWhole s.lanes) (d : RegisterState) (first mid : List Record)
+    (register : (base : Held) → IsCut (IsRegisterMarked s.register) base first mid (λ held. RegisterSays s.register base → RegisterSays d held)) where
   abbrev halfway : State
-  halfway = record { door = d; lanes = s.lanes }
+  halfway = record { register = d; lanes = s.lanes }
 
   -- the register is cut
-  register_said : (base : Held) → IsCut (IsRegisterMarked s.door) base first mid (λ held. WorldSays s base → WorldSays halfway held)
+  register_said : (base : Held) → IsCut (IsRegisterMarked s.register) base first mid (λ held. WorldSays s base → WorldSays halfway held)
   register_said base = let c = register base in record {
     added = c.added;
     appended = c.appended;
@@ -132,8 +132,8 @@ module _ (s : State) (wholes : AllByRecursion IsWhole s.lanes) (d : Door) (first
     once = c.once;
     stands = λ said. record {
       register = c.stands said.register;
-      lanes = lanes_stay s.door c.added base c.changed s.lanes wholes said.lanes;
-      strays = strays_stay (IsRegisterMarked s.door) (register_no_stray s.door) c.added base c.changed said.strays;
+      lanes = lanes_stay s.register c.added base c.changed s.lanes wholes said.lanes;
+      strays = strays_stay (IsRegisterMarked s.register) (register_no_stray s.register) c.added base c.changed said.strays;
     };
   }
 
@@ -141,7 +141,7 @@ module _ (s : State) (wholes : AllByRecursion IsWhole s.lanes) (d : Door) (first
   register_alone base = let c = register_said base in record {
     added = c.added;
     appended = c.appended;
-    changed = all_more (λ r. IsRegisterMarked s.door r.0) (λ r. IsWorldMarked s r.0) c.added (λ r h. inl h) c.changed;
+    changed = all_more (λ r. IsRegisterMarked s.register r.0) (λ r. IsWorldMarked s r.0) c.added (λ r h. inl h) c.changed;
     once = c.once;
     stands = c.stands;
   }
@@ -149,10 +149,10 @@ module _ (s : State) (wholes : AllByRecursion IsWhole s.lanes) (d : Door) (first
   -- and then the lanes
   pub both_cut : (ls : List Lane) (last : List Record)
       → ((base : Held) → IsCut (IsMarkedIn s.lanes) base mid last (λ held. LanesSay s.lanes base → LanesSay ls held))
-      → (base : Held) → IsCut (IsWorldMarked s) base first last (λ held. WorldSays s base → WorldSays (record { door = d; lanes = ls }) held)
+      → (base : Held) → IsCut (IsWorldMarked s) base first last (λ held. WorldSays s base → WorldSays (record { register = d; lanes = ls }) held)
   both_cut ls last lanes base =
-      in_turn (IsRegisterMarked s.door) (IsMarkedIn s.lanes) (parts_apart s.door s.lanes) base first mid last
-      (λ held. WorldSays s base → WorldSays halfway held) (λ held. WorldSays s base → WorldSays (record { door = d; lanes = ls }) held) (register_said base)
+      in_turn (IsRegisterMarked s.register) (IsMarkedIn s.lanes) (parts_apart s.register s.lanes) base first mid last
+      (λ held. WorldSays s base → WorldSays halfway held) (λ held. WorldSays s base → WorldSays (record { register = d; lanes = ls }) held) (register_said base)
       (λ held between. let c = lanes held in record {
         added = c.added;
         appended = c.appended;
@@ -179,7 +179,7 @@ appends_both P Q old new a b = record {
   each = both_each P Q a.added a.each (subst (AllByRecursion Q) (append_cancel_left old b.added a.added (sym b.appended ∙ a.appended)) b.each);
 }
 
-register_kept : (d : Door) (r : Record) → IsRegisterRecord d r → IsRegisterRecord (all_kept d) r
+register_kept : (d : RegisterState) (r : Record) → IsRegisterRecord d r → IsRegisterRecord (all_kept d) r
 register_kept d r (of_run is) = of_run is
 register_kept d r (of_next is) = of_next is
 register_kept d r (of_node path node there is) = of_node path node there is
@@ -188,10 +188,10 @@ register_kept d r (of_none path none is) = of_none path none is
 module _ (s : State) where
   -- the body of a record is what stands there
   abbrev Stands : Record → Type 0
-  Stands r = IsWorldRecord (as_kept s) r × (AreUndropped s.lanes → IsRegisterRecord (all_kept s.door) r ⊎ IsStandingRecord (whole s.lanes) r)
+  Stands r = IsWorldRecord (as_kept s) r × (AreUndropped s.lanes → IsRegisterRecord (all_kept s.register) r ⊎ IsStandingRecord (whole s.lanes) r)
 
-  by_register : (r : Record) → IsRegisterMarked s.door r.0 × IsRegisterRecord s.door r → Stands r
-  by_register r h = (of_register (register_kept s.door r h.1), λ undropped. inl (register_kept s.door r h.1))
+  by_register : (r : Record) → IsRegisterMarked s.register r.0 × IsRegisterRecord s.register r → Stands r
+  by_register r h = (of_register (register_kept s.register r h.1), λ undropped. inl (register_kept s.register r h.1))
 
   by_lanes : (r : Record) → IsObjectRecord (whole s.lanes) r × IsStandingIn s.lanes r → Stands r
   by_lanes r h = (of_object h.0, λ undropped. inr (h.1 undropped))
@@ -202,9 +202,9 @@ module _ (s : State) where
       (appends_as (λ r. IsWorldMarked s r.0 × Stands r) (IsCutRecord s) old new (λ r h. record { marked = h.0; stands = h.1.0; standing = h.1.1 })
       (appends_both (λ r. IsWorldMarked s r.0) Stands old new (record { added = c.added; appended = c.appended; each = c.changed }) a))
 
-  module _ (base : Held) (first mid : List Record) (later : Held → Type 0) (register : AppendsEach (λ r. IsRegisterMarked s.door r.0 × IsRegisterRecord s.door r) first mid) where
+  module _ (base : Held) (first mid : List Record) (later : Held → Type 0) (register : AppendsEach (λ r. IsRegisterMarked s.register r.0 × IsRegisterRecord s.register r) first mid) where
     register_stands : AppendsEach Stands first mid
-    register_stands = appends_as (λ r. IsRegisterMarked s.door r.0 × IsRegisterRecord s.door r) Stands first mid by_register register
+    register_stands = appends_as (λ r. IsRegisterMarked s.register r.0 × IsRegisterRecord s.register r) Stands first mid by_register register
 
     pub register_records : IsCut (IsWorldMarked s) base first mid later → AppendsOnce (IsCutRecord s) first mid
     register_records c = cut_records base first mid later c register_stands
@@ -221,11 +221,11 @@ four : (n : ℕ) → kept_body (run_bytes n) ≡ Some (run_bytes n)
 four n = refl
 
 module _ (s : State) (wholes : AllByRecursion IsWhole s.lanes) (held : Held) (said : WorldSays s held) where
-  abbrev begun : Door
-  begun = record s.door { marks = record s.door.marks { run = true } }
+  abbrev begun : RegisterState
+  begun = record s.register { marks = record s.register.marks { run = true } }
 
   abbrev added : List Record
-  added = run_record s.door ∷ []
+  added = run_record s.register ∷ []
 
   run_marked : AllByRecursion (λ r. IsRegisterMarked begun r.0) added
   run_marked = (marks_run refl refl, tt)
@@ -234,12 +234,12 @@ module _ (s : State) (wholes : AllByRecursion IsWhole s.lanes) (held : Held) (sa
   elsewhere key other = put_others held added key (other, tt)
 
   -- once it is held, it tells the run
-  pub run_said : WorldSays (record s { door = run_kept s.door }) (put_all added held)
+  pub run_said : WorldSays (record s { register = run_kept s.register }) (put_all added held)
   run_said = record {
     register = record {
-      run = λ _. put_last held [] [] run_key (run_bytes s.door.run) tt ∙ four s.door.run;
+      run = λ _. put_last held [] [] run_key (run_bytes s.register.run) tt ∙ four s.register.run;
       next = λ off. elsewhere next_key (λ same. let e = ap first_byte same in absurd (omega (arith, e))) ∙ said.register.next off;
-      nodes = λ path off. subst (IsHeldNode (get s.door.catalogue.nodes path)) (sym (elsewhere (node_key path) (λ same. let e = ap first_byte same in absurd (omega (arith, e))))) (said.register.nodes path off);
+      nodes = λ path off. subst (IsHeldNode (get s.register.catalogue.nodes path)) (sym (elsewhere (node_key path) (λ same. let e = ap first_byte same in absurd (omega (arith, e))))) (said.register.nodes path off);
     };
     lanes = lanes_stay begun added held run_marked s.lanes wholes said.lanes;
     strays = strays_stay (IsRegisterMarked begun) (register_no_stray begun) added held run_marked said.strays;
@@ -248,29 +248,29 @@ module _ (s : State) (wholes : AllByRecursion IsWhole s.lanes) (held : Held) (sa
 -- ---- what each call leaves
 
 -- the register and the lanes are told as they were
-pub both_still : (d new : Door) (ls left : List Lane) → ((held : Held) → RegisterSays d held → RegisterSays new held) → LanesStillSay ls left
-    → WorldStillSays (record { door = d; lanes = ls }) (record { door = new; lanes = left })
+pub both_still : (d new : RegisterState) (ls left : List Lane) → ((held : Held) → RegisterSays d held → RegisterSays new held) → LanesStillSay ls left
+    → WorldStillSays (record { register = d; lanes = ls }) (record { register = new; lanes = left })
 both_still d new ls left register lanes held said = record { register = register held said.register; lanes = lanes held said.lanes; strays = said.strays }
 
 nothing_stray : HasNoStrays empty
 nothing_stray key stray = let both : None ≡ Some stray.body = sym (get-empty text_order key) ∙ stray.here in absurd (cc)
 
 -- owners without objects are told by nothing
-pub new_said : (d : Door) (owners : List Lane) (n : ℕ) → IsNew n owners → RegisterSays d empty → WorldSays (record { door = d; lanes = owners }) empty
+pub new_said : (d : RegisterState) (owners : List Lane) (n : ℕ) → IsNew n owners → RegisterSays d empty → WorldSays (record { register = d; lanes = owners }) empty
 new_said d owners n new said = record { register = said; lanes = new.says; strays = nothing_stray }
 
 -- ---- what describes the world
 
-pub all_told : (d : Door) (ls : List Lane) → IsBuilt d ls → (d.marks ≡ no_marks → (held : Held) → RegisterSays d held → DescribesRegister held d.run d.catalogue)
-    → (AreStillIn ls → (held : Held) → LanesSay ls held → DescribesObjects held (whole ls)) → IsKept (record { door = d; lanes = ls }) → (held : Held)
-    → WorldSays (record { door = d; lanes = ls }) held → DescribesWorld held d.run (seen (record { door = d; lanes = ls }))
+pub all_told : (d : RegisterState) (ls : List Lane) → IsBuilt d ls → (d.marks ≡ no_marks → (held : Held) → RegisterSays d held → DescribesRegister held d.run d.catalogue)
+    → (AreStillIn ls → (held : Held) → LanesSay ls held → DescribesObjects held (whole ls)) → IsKept (record { register = d; lanes = ls }) → (held : Held)
+    → WorldSays (record { register = d; lanes = ls }) held → DescribesWorld held d.run (seen (record { register = d; lanes = ls }))
 all_told d ls built register lanes kept held said = record {
-  register = register (ap (λ (x : Door). x.marks) kept.register) held said.register;
+  register = register (ap (λ (x : RegisterState). x.marks) kept.register) held said.register;
   objects = lanes kept.lanes held said.lanes;
   given = λ id o there. let is_given = built.given id o there in (is_given.out.run, is_given.number);
   strays = said.strays;
 }
 
 -- what is to be written doesn't matter to what describes it
-pub described_as_kept : (held : Held) (s : State) → DescribesWorld held s.door.run (seen s) → DescribesWorld held s.door.run (as_kept s)
+pub described_as_kept : (held : Held) (s : State) → DescribesWorld held s.register.run (seen s) → DescribesWorld held s.register.run (as_kept s)
 described_as_kept held s d = record { register = d.register; objects = d.objects; given = d.given; strays = d.strays }

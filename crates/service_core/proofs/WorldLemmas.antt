@@ -9,7 +9,7 @@ use Rattle.access_lists.specs.declared.people.Caller.{Caller}
 use Rattle.object_ops.specs.declared.ops.Request.{Request}
 use Rattle.chunk_owner.specs.Lanes.{Lane}
 use Rattle.chunk_owner.proofs.Eaches.{each_empty, each_insert}
-use Rattle.register.specs.Decided.{Decides, Door, IsDenial, IsDoor, decided}
+use Rattle.register.specs.Decided.{Decides, IsDenial, IsRegister, RegisterState, decided}
 use Rattle.register.specs.declared.verdicts.Verdict.{Verdict}
 use Rattle.register.specs.declared.verdicts.Verdict.TheVariants as verdict
 use Rattle.service_core.specs.declared.answers.Answer.{Answer}
@@ -24,18 +24,18 @@ use Rattle.chunk_owner.proofs.OfOwners.WholeLemmas.{at_home}
 use Rattle.service_core.proofs.DecideLemmas.{decides_is, given_later}
 use Rattle.object_acts.specs.Objects.{Objects}
 
-module _ (d new : Door) (m left : Objects) (caller : Caller) (request : Request) where
+module _ (d new : RegisterState) (m left : Objects) (caller : Caller) (request : Request) where
   abbrev old_world : World
-  old_world = record { door = d; objects = m }
+  old_world = record { register = d; objects = m }
 
   abbrev new_world : World
-  new_world = record { door = new; objects = left }
+  new_world = record { register = new; objects = left }
 
   -- what is answered by the verdict is the step's answer
   replied : (v : Verdict) (what : What) → (v, new) ≡ decided d caller request → (what, left) ≡ by_verdict request.op v m → (what, new_world) ≡ step old_world caller request
   replied v what e h =
-      let of_verdict : What × Objects → What × World = λ p. (p.0, record { door = new; objects = p.1 }) in
-      let of_decision : Verdict × Door → What × World = λ p. ((by_verdict request.op p.0 m).0, record { door = p.1; objects = (by_verdict request.op p.0 m).1 }) in
+      let of_verdict : What × Objects → What × World = λ p. (p.0, record { register = new; objects = p.1 }) in
+      let of_decision : Verdict × RegisterState → What × World = λ p. ((by_verdict request.op p.0 m).0, record { register = p.1; objects = (by_verdict request.op p.0 m).1 }) in
       ap of_verdict h ∙ ap of_decision e
 
   verdict_is : (v : Verdict) → (v, new) ≡ decided d caller request → v ≡ (decided d caller request).0
@@ -60,12 +60,12 @@ module _ (d new : Door) (m left : Objects) (caller : Caller) (request : Request)
   answered (verdict.Refused refusal) (Denied right) e h = replied (verdict.Refused refusal) (Denied right) e h
   answered (verdict.Refused refusal) NoMemory e h = absurd h
   answered verdict.NoMemory what e h =
-      subst (λ (w : What). IsAnswered old_world caller request w new_world) (sym h.0) (e.1, inl (e.0, λ i. record { door = e.2 i; objects = h.1 i }))
+      subst (λ (w : What). IsAnswered old_world caller request w new_world) (sym h.0) (e.1, inl (e.0, λ i. record { register = e.2 i; objects = h.1 i }))
 
   -- what was given before, and what was given now
-  pub given_after : IsDoor d → IsCatalogue d.catalogue → AreGiven d m → (v : Verdict) (what : What) → Decides d caller request v new → Obeys request.op v m what left → AreGiven new left
-  given_after door catalogue all v what e h =
-      let decision = decides_is d m door all catalogue caller request v new e in
+  pub given_after : IsRegister d → IsCatalogue d.catalogue → AreGiven d m → (v : Verdict) (what : What) → Decides d caller request v new → Obeys request.op v m what left → AreGiven new left
+  given_after register catalogue all v what e h =
+      let decision = decides_is d m register all catalogue caller request v new e in
       obeys_given new request.op v m left what decision.given h (λ q o there. given_later d new decision.grows q (all q o there))
 
 -- ---- the parts of a world
@@ -78,29 +78,29 @@ front_taken (x ∷ xs) ys = ap (λ zs. x ∷ zs) (front_taken xs ys)
 pub written : (n : ℕ) (new rest : List Lane) → length new ≡ n → take n (new ++ rest) ≡ new
 written n new rest e = subst (λ (j : ℕ). take j (new ++ rest) ≡ new) e (front_taken new rest)
 
-module _ (d : Door) (owners : List Lane) (caller : Caller) (request : Request) (door : IsDoor d) (catalogue : IsCatalogue d.catalogue) (built : IsBuilt d owners) where
+module _ (d : RegisterState) (owners : List Lane) (caller : Caller) (request : Request) (register : IsRegister d) (catalogue : IsCatalogue d.catalogue) (built : IsBuilt d owners) where
   -- what is granted can be served
-  pub servable_now : (v : Verdict) (new : Door) → Decides d caller request v new → IsServable (length owners) request.op v (whole owners)
+  pub servable_now : (v : Verdict) (new : RegisterState) → Decides d caller request v new → IsServable (length owners) request.op v (whole owners)
   servable_now v new e =
-      subst (λ (n : ℕ). IsServable n request.op v (whole owners)) (sym built.count) (decides_is d (whole owners) door built.given catalogue caller request v new e).servable
+      subst (λ (n : ℕ). IsServable n request.op v (whole owners)) (sym built.count) (decides_is d (whole owners) register built.given catalogue caller request v new e).servable
 
-  pub built_after : (v : Verdict) (what : What) (new : Door) (left : List Lane) → Decides d caller request v new → Obeys request.op v (whole owners) what (whole left)
+  pub built_after : (v : Verdict) (what : What) (new : RegisterState) (left : List Lane) → Decides d caller request v new → Obeys request.op v (whole owners) what (whole left)
       → length left ≡ length owners → AreLanes (length owners) 0 left → IsBuilt new left
   built_after v what new left e h same lanes = record {
-    count = same ∙ built.count ∙ sym (decides_is d (whole owners) door built.given catalogue caller request v new e).grows.lanes;
+    count = same ∙ built.count ∙ sym (decides_is d (whole owners) register built.given catalogue caller request v new e).grows.lanes;
     lanes = subst (λ (n : ℕ). AreLanes n 0 left) (sym same) lanes;
-    given = given_after d new (whole owners) (whole left) caller request door catalogue built.given v what e h;
+    given = given_after d new (whole owners) (whole left) caller request register catalogue built.given v what e h;
   }
 
-pub steps_said : (d new : Door) (owners left taken : List Lane) (old : World) (caller : Caller) (request : Request) (v : Verdict) (answer : Answer)
-    → record { door = d; objects = whole owners } ≡ old → taken ≡ left → answer.place ≡ d.places → Decides d caller request v new → Obeys request.op v (whole owners) answer.what (whole left)
-    → Steps old caller request answer (record { door = new; objects = whole taken })
+pub steps_said : (d new : RegisterState) (owners left taken : List Lane) (old : World) (caller : Caller) (request : Request) (v : Verdict) (answer : Answer)
+    → record { register = d; objects = whole owners } ≡ old → taken ≡ left → answer.place ≡ d.places → Decides d caller request v new → Obeys request.op v (whole owners) answer.what (whole left)
+    → Steps old caller request answer (record { register = new; objects = whole taken })
 steps_said d new owners left taken old caller request v answer is same place e h =
-    subst (λ (w : World). Steps w caller request answer (record { door = new; objects = whole taken })) is
-    (subst (λ (ls : List Lane). Steps (record { door = d; objects = whole owners }) caller request answer (record { door = new; objects = whole ls })) (sym same)
+    subst (λ (w : World). Steps w caller request answer (record { register = new; objects = whole taken })) is
+    (subst (λ (ls : List Lane). Steps (record { register = d; objects = whole owners }) caller request answer (record { register = new; objects = whole ls })) (sym same)
     (record { place = place; answered = answered d new (whole owners) (whole left) caller request v answer.what e h }))
 
-pub new_built : (d : Door) (owners : List Lane) (n : ℕ) → n ≡ length d.issued → IsNew n owners → IsBuilt d owners
+pub new_built : (d : RegisterState) (owners : List Lane) (n : ℕ) → n ≡ length d.issued → IsNew n owners → IsBuilt d owners
 new_built d owners n e new = record {
   count = new.count ∙ e;
   lanes = subst (λ (j : ℕ). AreLanes j 0 owners) (sym new.count) new.lanes;
@@ -108,7 +108,7 @@ new_built d owners n e new = record {
 }
 
 -- an object stands in the lane of its id
-pub object_in : (d : Door) (owners : List Lane) → IsBuilt d owners → (id : Id) (n i : ℕ) (l : Lane) → n ≡ length d.issued → i ≡ lane_of n id → i < n → get_or owners i l ≡ l
+pub object_in : (d : RegisterState) (owners : List Lane) → IsBuilt d owners → (id : Id) (n i : ℕ) (l : Lane) → n ≡ length d.issued → i ≡ lane_of n id → i < n → get_or owners i l ≡ l
     → get (whole owners) id ≡ get l.objects id
 object_in d owners built id n i l lanes lane below is =
     let count : length owners ≡ n = built.count ∙ sym lanes in
@@ -116,7 +116,7 @@ object_in d owners built id n i l lanes lane below is =
     at_home (length owners) 0 i owners l built.lanes id home (omega (arith, below, count)) is
 
 -- what is put at an id that was given
-pub built_put : {E : Type 0} (d : Door) (owners left : List Lane) (id : Id) (o : Object) (r : Result (Unit {0}) E) → IsBuilt d owners → IsGiven d id → length left ≡ length owners → AreLanes (length owners) 0 left
+pub built_put : {E : Type 0} (d : RegisterState) (owners left : List Lane) (id : Id) (o : Object) (r : Result (Unit {0}) E) → IsBuilt d owners → IsGiven d id → length left ≡ length owners → AreLanes (length owners) 0 left
     → OnOk r (whole left ≡ insert (whole owners) id o) → OnErr r (whole left ≡ whole owners) → IsBuilt d left
 built_put d owners left id o r built given same lanes ok err = record {
   count = same ∙ built.count;

@@ -8,7 +8,7 @@ use Rattle.object_ops.specs.declared.ops.Op.TheVariants.{MakeObject}
 use Rattle.object_ops.specs.declared.refusals.Refusal.{Refusal}
 use Rattle.object_ops.specs.declared.replies.Reply.TheVariants as reply
 use Rattle.chunk_owner.specs.Lanes.{AreShown}
-use Rattle.register.specs.Decided.{Door, passed}
+use Rattle.register.specs.Decided.{RegisterState, passed}
 use Rattle.service_core.specs.declared.answers.What.TheVariants.{Replied, Denied}
 use Rattle.service_core.specs.Steps.{World, step}
 
@@ -17,7 +17,7 @@ makes_object (MakeObject make place) = true
 makes_object op = false
 
 -- one place more was given, and for a new object a serial may be taken; tickets tell nothing of a world
-pub record KeepsAll (op : Op) (old new : Door) : Type 0 where
+pub record KeepsAll (op : Op) (old new : RegisterState) : Type 0 where
   pub catalogue : new.catalogue ≡ old.catalogue
   pub run : new.run ≡ old.run
   pub places : new.places ≡ old.places + 1
@@ -26,10 +26,10 @@ pub record KeepsAll (op : Op) (old new : Door) : Type 0 where
 -- a denied request leaves the world but for the place
 abbrev pub DenialsKeep : Type 0
 DenialsKeep = (w : World) (caller : Caller) (request : Request) (right : Right) → (step w caller request).0 ≡ Denied right
-    → (step w caller request).1 ≡ record { door = passed w.door; objects = w.objects }
+    → (step w caller request).1 ≡ record { register = passed w.register; objects = w.objects }
 
 -- a refused request leaves all objects, and the catalogue
 abbrev pub RefusalsKeep : Type 0
 RefusalsKeep = (w : World) (caller : Caller) (request : Request) (refusal : Refusal) → AreShown w.objects
     → (step w caller request).0 ≡ Replied (reply.Refused refusal)
-    → KeepsAll request.op w.door (step w caller request).1.door × ((step w caller request).1.objects ≡ w.objects)
+    → KeepsAll request.op w.register (step w caller request).1.register × ((step w caller request).1.objects ≡ w.objects)

@@ -17,14 +17,14 @@ use Rattle.service_core.specs.Worlds.{State}
 
 -- what is held describes a world in its run
 abbrev pub TellsWorld : Held → World → Type 0
-TellsWorld held w = DescribesWorld held w.door.run w
+TellsWorld held w = DescribesWorld held w.register.run w
 
 -- a keeping of the world: the world stays, whatever of it is to be written; after Ok it is kept with all its places, and nothing is to be
 -- written. What it writes, and what it leaves to be written, is what was, and records that were to be written.
 pub record KeepsWorld {D : Type 0} {met : Ghosts D} (k : Keeping D met) (s : State) (l : Keeping D met) (t : State) (result : Result ℕ Why) : Type 0 where
   pub keeps : Keeps TellsWorld k.journal l.journal (records k.building) (records l.building) (WorldSays s) (WorldSays t) (as_kept t) result
   pub same : as_kept t ≡ as_kept s
-  pub number : IfOk result (λ n. n ≡ t.door.places)
+  pub number : IfOk result (λ n. n ≡ t.register.places)
   pub kept : IfOk result (λ n. l.kept ≡ n)
   pub refused : OnErr result (l.kept ≡ k.kept)
   pub batch : Builds (IsCutRecord s) (numbers_of k.journal) (pending_of k.journal) (records k.building) (numbers_of l.journal) (pending_of l.journal) (records l.building)

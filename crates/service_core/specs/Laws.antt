@@ -31,17 +31,17 @@ use Rattle.object_acts.specs.Objects.{Objects}
 
 -- the n-th answer, counted from 0, has the n-th place behind the first
 abbrev pub PlacesInOrder : Type 0
-PlacesInOrder = (w last : World) (before after : List Call) (c : Call) → AreSteps w (before ++ c ∷ after) last → c.answer.place ≡ w.door.places + length before
+PlacesInOrder = (w last : World) (before after : List Call) (c : Call) → AreSteps w (before ++ c ∷ after) last → c.answer.place ≡ w.register.places + length before
 
 -- after an answer one place more was given
 abbrev pub PlacesGoOn : Type 0
-PlacesGoOn = (w new : World) (caller : Caller) (request : Request) (answer : Answer) → Steps w caller request answer new → new.door.places ≡ w.door.places + 1
+PlacesGoOn = (w new : World) (caller : Caller) (request : Request) (answer : Answer) → Steps w caller request answer new → new.register.places ≡ w.register.places + 1
 
 -- the same but for the places and the tickets that were given and for what is to be written, over whatever lanes
 pub record AreAlike (w v : World) : Type 0 where
-  pub catalogue : v.door.catalogue ≡ w.door.catalogue
-  pub run : v.door.run ≡ w.door.run
-  pub serial : v.door.serial ≡ w.door.serial
+  pub catalogue : v.register.catalogue ≡ w.register.catalogue
+  pub run : v.register.run ≡ w.register.run
+  pub serial : v.register.serial ≡ w.register.serial
   pub objects : v.objects ≡ w.objects
 
 -- such worlds answer alike, and stay alike
@@ -56,8 +56,8 @@ ReplaysAlike = (w v : World) (asked : List (Caller × Request)) → AreAlike w v
 
 -- a request that is granted so, over some lanes
 pub record IsGranted (w : World) (caller : Caller) (request : Request) (issue : Issue) : Type 0 where
-  pub lanes : 0 < length w.door.issued
-  pub granted : (decided w.door caller request).0 ≡ Granted issue
+  pub lanes : 0 < length w.register.issued
+  pub granted : (decided w.register caller request).0 ≡ Granted issue
 
 -- it is answered so, and leaves these objects
 pub record Gives (w : World) (caller : Caller) (request : Request) (p : Reply × Objects) : Type 0 where
@@ -90,6 +90,6 @@ OneObject = (w : World) (caller : Caller) (request : Request) (issue : Issue) (i
 
 -- once a domain is removed, no id of its number has an object, and all others stay
 abbrev pub DomainsAreForgotten : Type 0
-DomainsAreForgotten = (w : World) (caller : Caller) (path : List ℕ) (number : ℕ) (root : Id) → IsDomainAt w.door.catalogue path number root
+DomainsAreForgotten = (w : World) (caller : Caller) (path : List ℕ) (number : ℕ) (root : Id) → IsDomainAt w.register.catalogue path number root
     → (step w caller (record { path = path; op = DropNode })).0 ≡ Replied (Done 200 nothing)
     → Forgets number w.objects (step w caller (record { path = path; op = DropNode })).1.objects

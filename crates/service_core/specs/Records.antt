@@ -19,7 +19,7 @@ use Rattle.containers.specs.TextMaps.Fronts.{IsLeast}
 use Rattle.chunk_owner.specs.Slots.Bodies.{IsObjectRecord}
 use Rattle.chunk_owner.specs.Owners.Records.{AreFaultless, AreGivenUpTo, AreStillIn, AreUndropped, DescribesObjects, IsFirstFault, IsMarkedIn, IsStandingRecord, LanesSay}
 use Rattle.register.specs.Installed.Registers.{DescribesRegister, IsNextNumber, IsRegisterFault, IsRun}
-use Rattle.register.specs.Decided.{Door}
+use Rattle.register.specs.Decided.{RegisterState}
 use Rattle.register.specs.declared.installs.InstallFault.{InstallFault}
 use Rattle.register.specs.declared.installs.InstallFault.TheVariants.{BadRecord, RunsUsed, NoMemory}
 use Rattle.register.specs.Kept.{IsInstalled, IsRegisterMarked, IsRegisterRecord, RegisterSays, all_kept}
@@ -31,7 +31,7 @@ use Rattle.service_core.specs.Worlds.{State, seen}
 
 -- of each record but those that are to be written; and nothing is held besides
 pub record WorldSays (s : State) (held : Held) : Type 0 where
-  pub register : RegisterSays s.door held
+  pub register : RegisterSays s.register held
   pub lanes : LanesSay s.lanes held
   pub strays : HasNoStrays held
 
@@ -40,25 +40,25 @@ abbrev pub WorldStillSays : State → State → Type 0
 WorldStillSays old new = (held : Held) → WorldSays old held → WorldSays new held
 
 abbrev pub IsWorldMarked : State → List ℕ → Type 0
-IsWorldMarked s key = IsRegisterMarked s.door key ⊎ IsMarkedIn s.lanes key
+IsWorldMarked s key = IsRegisterMarked s.register key ⊎ IsMarkedIn s.lanes key
 
 pub record IsKept (s : State) : Type 0 where
-  pub register : s.door ≡ all_kept s.door
+  pub register : s.register ≡ all_kept s.register
   pub lanes : AreStillIn s.lanes
 
 -- the same world, whatever of it is to be written
 pub record IsSameWorld (old new : State) : Type 0 where
-  pub door : all_kept new.door ≡ all_kept old.door
+  pub register : all_kept new.register ≡ all_kept old.register
   pub objects : (seen new).objects ≡ (seen old).objects
 
 abbrev pub as_kept : State → World
-as_kept s = record { door = all_kept s.door; objects = (seen s).objects }
+as_kept s = record { register = all_kept s.register; objects = (seen s).objects }
 
 -- ---- the records of a cut
 
 -- a record of what stands in a world: of its register, or of an object
 pub data IsWorldRecord (w : World) (r : Record) : Type 0 where
-  of_register : IsRegisterRecord w.door r → IsWorldRecord w r
+  of_register : IsRegisterRecord w.register r → IsWorldRecord w r
   of_object : IsObjectRecord w.objects r → IsWorldRecord w r
 
 -- a record that the next cut writes: its key is marked, and its body is what stands there; where no object was removed since the last cut,
@@ -66,20 +66,20 @@ pub data IsWorldRecord (w : World) (r : Record) : Type 0 where
 pub record IsCutRecord (s : State) (r : Record) : Type 0 where
   pub marked : IsWorldMarked s r.0
   pub stands : IsWorldRecord (as_kept s) r
-  pub standing : AreUndropped s.lanes → IsRegisterRecord (all_kept s.door) r ⊎ IsStandingRecord (as_kept s).objects r
+  pub standing : AreUndropped s.lanes → IsRegisterRecord (all_kept s.register) r ⊎ IsStandingRecord (as_kept s).objects r
 
 -- ---- the world that is described
 
 -- by the records of the run and of the next domain's number, of each folder and domain, and of each object and its chunks; there is no other
 pub record DescribesWorld (held : Held) (run : ℕ) (w : World) : Type 0 where
-  pub register : DescribesRegister held run w.door.catalogue
+  pub register : DescribesRegister held run w.register.catalogue
   pub objects : DescribesObjects held w.objects
-  pub given : AreGivenUpTo run w.door.catalogue.next w.objects
+  pub given : AreGivenUpTo run w.register.catalogue.next w.objects
   pub strays : HasNoStrays held
 
 -- no place and no ticket was given, and no serial
 pub record IsWorldOf (held : Held) (lanes : ℕ) (s : State) : Type 0 where
-  pub register : IsInstalled held lanes s.door
+  pub register : IsInstalled held lanes s.register
   pub describes : DescribesWorld held register.kept (seen s)
 
 -- ---- a key at fault
@@ -99,7 +99,7 @@ Names key NoMemory = Unit {0}
 
 -- ---- the begin of a run
 
-abbrev pub run_record : Door → Record
+abbrev pub run_record : RegisterState → Record
 run_record d = (run_key, run_bytes d.run)
 
 -- memory ran out and the one holds, or the other does

@@ -15,7 +15,7 @@ use Rattle.object_ops.specs.declared.replies.Reply.TheVariants as reply
 use Rattle.chunk_owner.specs.Lanes.{AreOfKind, AreShown, Each}
 use Rattle.chunk_owner.specs.Acts.{acted}
 use Rattle.register.specs.Tickets.{Issue}
-use Rattle.register.specs.Decided.{Door, IsDenial, IsGivenOut, decided, is_of_nodes, passed}
+use Rattle.register.specs.Decided.{IsDenial, IsGivenOut, RegisterState, decided, is_of_nodes, passed}
 use Rattle.register.specs.declared.tickets.Turn.{Turn}
 use Rattle.register.specs.declared.verdicts.Verdict.{Verdict}
 use Rattle.register.specs.declared.verdicts.Verdict.TheVariants as verdict
@@ -26,7 +26,7 @@ use Rattle.object_acts.specs.Objects.{Objects}
 
 -- the catalogue with what was given out, and the objects of all lanes
 pub record World : Type 0 where
-  pub door : Door
+  pub register : RegisterState
   pub objects : Objects
 
 -- ---- a granted request
@@ -65,9 +65,9 @@ by_verdict op verdict.NoMemory m = (NoMemory, m)
 -- what a request is answered, and the world afterwards
 abbrev pub step : World → Caller → Request → What × World
 step w caller request =
-    let p = decided w.door caller request in
+    let p = decided w.register caller request in
     let q = by_verdict request.op p.0 w.objects in
-    (q.0, record { door = p.1; objects = q.1 })
+    (q.0, record { register = p.1; objects = q.1 })
 
 -- the requests of some callers, one after another: their answers, and the world afterwards
 abbrev pub replay : World → List (Caller × Request) → List What × World
@@ -93,17 +93,17 @@ StopsAt op verdict old new = ⊥
 -- memory ran out before the request was decided, on folders, domains and lists alone; or at one of its steps
 abbrev pub FindsNone : World → Caller → Request → World → Type 0
 FindsNone w caller request new =
-    ((is_of_nodes request.op ≡ true) × (new ≡ record { door = passed w.door; objects = w.objects }))
-    ⊎ ((new.door ≡ (decided w.door caller request).1) × StopsAt request.op (decided w.door caller request).0 w.objects new.objects)
+    ((is_of_nodes request.op ≡ true) × (new ≡ record { register = passed w.register; objects = w.objects }))
+    ⊎ ((new.register ≡ (decided w.register caller request).1) × StopsAt request.op (decided w.register caller request).0 w.objects new.objects)
 
 -- a denial is never replaced by a want of memory
 abbrev pub IsAnswered : World → Caller → Request → What → World → Type 0
-IsAnswered w caller request NoMemory new = (IsDenial (decided w.door caller request).0 → ⊥) × FindsNone w caller request new
+IsAnswered w caller request NoMemory new = (IsDenial (decided w.register caller request).0 → ⊥) × FindsNone w caller request new
 IsAnswered w caller request what new = (what, new) ≡ step w caller request
 
 -- each call has the next place, and is the step
 pub record Steps (old : World) (caller : Caller) (request : Request) (answer : Answer) (new : World) : Type 0 where
-  pub place : answer.place ≡ old.door.places
+  pub place : answer.place ≡ old.register.places
   pub answered : IsAnswered old caller request answer.what new
 
 -- ---- what the parts of a call say
@@ -132,16 +132,16 @@ Obeys op verdict old what new = (what, new) ≡ by_verdict op verdict old
 -- ---- what is true of every world
 
 -- the number is below the next, and the serial was given out
-pub record IsGiven (door : Door) (id : Id) : Type 0 where
-  pub number : id.domain < door.catalogue.next
-  pub out : IsGivenOut door.run door.serial id
+pub record IsGiven (register : RegisterState) (id : Id) : Type 0 where
+  pub number : id.domain < register.catalogue.next
+  pub out : IsGivenOut register.run register.serial id
 
 -- the id of each object was given
-abbrev pub AreGiven : Door → Objects → Type 0
-AreGiven door = Each (λ id o. IsGiven door id)
+abbrev pub AreGiven : RegisterState → Objects → Type 0
+AreGiven register = Each (λ id o. IsGiven register id)
 
 -- the ids were given, and each object is of its id's kind and as requests see it
 pub record IsWorld (w : World) : Type 0 where
-  pub given : AreGiven w.door w.objects
+  pub given : AreGiven w.register w.objects
   pub kinds : AreOfKind w.objects
   pub shown : AreShown w.objects

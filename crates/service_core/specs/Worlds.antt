@@ -7,25 +7,25 @@ use Rattle.object_ids.specs.IdValues.{Id}
 use Rattle.object_ids.specs.declared.ids.Kind.{Kind}
 use Rattle.object_acts.specs.declared.objects.Object.{Object}
 use Rattle.chunk_owner.specs.Lanes.{Lane}
-use Rattle.register.specs.Decided.{Door}
+use Rattle.register.specs.Decided.{RegisterState}
 use Rattle.chunk_owner.specs.Owners.Joined.{AreLanes, whole}
 use Rattle.chunk_owner.specs.Owners.Records.{AreUndropped, LanesSay}
 use Rattle.service_core.specs.Steps.{AreGiven, IsGiven, World}
 
 -- the register, and the owners of all lanes with what the next cut writes of their objects
 pub record State : Type 0 where
-  pub door : Door
+  pub register : RegisterState
   pub lanes : List Lane
 
 -- the world as requests see it
 abbrev pub seen : State → World
-seen s = record { door = s.door; objects = whole s.lanes }
+seen s = record { register = s.register; objects = whole s.lanes }
 
 -- one owner for each lane, in order, and all that they hold was given
-pub record IsBuilt (door : Door) (owners : List Lane) : Type 0 where
-  pub count : length owners ≡ length door.issued
+pub record IsBuilt (register : RegisterState) (owners : List Lane) : Type 0 where
+  pub count : length owners ≡ length register.issued
   pub lanes : AreLanes (length owners) 0 owners
-  pub given : AreGiven door (whole owners)
+  pub given : AreGiven register (whole owners)
 
 -- an owner for each of so many lanes, without objects, of which nothing is held and none was removed
 pub record IsNew (many : ℕ) (owners : List Lane) : Type 0 where
@@ -39,12 +39,12 @@ pub record IsNew (many : ℕ) (owners : List Lane) : Type 0 where
 pub record IsFreshId (k : Kind) (number : ℕ) (w : World) (id : Id) : Type 0 where
   pub kind : id.kind ≡ k
   pub domain : id.domain ≡ number
-  pub given : IsGiven w.door id
+  pub given : IsGiven w.register id
   pub free : get w.objects id ≡ None
 
 -- a world with another register
-abbrev pub with_door : State → Door → State
-with_door s door = record s { door = door }
+abbrev pub with_register : State → RegisterState → State
+with_register s register = record s { register = register }
 
 -- a world with an object at an id
 abbrev pub with_object : World → Id → Object → World

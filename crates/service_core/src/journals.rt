@@ -1,5 +1,6 @@
-//! Journals with the worlds that they keep: one is opened, and a new one is made of a catalogue.
+//! Journals with the worlds that they keep: one is opened, a run of its world begins, and a new one is made of a catalogue.
 
+mod beginning;
 mod faults;
 mod first_world;
 mod laws;
@@ -7,6 +8,7 @@ mod making;
 mod opening;
 mod roots;
 
+pub use beginning::{BeginFault, BeginRefused, Begun, begin_world};
 pub use faults::{MakeRefused, OpenFault, OpenRefused};
 pub use laws::first_roots_by_runs_and_serials;
 pub use making::make_journal;

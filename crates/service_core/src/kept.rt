@@ -13,11 +13,11 @@ impl Kept for World {
 
     ghost world = { as_kept };
 
-    ghost places = { λ w. w.door.places };
+    ghost places = { λ w. w.register.places };
 
     ghost says = { WorldSays };
 
-    ghost tells = { λ held w. DescribesWorld held w.door.run w };
+    ghost tells = { λ held w. DescribesWorld held w.register.run w };
 
     ghost is_cut = { IsCutRecord };
 

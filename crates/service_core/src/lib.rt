@@ -1,7 +1,7 @@
 //! The world: its catalogue and its objects, what each request answers and changes of it, and what a journal keeps of it.
 //!
-//! [`journals`] opens and makes journals, [`described`] and [`answer_trees`] are laws, [`strays`] finds records of
-//! no world.
+//! [`journals`] opens and makes journals and begins runs, [`described`] and [`answer_trees`] are laws, [`strays`] finds
+//! records of no world.
 #![tactic(auto)]
 
 pub mod answer_trees;

@@ -18,7 +18,7 @@ ghost use Rattle.containers.specs.TextMaps.Nexts.{IsKeyStep, IsNext};
 ghost use Rattle.domains.specs.Contents.{IsCatalogue};
 ghost use Rattle.object_ops.specs.Conditions.{IsSoundOp};
 ghost use Rattle.register.specs.Kept.{IsUsedUp, MatchFault, MatchUsed, RegisterSays, TellsUsed, run_kept};
-ghost use Rattle.register.specs.Decided.{HasRoom, IsDoor, domain_added, domain_refused, fresh_given, serial_limit};
+ghost use Rattle.register.specs.Decided.{HasRoom, IsRegister, domain_added, domain_refused, fresh_given, serial_limit};
 ghost use Rattle.chunk_owner.specs.Owners.Joined.{AreLanes, whole};
 ghost use Rattle.chunk_owner.specs.Owners.Records.{AreStillIn, AreUndropped, LanesStillSay};
 ghost use Rattle.service_core.specs.Records.{DescribesWorld, IsCutRecord, IsKept, IsSameWorld};
@@ -26,7 +26,7 @@ ghost use Rattle.service_core.specs.Records.{IsWorldFault, IsWorldMarked};
 ghost use Rattle.service_core.specs.Records.{IsWorldOf, OrNoMemory, WorldSays, WorldStillSays, run_record};
 ghost use Rattle.service_core.specs.Steps.{IsGiven, IsWorld, Obeys, Steps};
 ghost use Rattle.service_core.specs.Turns.{IsServable};
-ghost use Rattle.service_core.specs.Worlds.{IsFreshId, IsNew, lesser, seen, with_door, with_object};
+ghost use Rattle.service_core.specs.Worlds.{IsFreshId, IsNew, lesser, seen, with_object, with_register};
 
 use crate::answers::{Answer, What};
 use crate::faults::bad_record;
@@ -60,17 +60,17 @@ impl Model for World {
     ghost use Rattle.std.specs.Coded.{code_by, coded×, coded_list};
     ghost use Rattle.chunk_owner.specs.Lanes.{Lane};
     ghost use Rattle.chunk_owner.specs.contracts.owner.Owner as owner_row;
-    ghost use Rattle.register.specs.Decided.{Door};
+    ghost use Rattle.register.specs.Decided.{RegisterState};
     ghost use Rattle.register.specs.contracts.register.Register as register_row;
     ghost use Rattle.service_core.specs.Worlds.{IsBuilt, State};
 
     ghost Value = { State };
 
-    ghost coded = { code_by (Door × List Lane)
+    ghost coded = { code_by (RegisterState × List Lane)
         (coded× register_row.the_row.coded (coded_list owner_row.the_row.coded))
-        (λ s. (s.door, s.lanes)) (λ p. record { door = p.0; lanes = p.1 }) (λ _. refl) };
+        (λ s. (s.register, s.lanes)) (λ p. record { register = p.0; lanes = p.1 }) (λ _. refl) };
 
-    ghost view = { λ a. record { door = a.register; lanes = a.owners.items } };
+    ghost view = { λ a. record { register = a.register; lanes = a.owners.items } };
 
     ghost invariant = { λ a. IsBuilt a.register a.owners.items };
 }
@@ -82,7 +82,8 @@ impl World {
     ///
     /// Only where memory runs out.
     pub fn new(alloc: Global, register: Register) -> Result<World, AllocError>
-        ensures world { IfOk result (λ world. seen world ≡ record { door = register; objects = empty }) }
+        ensures world { IfOk result (λ world. seen world
+            ≡ record { register = register; objects = empty }) }
 
         // Where nothing is held, that tells the world if it tells the register.
         ensures says { IfOk result (λ world. RegisterSays register empty → WorldSays world empty) }
@@ -130,8 +131,8 @@ impl World {
     /// without marks.
     pub fn is_whole(&self)
         ensures objects { IsWorld (seen self.now) }
-        ensures roots { IsDoor self.now.door }
-        ensures catalogue { IsCatalogue self.now.door.catalogue }
+        ensures roots { IsRegister self.now.register }
+        ensures catalogue { IsCatalogue self.now.register.catalogue }
     {
         is_sound(&self.register);
         are_whole(self.owners.as_slice());
@@ -139,28 +140,28 @@ impl World {
 
     /// How many places were given.
     pub fn places(&self) -> u64
-        ensures { result ≡ self.now.door.places }
+        ensures { result ≡ self.now.register.places }
     {
         self.register.places()
     }
 
     /// The folders and domains.
     pub fn catalogue(&self) -> &Catalogue
-        ensures { result.now ≡ self.now.door.catalogue }
+        ensures { result.now ≡ self.now.register.catalogue }
     {
         self.register.catalogue()
     }
 
     /// The run, below 2^22.
     pub fn run(&self) -> u32
-        ensures { result ≡ self.now.door.run }
+        ensures { result ≡ self.now.register.run }
     {
         self.register.run()
     }
 
     /// How many serials of this run are left.
     pub fn serials_left(&self) -> u64
-        ensures { result + self.now.door.serial ≡ serial_limit }
+        ensures { result + self.now.register.serial ≡ serial_limit }
     {
         self.register.serials_left()
     }
@@ -168,14 +169,14 @@ impl World {
     /// Whether there is room for one request more: fewer than 2^62 places, and fewer than 2^62 tickets of each lane, were
     /// given.
     pub fn has_room(&self) -> bool
-        ensures { IsTrue result ↔ HasRoom self.now.door }
+        ensures { IsTrue result ↔ HasRoom self.now.register }
     {
         self.register.has_room()
     }
 
     /// The folder or domain at a path.
     pub fn node(&self, path: &DomainPath) -> Option<&Node>
-        ensures { option_copied result ≡ get self.now.door.catalogue.nodes path.now }
+        ensures { option_copied result ≡ get self.now.register.catalogue.nodes path.now }
     {
         self.register.catalogue().find(path)
     }
@@ -203,10 +204,13 @@ impl World {
     ///
     /// Those of [`Catalogue::make_domain`], and then `Limit` where no serial is left. After an error all is as it was.
     pub fn make_domain(&mut self, path: &DomainPath, owner: &Name) -> Result<ObjectId, CatFault>
-        ensures ok { OnOk result (self.new ≡ with_door self.old (domain_added self.old.door path.now owner.now)) }
-        ensures root { IfOk result (λ root. root ≡ root_of self.old.door.catalogue.next self.old.door.run self.old.door.serial) }
+        ensures ok { OnOk result (self.new
+            ≡ with_register self.old (domain_added self.old.register path.now owner.now)) }
+        ensures root { IfOk result (λ root. root ≡ root_of self.old.register.catalogue.next
+            self.old.register.run self.old.register.serial) }
         ensures err { OnErr result (self.new ≡ self.old) }
-        ensures why { Blames result (domain_refused self.old.door (domain_fault self.old.door.catalogue path.now)) }
+        ensures why { Blames result
+            (domain_refused self.old.register (domain_fault self.old.register.catalogue path.now)) }
         ensures says { WorldStillSays self.old self.new }
     {
         self.register.make_domain(path, owner)
@@ -215,9 +219,10 @@ impl World {
     /// The id of an object that is to be put into the domain of a number, with the next serial; none where no serial is
     /// left.
     pub fn fresh(&mut self, kind: Kind, number: u64) -> Option<ObjectId>
-        requires number { number < self.old.door.catalogue.next }
-        ensures id { result ≡ (fresh_given self.old.door kind number).0 }
-        ensures world { self.new ≡ with_door self.old (fresh_given self.old.door kind number).1 }
+        requires number { number < self.old.register.catalogue.next }
+        ensures id { result ≡ (fresh_given self.old.register kind number).0 }
+        ensures world { self.new
+            ≡ with_register self.old (fresh_given self.old.register kind number).1 }
         ensures fresh { IfSome result (IsFreshId kind number (seen self.new)) }
         ensures says { WorldStillSays self.old self.new }
     {
@@ -230,7 +235,7 @@ impl World {
     ///
     /// Only where memory runs out; all objects stay.
     pub fn put_object(&mut self, id: ObjectId, object: Object) -> Result<(), AllocError>
-        requires given { IsGiven self.old.door id }
+        requires given { IsGiven self.old.register id }
         requires new { get (seen self.old).objects id ≡ None }
         requires kind { IsOfKind id.kind object }
         requires fresh { IsTrackedBody (λ _. []) object.body }
@@ -267,7 +272,7 @@ impl World {
     /// install finds the same folders, domains and objects. Takes no memory.
     pub fn is_described(&self)
         ensures { IsKept self.now → (held : Held) → WorldSays self.now held
-            → DescribesWorld held self.now.door.run (seen self.now) }
+            → DescribesWorld held self.now.register.run (seen self.now) }
     {
         is_sound(&self.register);
         self.register.is_described();
@@ -283,14 +288,14 @@ impl World {
         requires idle { pending_of journal.old ≡ None }
         ensures writes { D.honest → (c : Content) → IsSettled journal.old c
             → OrNoMemory result (journal.new ≡ journal.old)
-            (Writes journal.old journal.new c (run_record self.old.door ∷ []) result) }
+            (Writes journal.old journal.new c (run_record self.old.register ∷ []) result) }
         ensures tries { OrNoMemory result (journal.new ≡ journal.old)
-            (Tries journal.old journal.new (run_record self.old.door ∷ []) result) }
+            (Tries journal.old journal.new (run_record self.old.register ∷ []) result) }
         ensures same { SameDisk D.Disk (disk_of journal.old) (disk_of journal.new) }
-        ensures ok { OnOk result (self.new ≡ with_door self.old (run_kept self.old.door)) }
+        ensures ok { OnOk result (self.new ≡ with_register self.old (run_kept self.old.register)) }
         ensures err { OnErr result (self.new ≡ self.old) }
         ensures says { OnOk result ((held : Held) → WorldSays self.old held
-            → WorldSays self.new (put_record (run_record self.old.door) held)) }
+            → WorldSays self.new (put_record (run_record self.old.register) held)) }
     {
         lanes_are_whole(self.owners.as_slice());
         let mut batch = Batch::new(self.alloc);
@@ -305,7 +310,7 @@ impl World {
     /// The list in force decides, then the catalogue changes, or each step of the request is done to its object. Where
     /// memory runs out, the steps before the one that found none stand.
     pub fn step(&mut self, caller: &Caller, request: &Request) -> Answer
-        requires room { HasRoom self.old.door }
+        requires room { HasRoom self.old.register }
         requires op { IsSoundOp request.now.op }
         ensures steps { Steps (seen self.old) caller.now request.now result (seen self.new) }
         ensures says { WorldStillSays self.old self.new }
@@ -376,7 +381,7 @@ fn put_in(owners: &mut [Owner], lane: u32, id: ObjectId, object: Object) -> Resu
 
 // What holds of every register.
 fn is_sound(register: &Register)
-    ensures door { IsDoor register.now }
+    ensures register { IsRegister register.now }
     ensures catalogue { IsCatalogue register.now.catalogue }
 {
     let _lanes = register.lanes();

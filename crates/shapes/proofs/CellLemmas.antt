@@ -1,4 +1,4 @@
--- The cells of a shape by their places, and the order of both.
+-- The cells of a shape by their linear indices, and the order of both.
 use Rattle.std.proofs.Common.{◌≡◌, ℕ, ◌+◌, ◌*◌, ◌/◌, ◌%◌, ◌^◌, ◌<◌, ◌≤◌, All, List, [], ◌∷◌, length, refl, sym, ap, subst, ◌∙◌, arith}
 use Rattle.std.specs.declared.cmp.Ordering.{Ordering}
 use Rattle.std.specs.declared.cmp.Ordering.TheVariants.{Less, Equal, Greater}
@@ -11,14 +11,14 @@ use Rattle.json_trees.proofs.TreeLemmas.{length-AllZip}
 use Rattle.containers.specs.ShortLists.Order.{list_order}
 use Rattle.shapes.specs.declared.Shape.{Shape}
 use Rattle.shapes.specs.declared.Shape.TheVariants.{Null, Scalar, Simple}
-use Rattle.shapes.specs.Places.{cell_count, IsInside, place, coords_of, digits_by}
+use Rattle.shapes.specs.RowMajor.{cell_count, IsInside, linear_index, coords_of, digits_by}
 use Rattle.shapes.specs.Shapes.{IsSound, LiesIn, cells_of, cell_of, count_of, dims_of}
-use Rattle.shapes.proofs.PlaceLemmas.{cell_count-room, place_below, some_factor}
-use Rattle.shapes.proofs.GridLemmas.{length-coordinates, coordinates-place}
+use Rattle.shapes.proofs.RowMajorLemmas.{cell_count-room, index_below, some_factor}
+use Rattle.shapes.proofs.GridLemmas.{length-coordinates, coordinates-index}
 
--- ---- each place below the count is that of some coordinates
+-- ---- each linear index below the count is that of some coordinates
 
-pub digits_in : (dims : List ℕ) (k : ℕ) → k < cell_count dims → IsInside (digits_by dims k) dims × (place (digits_by dims k) dims ≡ k)
+pub digits_in : (dims : List ℕ) (k : ℕ) → k < cell_count dims → IsInside (digits_by dims k) dims × (linear_index (digits_by dims k) dims ≡ k)
 digits_in [] k h = (tt, omega arith)
 digits_in (n ∷ ns) k h =
     let more : 0 < cell_count ns = (some_factor n (cell_count ns) k h).1 in
@@ -29,18 +29,18 @@ digits_in (n ∷ ns) k h =
 pub digits-coords : (dims : List ℕ) (k : ℕ) → k < cell_count dims → digits_by dims k ≡ coords_of dims k
 digits-coords dims k h =
     let lies = digits_in dims k h in
-    sym (ap (λ j. coords_of dims j) (sym lies.1) ∙ coordinates-place (digits_by dims k) dims lies.0)
+    sym (ap (λ j. coords_of dims j) (sym lies.1) ∙ coordinates-index (digits_by dims k) dims lies.0)
 
-place_found : (dims : List ℕ) (k : ℕ) → k < cell_count dims → IsInside (coords_of dims k) dims × (place (coords_of dims k) dims ≡ k)
-place_found dims k h =
-    let P = λ (at : List ℕ). IsInside at dims × (place at dims ≡ k) in
+index_found : (dims : List ℕ) (k : ℕ) → k < cell_count dims → IsInside (coords_of dims k) dims × (linear_index (coords_of dims k) dims ≡ k)
+index_found dims k h =
+    let P = λ (at : List ℕ). IsInside at dims × (linear_index at dims ≡ k) in
     subst P (digits-coords dims k h) (digits_in dims k h)
 
 pub coords_inside : (dims : List ℕ) (k : ℕ) → k < cell_count dims → IsInside (coords_of dims k) dims
-coords_inside dims k h = (place_found dims k h).0
+coords_inside dims k h = (index_found dims k h).0
 
-pub place-coords : (dims : List ℕ) (k : ℕ) → k < cell_count dims → place (coords_of dims k) dims ≡ k
-place-coords dims k h = (place_found dims k h).1
+pub index-coords : (dims : List ℕ) (k : ℕ) → k < cell_count dims → linear_index (coords_of dims k) dims ≡ k
+index-coords dims k h = (index_found dims k h).1
 
 pub cells_length : (s : Shape) → length (cells_of s) ≡ count_of s
 cells_length Null = refl
@@ -62,25 +62,25 @@ cells_inside s = λ k d h.
     let P = λ (at : List ℕ). LiesIn at s in
     subst P (get_or_default (cells_of s) k [] d h) (cell_inside s k (omega (arith, cells_length s, h)))
 
-pub place-cell : (s : Shape) (k : ℕ) → k < count_of s → place (cell_of s k) (dims_of s) ≡ k
-place-cell Null k h = absurd (omega arith)
-place-cell Scalar k h = place-coords [] k h
-place-cell (Simple dims limits) k h = place-coords dims k h
+pub index-cell : (s : Shape) (k : ℕ) → k < count_of s → linear_index (cell_of s k) (dims_of s) ≡ k
+index-cell Null k h = absurd (omega arith)
+index-cell Scalar k h = index-coords [] k h
+index-cell (Simple dims limits) k h = index-coords dims k h
 
-pub cell-place : (s : Shape) (at : List ℕ) → LiesIn at s → cell_of s (place at (dims_of s)) ≡ at
-cell-place Null at h = absurd h
-cell-place Scalar at h = coordinates-place at [] h
-cell-place (Simple dims limits) at h = coordinates-place at dims h
+pub cell-index : (s : Shape) (at : List ℕ) → LiesIn at s → cell_of s (linear_index at (dims_of s)) ≡ at
+cell-index Null at h = absurd h
+cell-index Scalar at h = coordinates-index at [] h
+cell-index (Simple dims limits) at h = coordinates-index at dims h
 
-pub place_counted : (s : Shape) (at : List ℕ) → LiesIn at s → place at (dims_of s) < count_of s
-place_counted Null at h = absurd h
-place_counted Scalar at h = place_below at [] h
-place_counted (Simple dims limits) at h = place_below at dims h
+pub index_counted : (s : Shape) (at : List ℕ) → LiesIn at s → linear_index at (dims_of s) < count_of s
+index_counted Null at h = absurd h
+index_counted Scalar at h = index_below at [] h
+index_counted (Simple dims limits) at h = index_below at dims h
 
 pub cell_once : (s : Shape) (j k : ℕ) → j < count_of s → k < count_of s → cell_of s j ≡ cell_of s k → j ≡ k
-cell_once s j k h l e = sym (place-cell s j h) ∙ ap (λ at. place at (dims_of s)) e ∙ place-cell s k l
+cell_once s j k h l e = sym (index-cell s j h) ∙ ap (λ at. linear_index at (dims_of s)) e ∙ index-cell s k l
 
--- ---- the order of places
+-- ---- the order of linear indices
 
 -- a number of the slower axis decides; where it is the same, the rest does
 row_order : (x y p q c : ℕ) (r s : Ordering) → p < c → q < c → MatchOrdering r (x < y) (x ≡ y) (y < x) → MatchOrdering s (p < q) (p ≡ q) (q < p)
@@ -99,23 +99,23 @@ row_order x y p q c Equal Greater h k same rest =
     let rows : x * c ≡ y * c = ap (λ n. n * c) same in
     omega (arith, rows, rest)
 
-place_order : (xs ys ns : List ℕ) → IsInside xs ns → IsInside ys ns → MatchOrdering (slice_cmp nat_cmp xs ys) (place xs ns < place ys ns) (place xs ns ≡ place ys ns) (place ys ns < place xs ns)
-place_order [] [] [] h k = refl
-place_order [] (y ∷ ys) [] h k = absurd k
-place_order (x ∷ xs) ys [] h k = absurd h
-place_order [] ys (n ∷ ns) h k = absurd h
-place_order (x ∷ xs) [] (n ∷ ns) h k = absurd k
-place_order (x ∷ xs) (y ∷ ys) (n ∷ ns) h k =
-    row_order x y (place xs ns) (place ys ns) (cell_count ns) (nat_cmp x y) (slice_cmp nat_cmp xs ys) (place_below xs ns h.1) (place_below ys ns k.1) (ranks x y) (place_order xs ys ns h.1 k.1)
+index_order : (xs ys ns : List ℕ) → IsInside xs ns → IsInside ys ns → MatchOrdering (slice_cmp nat_cmp xs ys) (linear_index xs ns < linear_index ys ns) (linear_index xs ns ≡ linear_index ys ns) (linear_index ys ns < linear_index xs ns)
+index_order [] [] [] h k = refl
+index_order [] (y ∷ ys) [] h k = absurd k
+index_order (x ∷ xs) ys [] h k = absurd h
+index_order [] ys (n ∷ ns) h k = absurd h
+index_order (x ∷ xs) [] (n ∷ ns) h k = absurd k
+index_order (x ∷ xs) (y ∷ ys) (n ∷ ns) h k =
+    row_order x y (linear_index xs ns) (linear_index ys ns) (cell_count ns) (nat_cmp x y) (slice_cmp nat_cmp xs ys) (index_below xs ns h.1) (index_below ys ns k.1) (ranks x y) (index_order xs ys ns h.1 k.1)
 
-grid_order : (xs ys ns : List ℕ) → IsInside xs ns → IsInside ys ns → nat_cmp (place xs ns) (place ys ns) ≡ list_order xs ys
+grid_order : (xs ys ns : List ℕ) → IsInside xs ns → IsInside ys ns → nat_cmp (linear_index xs ns) (linear_index ys ns) ≡ list_order xs ys
 grid_order xs ys ns h k =
     let low = λ (x n : ℕ). x < n in
     let long : length xs ≡ length ys = sym (length-AllZip low xs ns h) ∙ length-AllZip low ys ns k in
     let tied = ap (nat_cmp (length xs)) (sym long) ∙ tied_itself nat_cmp_total (length xs) in
-    sym (ap (λ r. ordering_then r (slice_cmp nat_cmp xs ys)) tied ∙ nat_cmp_is (place xs ns) (place ys ns) (slice_cmp nat_cmp xs ys) (place_order xs ys ns h k))
+    sym (ap (λ r. ordering_then r (slice_cmp nat_cmp xs ys)) tied ∙ nat_cmp_is (linear_index xs ns) (linear_index ys ns) (slice_cmp nat_cmp xs ys) (index_order xs ys ns h k))
 
-pub cell_order : (s : Shape) (a b : List ℕ) → LiesIn a s → LiesIn b s → nat_cmp (place a (dims_of s)) (place b (dims_of s)) ≡ list_order a b
+pub cell_order : (s : Shape) (a b : List ℕ) → LiesIn a s → LiesIn b s → nat_cmp (linear_index a (dims_of s)) (linear_index b (dims_of s)) ≡ list_order a b
 cell_order Null a b h k = absurd h
 cell_order Scalar a b h k = grid_order a b [] h k
 cell_order (Simple dims limits) a b h k = grid_order a b dims h k

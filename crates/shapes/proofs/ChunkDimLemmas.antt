@@ -2,7 +2,7 @@
 use Rattle.std.proofs.Common.{ℕ, ◌≤◌, List, [], ◌∷◌, All, arith}
 use Rattle.std.proofs.lemmas.Nat.{mul-le}
 use Rattle.std.proofs.lemmas.List.Elements.{All-head, All-tail}
-use Rattle.shapes.specs.Places.{cell_count}
+use Rattle.shapes.specs.RowMajor.{cell_count}
 use Rattle.shapes.specs.ChunkDims.{IsChunkDim}
 
 pub one_cell : (ns : List ℕ) → All IsChunkDim ns → 1 ≤ cell_count ns

@@ -1,9 +1,9 @@
--- The list of all coordinates, and which of them stands at a place.
+-- The list of all coordinates, and which of them has a linear index.
 use Rattle.std.proofs.Common.{◌≡◌, ℕ, zero, suc, ◌+◌, ◌*◌, ◌<◌, List, [], ◌∷◌, ◌++◌, map, length, get_or, refl, sym, ap, ◌∙◌, arith, zero-mul}
 use Rattle.std.specs.List.{flat_map}
 use Rattle.std.proofs.lemmas.List.{length-append, length-map, get_or-append-add, get_or_append_left, get_or-map}
-use Rattle.shapes.specs.Places.{cell_count, IsInside, place, grid, extents_of, picked, run_from, coordinates}
-use Rattle.shapes.proofs.PlaceLemmas.{place_below}
+use Rattle.shapes.specs.RowMajor.{cell_count, IsInside, linear_index, grid, extents_of, picked, run_from, coordinates}
+use Rattle.shapes.proofs.RowMajorLemmas.{index_below}
 
 length-rows : (axis : List ℕ) (rest : List (List ℕ)) → length (flat_map (λ x. map (λ r. x ∷ r) rest) axis) ≡ length axis * length rest
 length-rows [] rest = sym (zero-mul (length rest))
@@ -28,13 +28,13 @@ row_at (x ∷ axis) rest (suc k) j h l =
     let past : suc k * length rest + j ≡ length row + (k * length rest + j) = rw (length-map rest (λ r. x ∷ r)) (omega arith) in
     ap (λ n. get_or (row ++ rows) n []) past ∙ get_or-append-add row rows (k * length rest + j) [] ∙ row_at axis rest k j (omega arith) l
 
-pub grid-place : (ks : List ℕ) (axes : List (List ℕ)) → IsInside ks (extents_of axes) → get_or (grid axes) (place ks (extents_of axes)) [] ≡ picked ks axes
-grid-place [] [] h = refl
-grid-place [] (axis ∷ axes) h = absurd h
-grid-place (k ∷ ks) [] h = absurd h
-grid-place (k ∷ ks) (axis ∷ axes) h =
-    let inner : place ks (extents_of axes) < length (grid axes) = rw (length-grid axes) (place_below ks (extents_of axes) h.1) in
-    ap (λ n. get_or (grid (axis ∷ axes)) (k * n + place ks (extents_of axes)) []) (sym (length-grid axes)) ∙ row_at axis (grid axes) k (place ks (extents_of axes)) h.0 inner ∙ ap (λ r. get_or axis k 0 ∷ r) (grid-place ks axes h.1)
+pub grid-index : (ks : List ℕ) (axes : List (List ℕ)) → IsInside ks (extents_of axes) → get_or (grid axes) (linear_index ks (extents_of axes)) [] ≡ picked ks axes
+grid-index [] [] h = refl
+grid-index [] (axis ∷ axes) h = absurd h
+grid-index (k ∷ ks) [] h = absurd h
+grid-index (k ∷ ks) (axis ∷ axes) h =
+    let inner : linear_index ks (extents_of axes) < length (grid axes) = rw (length-grid axes) (index_below ks (extents_of axes) h.1) in
+    ap (λ n. get_or (grid (axis ∷ axes)) (k * n + linear_index ks (extents_of axes)) []) (sym (length-grid axes)) ∙ row_at axis (grid axes) k (linear_index ks (extents_of axes)) h.0 inner ∙ ap (λ r. get_or axis k 0 ∷ r) (grid-index ks axes h.1)
 
 length-run : (start n : ℕ) → length (run_from start n) ≡ n
 length-run start zero = refl
@@ -55,12 +55,12 @@ picked-runs [] (n ∷ ns) h = refl
 picked-runs (x ∷ xs) [] h = absurd h
 picked-runs (x ∷ xs) (n ∷ ns) h = ap (λ y. y ∷ picked xs (map (λ n. run_from 0 n) ns)) (get_or-run 0 n x h.0 ∙ omega arith) ∙ ap (λ ys. x ∷ ys) (picked-runs xs ns h.1)
 
--- as many coordinates as cells, and at each place those of that place
+-- as many coordinates as cells, and at each linear index those of that index
 pub length-coordinates : (dims : List ℕ) → length (coordinates dims) ≡ cell_count dims
 length-coordinates dims = length-grid (map (λ n. run_from 0 n) dims) ∙ ap cell_count (extents-runs dims)
 
-pub coordinates-place : (at dims : List ℕ) → IsInside at dims → get_or (coordinates dims) (place at dims) [] ≡ at
-coordinates-place at dims h =
+pub coordinates-index : (at dims : List ℕ) → IsInside at dims → get_or (coordinates dims) (linear_index at dims) [] ≡ at
+coordinates-index at dims h =
     let axes = map (λ n. run_from 0 n) dims in
     let inside : IsInside at (extents_of axes) = rw (extents-runs dims) h in
-    ap (λ ns. get_or (grid axes) (place at ns) []) (sym (extents-runs dims)) ∙ grid-place at axes inside ∙ picked-runs at dims h
+    ap (λ ns. get_or (grid axes) (linear_index at ns) []) (sym (extents-runs dims)) ∙ grid-index at axes inside ∙ picked-runs at dims h

@@ -1,4 +1,4 @@
-pub mod PlaceLemmas
+pub mod RowMajorLemmas
 pub mod GridLemmas
 pub mod SpelledLemmas
 pub mod ExtentLemmas

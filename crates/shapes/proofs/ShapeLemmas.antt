@@ -17,7 +17,7 @@ use Rattle.shapes.specs.declared.Shape.TheVariants.{Null, Scalar, Simple}
 use Rattle.shapes.specs.declared.ShapeFault.{ShapeFault}
 use Rattle.shapes.specs.declared.ShapeFault.TheVariants.{Rank, TooLarge}
 use Rattle.shapes.specs.declared.TheConstants.{MAX_RANK, MAX_EXTENT, MAX_CELLS}
-use Rattle.shapes.specs.Places.{room_of}
+use Rattle.shapes.specs.RowMajor.{room_of}
 use Rattle.shapes.specs.Extents.{IsExtent, IsLimit, SpellsList, SpellsDims, extents_in, limits_in, dims_in}
 use Rattle.shapes.specs.Shapes.{IsWithin, IsFitting, IsSound, HasWord, HasDims, SpellsSimple, limits_tree, IsShape, IsResized, is_over, first_over, over_or_room, fitted_of, grid_of, limited_of, simple_of, plain_of, word_of, worded_of, shape_of, resized_of, IsDims, dims_of}
 use Rattle.shapes.specs.Spelled.{few_of}

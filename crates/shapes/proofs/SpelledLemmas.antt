@@ -11,12 +11,12 @@ use Rattle.shapes.specs.declared.ShapeFault.{ShapeFault}
 use Rattle.shapes.specs.declared.ShapeFault.TheVariants.{Rank}
 use Rattle.shapes.specs.declared.TheConstants.{MAX_RANK, MAX_CELLS}
 use Rattle.shapes.specs.declared.reading.Spelled.{Spelled}
-use Rattle.shapes.specs.Places.{room_of}
+use Rattle.shapes.specs.RowMajor.{room_of}
 use Rattle.shapes.specs.Extents.{limits_in}
 use Rattle.shapes.specs.Shapes.{fitted_of, grid_of, limited_of, simple_of, first_over, is_over}
 use Rattle.shapes.specs.Spelled.{kept_of, kept_after, kept_grid, kept_limited, kept_simple, few_of}
 use Rattle.std.proofs.lemmas.Option.{same_Some}
-use Rattle.shapes.proofs.PlaceLemmas.{one-room}
+use Rattle.shapes.proofs.RowMajorLemmas.{one-room}
 
 -- the front of a list, and then more
 pub take_kept : (m : ℕ) (xs ys : List ℕ) → take m (take m xs ++ ys) ≡ take m (xs ++ ys)

@@ -1,6 +1,6 @@
 -- The dims of the chunks of a grid.
 use Rattle.std.specs.Prelude.{ℕ, ◌≤◌, List, All, length}
-use Rattle.shapes.specs.Places.{cell_count}
+use Rattle.shapes.specs.RowMajor.{cell_count}
 use Rattle.shapes.specs.declared.TheConstants.{MAX_RANK, MAX_EXTENT, MAX_CHUNK_BYTES}
 
 -- a dim of a chunk

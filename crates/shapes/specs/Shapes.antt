@@ -11,7 +11,7 @@ use Rattle.shapes.specs.declared.ShapeFault.{ShapeFault}
 use Rattle.shapes.specs.declared.ShapeFault.TheVariants.{NotAShape, Rank, DimOverMax, TooLarge}
 use Rattle.shapes.specs.declared.TheConstants.{MAX_RANK, MAX_EXTENT, MAX_CELLS}
 use Rattle.shapes.specs.Extents.{IsExtent, IsLimit, SpellsList, SpellsDims, extents_in, limits_in, dims_in}
-use Rattle.shapes.specs.Places.{cell_count, room_of, IsInside, is_inside, coordinates}
+use Rattle.shapes.specs.RowMajor.{cell_count, room_of, IsInside, is_inside, coordinates}
 
 -- ---- what a shape is
 
@@ -68,7 +68,7 @@ cells_of Null = []
 cells_of Scalar = coordinates []
 cells_of (Simple dims limits) = coordinates dims
 
--- the cell at a place
+-- the cell with a linear index
 abbrev pub cell_of : Shape → ℕ → List ℕ
 cell_of shape k = slice_index_or (cells_of shape) k []
 

@@ -1,7 +1,7 @@
 //! The dims of a shape, and which coordinates are those of a cell.
 
 ghost use Rattle.std.specs.Prelude.{◌≡◌, ◌↔◌, IsTrue};
-ghost use Rattle.shapes.specs.Places.{is_inside};
+ghost use Rattle.shapes.specs.RowMajor.{is_inside};
 ghost use Rattle.shapes.specs.Shapes.{dims_of, LiesIn, lies_in};
 
 use crate::{Dims, Shape};

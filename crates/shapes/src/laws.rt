@@ -3,7 +3,8 @@
 ghost use Rattle.std.specs.Prelude.{◌≡◌, ◌≤◌, ◌<◌, ◌-◌, ◌^◌, ◌↔◌, ℕ, List, All, length, true};
 ghost use Rattle.std.specs.Ordering.{nat_cmp};
 ghost use Rattle.containers.specs.ShortLists.Order.{list_order};
-ghost use Rattle.shapes.specs.Places.{IsInside, is_inside, cell_count, coords_of, digits_by, place};
+ghost use Rattle.shapes.specs.RowMajor.{IsInside, is_inside, cell_count, coords_of, digits_by};
+ghost use Rattle.shapes.specs.RowMajor.{linear_index};
 ghost use Rattle.shapes.specs.Shapes.{IsSound, LiesIn, lies_in, cells_of, cell_of, count_of, dims_of};
 ghost use Rattle.shapes.specs.declared.Shape.{Shape};
 ghost use Rattle.shapes.specs.declared.TheConstants.{MAX_RANK, MAX_EXTENT, MAX_CELLS};
@@ -29,16 +30,17 @@ pub fn cells_are_inside()
         → cell_of s j ≡ cell_of s k → j ≡ k }
 {}
 
-/// Places and cells of a shape are each other's inverse, and the order of cells is that of their
-/// places. The coordinates at a place are its digits.
-pub fn places_number_the_cells()
-    ensures place { (s : Shape) (k : ℕ) → k < count_of s
-        → place (cell_of s k) (dims_of s) ≡ k }
+/// Linear indices and cells of a shape are each other's inverse, and the order of cells is that of
+/// their linear indices. The coordinates of a linear index are its digits.
+pub fn indices_number_the_cells()
+    ensures index { (s : Shape) (k : ℕ) → k < count_of s
+        → linear_index (cell_of s k) (dims_of s) ≡ k }
     ensures cell { (s : Shape) (at : List ℕ) → LiesIn at s
-        → cell_of s (place at (dims_of s)) ≡ at }
-    ensures below { (s : Shape) (at : List ℕ) → LiesIn at s → place at (dims_of s) < count_of s }
+        → cell_of s (linear_index at (dims_of s)) ≡ at }
+    ensures below { (s : Shape) (at : List ℕ) → LiesIn at s
+        → linear_index at (dims_of s) < count_of s }
     ensures digits { (dims : List ℕ) (k : ℕ) → k < cell_count dims
         → digits_by dims k ≡ coords_of dims k }
     ensures ordered { (s : Shape) (a b : List ℕ) → LiesIn a s → LiesIn b s
-        → nat_cmp (place a (dims_of s)) (place b (dims_of s)) ≡ list_order a b }
+        → nat_cmp (linear_index a (dims_of s)) (linear_index b (dims_of s)) ≡ list_order a b }
 {}

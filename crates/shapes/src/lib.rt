@@ -8,14 +8,14 @@ use containers::short_lists::ShortList;
 
 mod cells;
 mod laws;
-mod places;
 mod printing;
 mod reading;
+mod row_major;
 
-pub use laws::{cells_are_inside, limits_of_shapes, places_number_the_cells};
-pub use places::{coords_at, count, place_of};
+pub use laws::{cells_are_inside, indices_number_the_cells, limits_of_shapes};
 pub use printing::{Form, shape_json};
 pub use reading::{read_dims, read_shape, resized, shape_or_fault};
+pub use row_major::{coords_at, count, place_of};
 
 /// The most axes that a shape has (HDF5's `H5S_MAX_RANK`).
 pub const MAX_RANK: usize = 32;

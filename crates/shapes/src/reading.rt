@@ -10,7 +10,7 @@ ghost use Rattle.json_trees.specs.Shown.{shown};
 ghost use Rattle.json_trees.specs.Trees.{all_in, list_in};
 ghost use Rattle.shapes.specs.Extents.{extent_in, extents_in, dims_in};
 ghost use Rattle.shapes.specs.Spelled.{kept_of, number_in, kept_grid, kept_limited, kept_simple, few_of};
-ghost use Rattle.shapes.specs.Places.{room_of};
+ghost use Rattle.shapes.specs.RowMajor.{room_of};
 ghost use Rattle.shapes.specs.Shapes.{IsShape, IsSound, IsResized, IsDims, shape_of, resized_of, fitted_of};
 ghost use Rattle.shapes.specs.Shapes.{plain_of, worded_of, word_of, limits_tree, is_over as over_limit};
 ghost use Rattle.shapes.specs.Shapes.{first_over as over_from};

@@ -8,7 +8,9 @@ use domains::Catalogue;
 use edge_traits::MemDisk;
 use flush_journal::{Journal, Why};
 use object_ids::Name;
-use service_core::journals::{OpenFault, OpenRefused, Opened, make_journal, open_world};
+use service_core::journals::{
+    Begun, OpenFault, OpenRefused, Opened, begin_world, make_journal, open_world,
+};
 use std::alloc::Global;
 use std::test::Fail;
 
@@ -134,15 +136,13 @@ fn a_journal_is_opened_and_other_bytes_are_refused(rt: HostRuntime) -> Result<()
 #[test]
 fn a_run_is_one_record(rt: HostRuntime) -> Result<(), Fail> {
     let alloc = rt.alloc();
-    let Ok(opened) = open_world(alloc, disk_of(alloc, EMPTY, ROOM)?) else {
-        return Err(Fail::from("a world"));
+    let Ok(begun) = begin_world(alloc, disk_of(alloc, EMPTY, ROOM)?) else {
+        return Err(Fail::from("a run"));
     };
-    let Opened {
+    let Begun {
         mut journal,
         mut world,
-    } = opened;
-    assert!(rt; !journal.pending());
-    assert!(rt; world.begin_run(&mut journal).is_ok());
+    } = begun;
     assert_eq!(rt; journal.report().end, 133);
     keep(&rt, &mut world, &mut journal);
     assert_eq!(rt; journal.report().end, 133);

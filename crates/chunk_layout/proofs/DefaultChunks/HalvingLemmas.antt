@@ -2,7 +2,7 @@
 use Rattle.std.proofs.Common.{◌≡◌, ℕ, zero, suc, ◌*◌, ◌≤◌, Bool, true, false, cond, List, [], ◌∷◌, ◌+◌, sum, nat_lt, refl, sym, ap, ◌∙◌, arith}
 use Rattle.std.proofs.lemmas.Bool.{lt-ltb, ltb-true, false≢true, and_parts}
 use Rattle.std.proofs.lemmas.List.Sums.{sum_by-cons}
-use Rattle.shapes.specs.Places.{cell_count}
+use Rattle.shapes.specs.RowMajor.{cell_count}
 use Rattle.chunk_layout.specs.declared.TheConstants.{DEFAULT_CHUNK_BYTES}
 use Rattle.chunk_layout.specs.Defaults.{at_least_one, largest, halved, IsLarge, IsHalvedDown, IsDefault}
 use Rattle.chunk_layout.proofs.DefaultLemmas.{IsOnWay, one_end, way_begins, way_goes, way_ends, halve_falls, total}

@@ -1,6 +1,6 @@
 -- The chunk that a grid has where none is asked for, as a function of its dims.
 use Rattle.std.specs.Prelude.{ℕ, zero, suc, ◌*◌, ◌&&◌, Bool, List, sum, nat_lt, if◌then◌else◌}
-use Rattle.shapes.specs.Places.{cell_count}
+use Rattle.shapes.specs.RowMajor.{cell_count}
 use Rattle.chunk_layout.specs.declared.TheConstants.{DEFAULT_CHUNK_BYTES}
 use Rattle.chunk_layout.specs.Defaults.{at_least_one, largest, halved}
 

@@ -2,13 +2,13 @@
 use Rattle.std.proofs.Common.{◌≡◌, ℕ, ◌+◌, ◌*◌, ◌-◌, ◌<◌, ◌≤◌, List, [], ◌∷◌, length, take, drop, refl, sym, ap, subst, ◌∙◌, arith}
 use Rattle.std.proofs.lemmas.Nat.{mul-le}
 use Rattle.std.proofs.lemmas.List.{take_all}
-use Rattle.shapes.specs.Places.{cell_count, IsInside}
-use Rattle.shapes.proofs.PlaceLemmas.{place_below, place_once}
+use Rattle.shapes.specs.RowMajor.{cell_count, IsInside}
+use Rattle.shapes.proofs.RowMajorLemmas.{index_below, index_once}
 use Rattle.hyperslab.specs.Selected.{IsSlab, cell_at, extents}
 use Rattle.hyperslab.specs.declared.Slab.{Slab}
 use Rattle.hyperslab.proofs.CellLemmas.{cell_once}
 use Rattle.hdf_values.specs.Nested.{piece_at}
-use Rattle.hyperslab.specs.Runs.{AreAll, AreBoxed, AreOnce, AreRuns, InBox, IsBoxed, inner, place_at, offset_at, run_at}
+use Rattle.hyperslab.specs.Runs.{AreAll, AreBoxed, AreOnce, AreRuns, InBox, IsBoxed, inner, index_at, offset_at, run_at}
 use Rattle.hyperslab.specs.declared.runs.Run.{Run}
 use Rattle.chunk_store.specs.BoxCopies.Boxes.{AreFilled, AreRead, AreWritten, offset}
 use Rattle.chunk_store.specs.BoxCopies.Moves.{AreDistinct, AreFit, AreMoved, in_box, in_selection, source_of}
@@ -38,14 +38,14 @@ inner_once (x ∷ xs) (y ∷ ys) (o ∷ os) (n ∷ ns) h k e =
     ap (λ z. z ∷ xs) same ∙ ap (λ zs. y ∷ zs) (inner_once xs ys os ns h.2 k.2 more)
 
 offset_below : (s : Slab) (origin chunk : List ℕ) (p o : ℕ) → IsBoxed s origin chunk p o → o < cell_count chunk
-offset_below s origin chunk p o h = omega (arith, h.offset, place_below (inner (cell_at s p) origin) chunk (inner_inside (cell_at s p) origin chunk h.inside))
+offset_below s origin chunk p o h = omega (arith, h.offset, index_below (inner (cell_at s p) origin) chunk (inner_inside (cell_at s p) origin chunk h.inside))
 
 -- no two selected cells of a box have the same offset there
 offset_once : (s : Slab) (origin chunk : List ℕ) (p q o : ℕ) → IsSlab s → IsBoxed s origin chunk p o → IsBoxed s origin chunk q o → p ≡ q
 offset_once s origin chunk p q o sound h k =
     let a = cell_at s p in
     let b = cell_at s q in
-    let same = place_once (inner a origin) (inner b origin) chunk (inner_inside a origin chunk h.inside) (inner_inside b origin chunk k.inside) (h.offset ∙ sym k.offset) in
+    let same = index_once (inner a origin) (inner b origin) chunk (inner_inside a origin chunk h.inside) (inner_inside b origin chunk k.inside) (h.offset ∙ sym k.offset) in
     cell_once s p q sound h.selected k.selected (inner_once a b origin chunk h.inside k.inside same)
 
 -- ---- runs, as elements of a selection and of a box
@@ -58,12 +58,12 @@ room_of_piece k n size h = mul-le (k + 1) size n size (omega (arith, h)) (omega 
 
 pub selection_fits : (s : Slab) (origin chunk : List ℕ) (runs : List Run) (size bytes : ℕ) → AreBoxed s origin chunk runs → bytes ≡ cell_count (extents s) * size → AreFit in_selection runs size bytes
 selection_fits s origin chunk runs size bytes boxed e k few i less =
-    let room = room_of_piece (place_at (run_at runs k) i) (cell_count (extents s)) size (boxed k i (few, less)).selected in
+    let room = room_of_piece (index_at (run_at runs k) i) (cell_count (extents s)) size (boxed k i (few, less)).selected in
     omega (arith, room, e, ap (λ n. (n + 1) * size) (one_apart (run_at runs k).place i))
 
 pub box_fits : (s : Slab) (origin chunk : List ℕ) (runs : List Run) (size bytes : ℕ) → AreBoxed s origin chunk runs → bytes ≡ cell_count chunk * size → AreFit in_box runs size bytes
 box_fits s origin chunk runs size bytes boxed e k few i less =
-    let low = offset_below s origin chunk (place_at (run_at runs k) i) (offset_at (run_at runs k) i) (boxed k i (few, less)) in
+    let low = offset_below s origin chunk (index_at (run_at runs k) i) (offset_at (run_at runs k) i) (boxed k i (few, less)) in
     omega (arith, room_of_piece (offset_at (run_at runs k) i) (cell_count chunk) size low, e)
 
 pub element_fits : (runs : List Run) (size bytes : ℕ) → bytes ≡ size → AreFit (source_of Fill) runs size bytes
@@ -82,8 +82,8 @@ box_distinct s origin chunk runs sound boxed are once = record {
   apart = λ k few. (are k few).apart;
   different = λ j k i l a b e.
       let here = boxed j i a in
-      let there : IsBoxed s origin chunk (place_at (run_at runs k) l) (offset_at (run_at runs j) i) = subst (IsBoxed s origin chunk (place_at (run_at runs k) l)) (sym e) (boxed k l b) in
-      (once j k i l a b (offset_once s origin chunk (place_at (run_at runs j) i) (place_at (run_at runs k) l) (offset_at (run_at runs j) i) sound here there)).0;
+      let there : IsBoxed s origin chunk (index_at (run_at runs k) l) (offset_at (run_at runs j) i) = subst (IsBoxed s origin chunk (index_at (run_at runs k) l)) (sym e) (boxed k l b) in
+      (once j k i l a b (offset_once s origin chunk (index_at (run_at runs j) i) (index_at (run_at runs k) l) (offset_at (run_at runs j) i) sound here there)).0;
 }
 
 -- ---- all runs
@@ -95,11 +95,11 @@ all_read s origin chunk runs size buffer old out boxed all moved = record {
       let run = all p lies.0 lies.1 in
       let r = run_at runs run.run in
       let i = run.step in
-      ap (λ j. piece_at size j out) (sym run.place ∙ sym (one_apart r.place i)) ∙ moved.copied run.run i run.is_step.0 run.is_step
-      ∙ ap (λ j. piece_at size j buffer) (sym (boxed run.run i run.is_step).offset) ∙ ap (λ q. piece_at size (offset s origin chunk q) buffer) run.place;
+      ap (λ j. piece_at size j out) (sym run.index ∙ sym (one_apart r.place i)) ∙ moved.copied run.run i run.is_step.0 run.is_step
+      ∙ ap (λ j. piece_at size j buffer) (sym (boxed run.run i run.is_step).offset) ∙ ap (λ q. piece_at size (offset s origin chunk q) buffer) run.index;
   others = λ p apart. moved.kept p (λ k i few step e.
       let here = boxed k i step in
-      let same : place_at (run_at runs k) i ≡ p = sym (e ∙ one_apart (run_at runs k).place i) in
+      let same : index_at (run_at runs k) i ≡ p = sym (e ∙ one_apart (run_at runs k).place i) in
       apart (subst (λ q. q < cell_count (extents s)) same here.selected, subst (λ q. InBox (cell_at s q) origin chunk) same here.inside));
 }
 
@@ -115,10 +115,10 @@ all_filled s origin chunk runs size blank old out boxed all long moved = record 
   here = λ p lies.
       let run = all p lies.0 lies.1 in
       let r = run_at runs run.run in
-      ap (λ j. piece_at size j out) (sym run.place ∙ sym (one_apart r.place run.step)) ∙ moved.copied run.run run.step run.is_step.0 run.is_step ∙ whole_element blank size run.step long;
+      ap (λ j. piece_at size j out) (sym run.index ∙ sym (one_apart r.place run.step)) ∙ moved.copied run.run run.step run.is_step.0 run.is_step ∙ whole_element blank size run.step long;
   others = λ p apart. moved.kept p (λ k i few step e.
       let here = boxed k i step in
-      let same : place_at (run_at runs k) i ≡ p = sym (e ∙ one_apart (run_at runs k).place i) in
+      let same : index_at (run_at runs k) i ≡ p = sym (e ∙ one_apart (run_at runs k).place i) in
       apart (subst (λ q. q < cell_count (extents s)) same here.selected, subst (λ q. InBox (cell_at s q) origin chunk) same here.inside));
 }
 
@@ -128,9 +128,9 @@ all_written s origin chunk runs size bytes old buffer boxed all moved = record {
   here = λ p lies.
       let run = all p lies.0 lies.1 in
       let r = run_at runs run.run in
-      ap (λ q. piece_at size (offset s origin chunk q) buffer) (sym run.place) ∙ ap (λ j. piece_at size j buffer) (boxed run.run run.step run.is_step).offset
-      ∙ moved.copied run.run run.step run.is_step.0 run.is_step ∙ ap (λ j. piece_at size j bytes) (one_apart r.place run.step ∙ run.place);
+      ap (λ q. piece_at size (offset s origin chunk q) buffer) (sym run.index) ∙ ap (λ j. piece_at size j buffer) (boxed run.run run.step run.is_step).offset
+      ∙ moved.copied run.run run.step run.is_step.0 run.is_step ∙ ap (λ j. piece_at size j bytes) (one_apart r.place run.step ∙ run.index);
   others = λ o apart. moved.kept o (λ k i few step e.
       let here = boxed k i step in
-      apart (place_at (run_at runs k) i) (here.selected, here.inside) (e ∙ sym here.offset));
+      apart (index_at (run_at runs k) i) (here.selected, here.inside) (e ∙ sym here.offset));
 }

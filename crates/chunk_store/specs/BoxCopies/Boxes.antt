@@ -1,7 +1,7 @@
 -- What copies between the bytes of a selection and those of a box do.
 use Rattle.std.specs.Prelude.{◌≡◌, ℕ, ◌+◌, ◌<◌, ◌^◌, List, length}
 use Rattle.std.specs.List.{AllZip}
-use Rattle.shapes.specs.Places.{cell_count}
+use Rattle.shapes.specs.RowMajor.{cell_count}
 use Rattle.hyperslab.specs.Selected.{IsSlab, cell_at, extents}
 use Rattle.hyperslab.specs.declared.Slab.{Slab}
 use Rattle.chunk_layout.specs.Chunks.{IsChunk}

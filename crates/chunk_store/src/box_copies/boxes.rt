@@ -1,7 +1,7 @@
 //! What stands in a box is read, filled in or written for the selected cells that lie there.
 
 ghost use Rattle.std.specs.Prelude.{◌≡◌, ◌≤◌, ◌*◌, length};
-ghost use Rattle.shapes.specs.Places.{cell_count};
+ghost use Rattle.shapes.specs.RowMajor.{cell_count};
 ghost use Rattle.hyperslab.specs.Selected.{extents};
 ghost use Rattle.chunk_store.specs.BoxCopies.Boxes.{AreFilled, AreRead, AreWritten, IsBox};
 

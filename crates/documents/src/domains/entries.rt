@@ -83,7 +83,7 @@ fn dataset_json(alloc: Global, attributes: Value, array: &Array) -> Result<Value
     })
 }
 
-// All cells in one run of places.
+// All cells, with consecutive linear indices.
 fn cells_json(alloc: Global, array: &Array) -> Result<Value, AllocError>
     ensures { IfOk result (λ tree. view tree ≡ cells_tree array.now.grid) }
 {

@@ -4,7 +4,7 @@ ghost use Rattle.std.specs.Prelude.{◌≡◌, ◌↔◌, ℕ, List, Option, Ok}
 ghost use Rattle.serde_json.specs.Data.{Data};
 ghost use Rattle.hdf_types.specs.Elems.{Elem};
 ghost use Rattle.hdf_types.specs.Reading.{size_of};
-ghost use Rattle.shapes.specs.Places.{place};
+ghost use Rattle.shapes.specs.RowMajor.{linear_index};
 ghost use Rattle.shapes.specs.Shapes.{LiesIn, dims_of};
 ghost use Rattle.hdf_values.specs.Attributes.{IsTypeAt};
 ghost use Rattle.hdf_values.specs.Nested.{piece_at};
@@ -18,7 +18,7 @@ ghost use Rattle.documents.specs.Parts.TitleMaps.{TargetMap};
 ghost use Rattle.documents.specs.Parts.Types.{kind_at};
 
 use chunk_store::cells_after_calls;
-use shapes::{cells_are_inside, places_number_the_cells};
+use shapes::{cells_are_inside, indices_number_the_cells};
 
 /// The tests in order find no fault exactly where the trees spell what is read.
 pub fn parts_or_fault()
@@ -32,13 +32,13 @@ pub fn parts_or_fault()
         → ((array_at path tree ≡ Ok g) ↔ IsArray tree g) }
 {}
 
-/// In each cell of an array with a value stands the element at the cell's place.
+/// In each cell of an array with a value stands the element at the cell's linear index.
 pub fn cells_have_elements()
     ensures { (g : Grid) (bytes at : List ℕ) → LiesIn at g.shape
         → bytes_at (with_bytes g bytes) at
-        ≡ piece_at (size_of g.kind) (place at (dims_of g.shape)) bytes }
+        ≡ piece_at (size_of g.kind) (linear_index at (dims_of g.shape)) bytes }
 {
     cells_after_calls();
     cells_are_inside();
-    places_number_the_cells();
+    indices_number_the_cells();
 }

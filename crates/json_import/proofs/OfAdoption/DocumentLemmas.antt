@@ -8,7 +8,7 @@ use Rattle.domains.specs.Contents.{Contents, class_at}
 use Rattle.domains.specs.declared.classes.Node.{Node}
 use Rattle.domains.specs.declared.faults.CatFault.{CatFault}
 use Rattle.domains.specs.declared.faults.CatFault.TheVariants as cat
-use Rattle.register.specs.Decided.{Door, IsDoor, serial_limit}
+use Rattle.register.specs.Decided.{IsRegister, RegisterState, serial_limit}
 use Rattle.service_core.specs.Steps.{AreGiven, IsWorld, World}
 use Rattle.json_export.specs.Documents.{home_of as home_of_class}
 use Rattle.documents.specs.Reader.Loads.{Loads}
@@ -32,7 +32,7 @@ enough : (b : Bool) → cond b (Some (Limit limit.Serial)) None ≡ None → b �
 enough true e = let never : Some (Limit limit.Serial) ≡ None = e in absurd (cc)
 enough false e = refl
 
-serials_enough : (d : Door) (many : ℕ) → serial_fault d many ≡ None → many ≤ serial_limit - d.serial
+serials_enough : (d : RegisterState) (many : ℕ) → serial_fault d many ≡ None → many ≤ serial_limit - d.serial
 serials_enough d many e = ltb-false (serial_limit - d.serial) many (enough (nat_lt (serial_limit - d.serial) many) e)
 
 numbered_low : (b : Bool) (fault : CatFault) → cond b None (Some fault) ≡ None → b ≡ true
@@ -45,34 +45,34 @@ number_left (Some fault) next e = let never : Some fault ≡ None = e in absurd 
 
 -- ---- the new domain
 
-pub has_room : (d : Door) (path : List ℕ) (l : Loaded) → IsDoor d → adopt_fault d path l ≡ None → HasRoom (root_at d) (other_count l)
-has_room d path l door none =
+pub has_room : (d : RegisterState) (path : List ℕ) (l : Loaded) → IsRegister d → adopt_fault d path l ≡ None → HasRoom (root_at d) (other_count l)
+has_room d path l register none =
     let faults = no_first (domain_fault d.catalogue path) (serial_fault d (1 + other_count l)) none in
     let number = number_left (make_fault d.catalogue path) d.catalogue.next faults.0 in
     let serials = serials_enough d (1 + other_count l) faults.1 in
     record {
       group = refl;
-      range = record { domain = omega (arith, number); run = door.run; serial = omega (arith, serials) };
+      range = record { domain = omega (arith, number); run = register.run; serial = omega (arith, serials) };
       left = omega (arith, serials);
     }
 
 -- each object's number is below that of the next domain
-is_alone : (w : World) → AreGiven w.door w.objects → IsAlone (root_at w.door) w.objects
+is_alone : (w : World) → AreGiven w.register w.objects → IsAlone (root_at w.register) w.objects
 is_alone w given = λ q o is same. let below = (given q o is).number in absurd (omega (arith, below, same))
 
 -- the domain that stands at the path is the one of the root's id
-home_there : (c : Contents) (path owner : List ℕ) (d : Door)
+home_there : (c : Contents) (path owner : List ℕ) (d : RegisterState)
     → get c.nodes path ≡ Some (new_domain d.catalogue.next d.run d.serial owner)
     → home_of_class (class_at c path) ≡ Some (home_of (root_at d))
 home_there c path owner d is = ap (λ (n : Option Node). home_of_class (option_map (λ node. node.class) n)) is
 
-pub read_back : DocumentsReadBack → (w new : World) (path owner : List ℕ) (l : Loaded) → IsWorld w → IsDoor w.door
-    → adopt_fault w.door path l ≡ None
-    → get new.door.catalogue.nodes path ≡ Some (new_domain w.door.catalogue.next w.door.run w.door.serial owner)
-    → new.objects ≡ objects_adopted w.door l w.objects → IsReadBack w.door l new path
-read_back law w new path owner l whole door none domain put = λ tree loads. (
-  document_tree new.objects (home_of (root_at w.door)),
-  ap (option_map (document_tree new.objects)) (home_there new.door.catalogue path owner w.door domain),
-  subst (λ m. Loads (document_tree m (home_of (root_at w.door))) (renamed l (root_at w.door))) (sym put)
-      (law tree l (root_at w.door) w.objects loads (has_room w.door path l door none) (is_alone w whole.given)),
+pub read_back : DocumentsReadBack → (w new : World) (path owner : List ℕ) (l : Loaded) → IsWorld w → IsRegister w.register
+    → adopt_fault w.register path l ≡ None
+    → get new.register.catalogue.nodes path ≡ Some (new_domain w.register.catalogue.next w.register.run w.register.serial owner)
+    → new.objects ≡ objects_adopted w.register l w.objects → IsReadBack w.register l new path
+read_back law w new path owner l whole register none domain put = λ tree loads. (
+  document_tree new.objects (home_of (root_at w.register)),
+  ap (option_map (document_tree new.objects)) (home_there new.register.catalogue path owner w.register domain),
+  subst (λ m. Loads (document_tree m (home_of (root_at w.register))) (renamed l (root_at w.register))) (sym put)
+      (law tree l (root_at w.register) w.objects loads (has_room w.register path l register none) (is_alone w whole.given)),
 )

@@ -50,7 +50,7 @@ record IsRootOf (h : Home) : Type 0 where
 module _ (held : Held) (run : ℕ) (w : World) (path : List ℕ) (h : Home) (told : DescribesWorld held run w) (there : home_at w path ≡ Some h) where
   root_told : IsRootOf h
   root_told =
-      let at = map_some (λ (n : Node). n.class) (get w.door.catalogue.nodes path) (Domain h.number h.root) (home_class _ h there) in
+      let at = map_some (λ (n : Node). n.class) (get w.register.catalogue.nodes path) (Domain h.number h.root) (home_class _ h there) in
       let body = and_then_some node_of_body (get held (node_key path)) at.0 (sym (told.register.nodes path) ∙ at.1) in
       let kept = (body_exact body.0 at.0 body.2).2 in
       record { root = subst HasRoot at.2 kept.root; id = subst HasId at.2 kept.id }

@@ -15,6 +15,7 @@ use Rattle.flush_journal.proofs.ContentLemmas.{held-content}
 use Rattle.flush_journal.proofs.Moments.{joined, weaker}
 use Rattle.json_import.specs.declared.adoption.counts.Counts.{Counts}
 use Rattle.flush_journal.specs.Keepings.Keepings.{HoldsOne, IsBacked, MayRefuseKeeping, settled, worlds_after}
+use Rattle.service_core.specs.Journals.Begun.{IsBegun, IsBegunSince}
 use Rattle.service_core.specs.Journals.Opening.{IsOf}
 use Rattle.service_core.specs.KeptWorlds.{TellsWorld, HoldsWorld}
 use Rattle.service_core.specs.Records.{DescribesWorld, WorldSays, WorldStillSays, as_kept, run_record}
@@ -22,13 +23,13 @@ use Rattle.service_core.specs.Steps.{World}
 use Rattle.service_core.specs.Worlds.{State, seen}
 use Rattle.json_import.specs.Kept.Documents.{adopted}
 use Rattle.json_import.specs.Kept.Imports.{BeginsAlone, HasCauseOf, HoldsOneOf, IsDiskFault, CameTo, KeepsAdopted}
-use Rattle.json_import.specs.Kept.Parts.{IsAdopted, IsAdoptedFrom, IsBegun, IsBegunSince, CameToFrom, IsKeptFrom, kept_outcome}
+use Rattle.json_import.specs.Kept.Parts.{IsAdopted, IsAdoptedFrom, CameToFrom, IsKeptFrom, kept_outcome}
 use Rattle.json_import.specs.declared.kept.outcome.Outcome.{Outcome}
 use Rattle.json_import.specs.declared.kept.outcome.Outcome.TheVariants.{Unopened, Unbegun, Unread, Refused, NoMemory, Unkept, Adopted}
 
 -- ---- a world that is held, whatever of it is to be written
 
-told_kept : (m : Held) (s : State) → DescribesWorld m s.door.run (seen s) → TellsWorld m (as_kept s)
+told_kept : (m : Held) (s : State) → DescribesWorld m s.register.run (seen s) → TellsWorld m (as_kept s)
 told_kept m s d = record { register = d.register; objects = d.objects; given = d.given; strays = d.strays }
 
 told_seen : (m : Held) (s : State) → TellsWorld m (as_kept s) → TellsWorld m (seen s)
@@ -61,7 +62,7 @@ module _ {D : Type 0} (met : Ghosts D) (before : D) (j : Journal D met) (s : Sta
     (holds : (k : Journal D met) (building : List Record) (u : State) (ws : List World) → IsBacked TellsWorld k building (WorldSays u) ws → (image : List ℕ) → met.images (disk_of k) image
     → HoldsOne TellsWorld ws image) where
   abbrev run : Record
-  run = run_record s.door
+  run = run_record s.register
 
   has_run : (c : Content) → IsBegun j s c → (image : List ℕ) → met.images (disk_of j) image → content image ≡ Ok (with_batch c (run ∷ []))
   has_run c b image left = ap content (b.settled.only image left) ∙ b.settled.file
@@ -150,7 +151,7 @@ module _ {D : Type 0} (met : Ghosts D) (before : D) (j : Journal D met) (s : Sta
       state = a.state;
       is_adopted = a.adopted.is;
       objects = subst (λ (w : World). AreWhole w.objects) a.adopted.is k.objects;
-      document = subst (λ (w : World). IsReadBack s.door a.adopted.loaded w path) a.adopted.is a.adopted.document;
+      document = subst (λ (w : World). IsReadBack s.register a.adopted.loaded w path) a.adopted.is a.adopted.document;
       ended = k.ended;
       kept = k.kept;
       last_keeping = k.keeps;

@@ -1,4 +1,4 @@
--- Why no document is adopted.
+-- Why no run is begun, and why no document is adopted.
 use Rattle.std.proofs.Common.{◌≡◌, inl, inr, ℕ, ◌≤◌, List, Option, Result, Ok, Err, IfErr, refl, sym, ap₂, subst}
 use Rattle.std.specs.Prelude.{IsErrAnd}
 use Rattle.documents.specs.declared.parts.faults.DocFault.{DocFault}
@@ -14,20 +14,40 @@ use Rattle.flush_journal.specs.declared.journal.Journal.{Journal}
 use Rattle.documents.specs.Reader.Loads.{LoadsText}
 use Rattle.documents.specs.Reader.Texts.{most_bytes}
 use Rattle.documents.specs.declared.reader.loaded.Loaded.{Loaded}
+use Rattle.service_core.specs.Journals.Begun.{IsOfDisk, IsUnstarted}
 use Rattle.service_core.specs.Steps.{World}
 use Rattle.service_core.specs.Worlds.{State, seen}
+use Rattle.service_core.specs.declared.journals.beginning.BeginFault.{BeginFault}
+use Rattle.service_core.specs.declared.journals.beginning.BeginFault.TheVariants as begin
 use Rattle.edge_traits.specs.SourceTexts.Texts.{IsLongText, IsTaken, IsWholeText}
 use Rattle.edge_traits.specs.declared.source_texts.reading.TextFault.{TextFault}
 use Rattle.edge_traits.specs.declared.source_texts.reading.TextFault.TheVariants as text
 use Rattle.json_import.specs.Kept.Documents.{IsDocument}
-use Rattle.json_import.specs.Kept.Imports.{HasCauseOf, IsDiskFault}
-use Rattle.json_import.specs.Kept.Parts.{CameToFrom, IsUnadopted, IsUnloaded, of_adoption, of_document, of_text, outcome_of}
+use Rattle.json_import.specs.Kept.Imports.{CameTo, HasCauseOf, IsDiskFault}
+use Rattle.json_import.specs.Kept.Parts.{CameToFrom, IsUnadopted, IsUnloaded, of_adoption, of_begin, of_document, of_text, outcome_of}
 use Rattle.json_import.specs.declared.kept.reading.Unadopted.{Unadopted}
 use Rattle.json_import.specs.declared.kept.reading.Unadopted.TheVariants as unadopted
 
+-- ---- an import of which no run was begun
+
+pub not_started : {D : Type 0} (met : Ghosts D) (before after : D) (path owner : List ℕ) (left : Option (List ℕ)) (why : BeginFault) → IsUnstarted met before after why
+    → CameTo met before after path owner left left (of_begin why)
+not_started met before after path owner left (begin.Unopened refusal) h = (h, refl)
+not_started met before after path owner left (begin.Unbegun refusal) h = (h, refl)
+
+pub cause_unstarted : (faults : ℕ) (why : BeginFault) → HasCauseOf faults faults (of_begin why)
+cause_unstarted faults (begin.Unopened refusal) = refl
+cause_unstarted faults (begin.Unbegun refusal) = refl
+
+pub fault_unstarted : (why : BeginFault) → IsDiskFault (of_begin why) → IsOfDisk why
+fault_unstarted (begin.Unopened refusal) h = h
+fault_unstarted (begin.Unbegun refusal) h = h
+
+-- ---- a document that is not adopted
+
 -- two worlds that are one in both parts
-pub same_world : (v w : World) → v.door ≡ w.door → v.objects ≡ w.objects → v ≡ w
-same_world v w door objects = ap₂ (λ d o. record v { door = d; objects = o }) door objects
+pub same_world : (v w : World) → v.register ≡ w.register → v.objects ≡ w.objects → v ≡ w
+same_world v w register objects = ap₂ (λ d o. record v { register = d; objects = o }) register objects
 
 -- an error that `?` hands on
 pub handed : {A E : Type 0} (r : Result A E) (e : E) (P : E → Type 0) → IsErrAnd r (λ x. x ≡ e) → P e → IfErr r P
@@ -54,7 +74,7 @@ module _ (lb la : Option (List ℕ)) (before now : ℕ) where
     still_refused unadopted.NoMemory h = tt
 
     -- it can't be adopted
-    pub not_adopted : (l : Loaded) (e : AdoptFault) → IsDocument lb la l → IsBlamed {A = Counts} (Err e) (adopt_fault w.door path l) → IsUnadopted lb la before now w path (of_adoption e)
+    pub not_adopted : (l : Loaded) (e : AdoptFault) → IsDocument lb la l → IsBlamed {A = Counts} (Err e) (adopt_fault w.register path l) → IsUnadopted lb la before now w path (of_adoption e)
     not_adopted l adopt.NoFolder d blamed = inr (l, adopt.NoFolder, d, blamed)
     not_adopted l adopt.Taken d blamed = inr (l, adopt.Taken, d, blamed)
     not_adopted l (adopt.Limit what) d blamed = inr (l, adopt.Limit what, d, blamed)

@@ -15,7 +15,7 @@ use Rattle.object_ids.specs.IdValues.{Id}
 use Rattle.object_ids.specs.Ids.{InRange, text_of_id}
 use Rattle.object_ids.specs.declared.ids.Kind.{Kind}
 use Rattle.object_ids.specs.declared.ids.Kind.TheVariants as kind
-use Rattle.shapes.specs.Places.{place}
+use Rattle.shapes.specs.RowMajor.{linear_index}
 use Rattle.shapes.specs.Shapes.{LiesIn, dims_of}
 use Rattle.shapes.specs.declared.Shape.{Shape}
 use Rattle.chunk_store.specs.Grids.{Grid, reads, value_at, writes}
@@ -58,7 +58,7 @@ use Rattle.hdf_types.proofs.ViewLemmas.{elem-elem_type}
 module _
     (creations : (e : Elem) (s : Shape) (tree : Option Data) (p : List ℕ × Option (List ℕ)) → (creation_of e s tree ≡ Ok p) ↔ IsCreation e s tree p)
     (back : (g : Grid) (ats : List (List ℕ)) (bytes : List ℕ) → All (λ at. LiesIn at g.shape) ats → IsOnce ats → length bytes ≡ length ats * size_of g.kind → reads (writes g ats bytes) ats ≡ bytes)
-    (elements : (g : Grid) (bytes at : List ℕ) → LiesIn at g.shape → value_at (with_bytes g bytes) at ≡ piece_at (size_of g.kind) (place at (dims_of g.shape)) bytes)
+    (elements : (g : Grid) (bytes at : List ℕ) → LiesIn at g.shape → value_at (with_bytes g bytes) at ≡ piece_at (size_of g.kind) (linear_index at (dims_of g.shape)) bytes)
     (tree : Data) (l : Loaded) (root : Id) (m : Objects) (loads : Loads tree l) (room : HasRoom root (other_count l)) (alone : IsAlone root m)
   where
     abbrev one : StandForOne l

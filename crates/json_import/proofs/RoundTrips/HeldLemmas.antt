@@ -24,7 +24,7 @@ use Rattle.hdf_types.specs.Reading.{size_of}
 use Rattle.hdf_types.specs.Views.{elem}
 use Rattle.hdf_types.proofs.PrintLemmas.{reads_back as type_back}
 use Rattle.hdf_types.proofs.TypeLemmas.{type_told}
-use Rattle.shapes.specs.Places.{place}
+use Rattle.shapes.specs.RowMajor.{linear_index}
 use Rattle.shapes.specs.Shapes.{LiesIn, dims_of}
 use Rattle.shapes.specs.declared.Shape.{Shape}
 use Rattle.shapes.specs.declared.printing.Form.TheVariants.{Document}
@@ -253,7 +253,7 @@ found_each n (e ∷ es) all = (get-entries n e.0 ∙ all.0, found_each n es all.
 module _
     (creations : (e : Elem) (s : Shape) (tree : Option Data) (p : List ℕ × Option (List ℕ)) → (creation_of e s tree ≡ Ok p) ↔ IsCreation e s tree p)
     (back : (g : Grid) (ats : List (List ℕ)) (bytes : List ℕ) → All (λ at. LiesIn at g.shape) ats → IsOnce ats → length bytes ≡ length ats * size_of g.kind → reads (writes g ats bytes) ats ≡ bytes)
-    (elements : (g : Grid) (bytes at : List ℕ) → LiesIn at g.shape → value_at (with_bytes g bytes) at ≡ piece_at (size_of g.kind) (place at (dims_of g.shape)) bytes)
+    (elements : (g : Grid) (bytes at : List ℕ) → LiesIn at g.shape → value_at (with_bytes g bytes) at ≡ piece_at (size_of g.kind) (linear_index at (dims_of g.shape)) bytes)
     (each : (g : Grid) (ats : List (List ℕ)) (k : ℕ) → IsWhole g → All (λ at. LiesIn at g.shape) ats → k < length ats → piece_at (size_of g.kind) k (reads g ats) ≡ value_at g (slice_index_or ats k []))
     (m : Objects) (h : Home) (are : AreSound m h)
   where

@@ -16,10 +16,10 @@ use Rattle.hdf_types.proofs.TypeLemmas.{type_told}
 use Rattle.shapes.specs.declared.Shape.{Shape}
 use Rattle.shapes.specs.declared.Shape.TheVariants.{Null, Scalar, Simple}
 use Rattle.shapes.specs.declared.printing.Form.TheVariants.{Document, Rest}
-use Rattle.shapes.specs.Places.{place}
+use Rattle.shapes.specs.RowMajor.{linear_index}
 use Rattle.shapes.specs.Printed.{numbers_tree, shape_tree}
 use Rattle.shapes.specs.Shapes.{IsShape, IsSound, LiesIn, cells_of, count_of, dims_of, shape_of}
-use Rattle.shapes.proofs.CellLemmas.{cell-place, cell_once, cells_inside, cells_length, place_counted}
+use Rattle.shapes.proofs.CellLemmas.{cell-index, cell_once, cells_inside, cells_length, index_counted}
 use Rattle.shapes.proofs.ShapeLemmas.{reads_back as shape_back, shape_sound, shape_told}
 use Rattle.hdf_values.specs.Attributes.{Content, IsTypeAt, attribute_of, most_bytes, shape_or, sized_at, type_or, typed_at, value_or, valued_at}
 use Rattle.hdf_values.specs.declared.attributes.AttributeFault.TheVariants.{TooLarge}
@@ -186,7 +186,7 @@ blank_again e (Some bs) sound h = h
 module _
     (creations : (e : Elem) (s : Shape) (tree : Option Data) (p : List ℕ × Option (List ℕ)) → (creation_of e s tree ≡ Ok p) ↔ IsCreation e s tree p)
     (back : (h : Grid) (ats : List (List ℕ)) (bytes : List ℕ) → All (λ at. LiesIn at h.shape) ats → IsOnce ats → length bytes ≡ length ats * size_of h.kind → reads (writes h ats bytes) ats ≡ bytes)
-    (elements : (g : Grid) (bytes at : List ℕ) → LiesIn at g.shape → value_at (with_bytes g bytes) at ≡ piece_at (size_of g.kind) (place at (dims_of g.shape)) bytes)
+    (elements : (g : Grid) (bytes at : List ℕ) → LiesIn at g.shape → value_at (with_bytes g bytes) at ≡ piece_at (size_of g.kind) (linear_index at (dims_of g.shape)) bytes)
   where
     abbrev start : Grid → Grid
     start g = blank g.kind g.shape (g.chunk, g.fill)
@@ -221,7 +221,7 @@ module _
         let bs = repeated (count_of s) (blank_of e p.1) in
         same_held (with_bytes g bs) g refl refl refl refl (table (written (value_at g) (size_of e) (cells_from 0 (count_of s) s) bs)) (table (λ _. blank_of e p.1)) (λ at lies.
         value-tabulated e s p.0 p.1 (λ _. blank_of e p.1) at lies
-        ∙ sym (elements g bs at lies ∙ piece_repeated (count_of s) (size_of e) (place at (dims_of s)) (blank_of e p.1) one.whole (place_counted s at lies)))
+        ∙ sym (elements g bs at lies ∙ piece_repeated (count_of s) (size_of e) (linear_index at (dims_of s)) (blank_of e p.1) one.whole (index_counted s at lies)))
       where
         table : (f : List ℕ → List ℕ) → length (map f (cells_of s)) ≡ count_of s
         table f = length-map (cells_of s) f ∙ cells_length s
@@ -287,8 +287,8 @@ module _
             (length-map (cells_of g.shape) (written (value_at (start g)) (size_of g.kind) (cells_from 0 (count_of g.shape) g.shape) bytes) ∙ cells_length g.shape)
             whole.table (λ at lies.
             sym (elements (start g) bytes at lies
-            ∙ each g (cells_of g.shape) (place at (dims_of g.shape)) whole (cells_inside g.shape) (omega (arith, place_counted g.shape at lies, cells_length g.shape))
-            ∙ ap (value_at g) (cell-place g.shape at lies)))
+            ∙ each g (cells_of g.shape) (linear_index at (dims_of g.shape)) whole (cells_inside g.shape) (omega (arith, index_counted g.shape at lies, cells_length g.shape))
+            ∙ ap (value_at g) (cell-index g.shape at lies)))
 
         -- a tree that has the printed type, shape, creation properties and value at their keys
         pub array_held : (new : Data) → Fits (size_of g.kind) (dims_of g.shape) g.chunk

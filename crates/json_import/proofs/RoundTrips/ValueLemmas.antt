@@ -13,7 +13,7 @@ use Rattle.hdf_types.specs.declared.TextType.{TextType}
 use Rattle.hdf_types.specs.Elems.{Elem, int, text, compound, FieldList, no_fields, field}
 use Rattle.hdf_types.specs.Reading.{size_of, fields_size}
 use Rattle.hdf_types.specs.Types.{IsFormed, AreFormed}
-use Rattle.shapes.specs.Places.{cell_count}
+use Rattle.shapes.specs.RowMajor.{cell_count}
 use Rattle.shapes.specs.Shapes.{count_of}
 use Rattle.shapes.specs.declared.Shape.{Shape}
 use Rattle.shapes.specs.declared.Shape.TheVariants.{Null, Scalar, Simple}

@@ -4,7 +4,7 @@ use Rattle.object_ids.specs.declared.limits.LimitKind.TheVariants as limit
 use Rattle.domains.specs.Changes.{domain_fault}
 use Rattle.domains.specs.declared.faults.CatFault.{CatFault}
 use Rattle.domains.specs.declared.faults.CatFault.TheVariants as cat
-use Rattle.register.specs.Decided.{Door, serial_limit}
+use Rattle.register.specs.Decided.{RegisterState, serial_limit}
 use Rattle.documents.specs.declared.reader.loaded.Loaded.{Loaded}
 use Rattle.json_import.specs.Fresh.Renamed.{other_count}
 use Rattle.json_import.specs.declared.adoption.faults.AdoptFault.{AdoptFault}
@@ -21,7 +21,7 @@ told cat.NotEmpty = Taken
 told cat.Root = Taken
 
 -- fewer serials are left than these
-abbrev pub serial_fault : Door → ℕ → Option AdoptFault
+abbrev pub serial_fault : RegisterState → ℕ → Option AdoptFault
 serial_fault d many = if nat_lt (serial_limit - d.serial) many then Some (Limit limit.Serial) else None
 
 abbrev pub fault_or : Option CatFault → Option AdoptFault → Option AdoptFault
@@ -29,7 +29,7 @@ fault_or None later = later
 fault_or (Some fault) later = Some (told fault)
 
 -- the faults of a new domain in their order, and then that fewer serials are left than objects are to be made
-abbrev pub adopt_fault : Door → List ℕ → Loaded → Option AdoptFault
+abbrev pub adopt_fault : RegisterState → List ℕ → Loaded → Option AdoptFault
 adopt_fault d path l = fault_or (domain_fault d.catalogue path) (serial_fault d (1 + other_count l))
 
 -- a call answers this fault, or it succeeds or finds no memory where there is none

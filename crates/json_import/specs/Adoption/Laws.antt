@@ -3,7 +3,7 @@ use Rattle.std.specs.Prelude.{◌≡◌, ℕ, ◌^◌, ◌≤◌, List, [], ◌�
 use Rattle.serde_json.specs.Data.{Data}
 use Rattle.serde_json.specs.Written.{compact_text}
 use Rattle.flush_journal.specs.Records.{Held}
-use Rattle.register.specs.Decided.{Door}
+use Rattle.register.specs.Decided.{RegisterState}
 use Rattle.service_core.specs.Records.{DescribesWorld}
 use Rattle.service_core.specs.Steps.{World}
 use Rattle.service_core.specs.Described.Told.{AreWhole}
@@ -39,6 +39,6 @@ abbrev pub ExportsComeBack : Type 0
 ExportsComeBack = (held : Held) (run : ℕ) (w : World) (path : List ℕ) (h : Home) (tree : Data)
     → DescribesWorld held run w → AreWhole w.objects → home_at w path ≡ Some h
     → doc w path ≡ Some tree → ReadsAs (compact_text tree) tree → length (compact_text tree ++ 10 ∷ []) ≤ 2 ^ 27
-    → (l : Loaded) (d : Door) (v : World) (other : List ℕ) → LoadsText (compact_text tree ++ 10 ∷ []) l → IsReadBack d l v other
+    → (l : Loaded) (d : RegisterState) (v : World) (other : List ℕ) → LoadsText (compact_text tree ++ 10 ∷ []) l → IsReadBack d l v other
     → (l ≡ held_in w.objects h)
     × ((printed : Data) × (doc v other ≡ Some printed) × Loads printed (renamed (held_in w.objects h) (root_at d)))

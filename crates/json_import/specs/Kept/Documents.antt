@@ -4,7 +4,7 @@
 --     IsRefused .. w path      it is none
 --     adopted w path owner l      the world with the document as a new domain
 use Rattle.std.specs.Prelude.{◌≡◌, ◌⊎◌, ℕ, List, Option, Some, None}
-use Rattle.json_import.specs.Adoption.Adopted.{door_adopted, objects_adopted}
+use Rattle.json_import.specs.Adoption.Adopted.{objects_adopted, register_adopted}
 use Rattle.json_import.specs.Adoption.Faults.{adopt_fault}
 use Rattle.json_import.specs.declared.adoption.faults.AdoptFault.{AdoptFault}
 use Rattle.documents.specs.Reader.Loads.{LoadsText}
@@ -28,12 +28,12 @@ pub record IsDocument (left_before left_after : Option (List ℕ)) (l : Loaded) 
 -- nothing speaks against the document as a new domain at the path
 pub record IsAccepted (left_before left_after : Option (List ℕ)) (w : World) (path : List ℕ) (l : Loaded) : Type 0 where
   pub document : IsDocument left_before left_after l
-  pub free : adopt_fault w.door path l ≡ None
+  pub free : adopt_fault w.register path l ≡ None
 
 abbrev pub IsRefused : Option (List ℕ) → Option (List ℕ) → World → List ℕ → Type 0
 IsRefused left_before left_after w path =
     IsNoDocument left_before left_after
-    ⊎ ((l : Loaded) × (why : AdoptFault) × IsDocument left_before left_after l × (adopt_fault w.door path l ≡ Some why))
+    ⊎ ((l : Loaded) × (why : AdoptFault) × IsDocument left_before left_after l × (adopt_fault w.register path l ≡ Some why))
 
 abbrev pub adopted : World → List ℕ → List ℕ → Loaded → World
-adopted w path owner l = record { door = door_adopted w.door path owner l; objects = objects_adopted w.door l w.objects }
+adopted w path owner l = record { register = register_adopted w.register path owner l; objects = objects_adopted w.register l w.objects }

@@ -11,16 +11,16 @@ use Rattle.edge_traits.specs.declared.disk.Disk.{Ghosts}
 use Rattle.flush_journal.specs.Files.{content, held}
 use Rattle.flush_journal.specs.Records.{Held, put_record}
 use Rattle.flush_journal.specs.Standing.{HoldsEither, IsSettled, disk_of, with_batch}
-use Rattle.flush_journal.specs.Unchanged.{SameBytes}
 use Rattle.flush_journal.specs.declared.why.Why.{Why}
 use Rattle.flush_journal.specs.declared.why.Why.TheVariants as why
 use Rattle.flush_journal.specs.declared.keepings.keeping.Keeping.{Keeping}
 use Rattle.documents.specs.declared.reader.loaded.Loaded.{Loaded}
-use Rattle.service_core.specs.Journals.Opening.{IsOf, MayRefuseOpening}
+use Rattle.service_core.specs.Journals.Opening.{IsOf}
+use Rattle.service_core.specs.declared.journals.beginning.BeginFault.TheVariants as begin
 use Rattle.service_core.specs.declared.journals.faults.OpenFault.TheVariants as fault
 use Rattle.flush_journal.specs.Keepings.Keepings.{IsNewKeeping}
 use Rattle.flush_journal.specs.Moments.{LeavesSince}
-use Rattle.service_core.specs.Journals.Begun.{IsRecovered, IsUnbegun}
+use Rattle.service_core.specs.Journals.Begun.{IsRecovered, IsUnstarted}
 use Rattle.service_core.specs.KeptWorlds.{KeepsWorld, HoldsWorld}
 use Rattle.service_core.specs.Records.{run_record}
 use Rattle.service_core.specs.Steps.{World}
@@ -41,9 +41,9 @@ HoldsOneOf m first last file = (held file ≡ Some m) ⊎ (HoldsWorld first file
 -- this world; whatever a crash left since the begin held what was held, with that record or without it, but for an image of before.
 pub record BeginsAlone {D : Type 0} (met : Ghosts D) (before after : D) (first : World) : Type 0 where
   pub recovered : met.honest → IsOf (met.reads before) (λ c. IsRecovered c.held first)
-  pub only : met.honest → IsOf (met.reads before) (λ c. (image : List ℕ) → met.images after image → content image ≡ Ok (with_batch c (run_record first.door ∷ [])))
+  pub only : met.honest → IsOf (met.reads before) (λ c. (image : List ℕ) → met.images after image → content image ≡ Ok (with_batch c (run_record first.register ∷ [])))
   pub images : met.honest → (image : List ℕ) → met.images after image → HoldsWorld first image
-  pub crash : met.honest → IsOf (met.reads before) (λ c. LeavesSince met before after (HoldsEither c.held (put_record (run_record first.door) c.held)))
+  pub crash : met.honest → IsOf (met.reads before) (λ c. LeavesSince met before after (HoldsEither c.held (put_record (run_record first.register) c.held)))
 
 -- ---- a document that was adopted
 
@@ -56,12 +56,12 @@ pub record KeepsAdopted {D : Type 0} (met : Ghosts D) (before after : D) (path o
   pub loaded : Loaded
   pub accepted : IsAccepted left_before left_after first path loaded
   pub begun : Keeping D met
-  pub settled : met.honest → IsOf (met.reads before) (λ c. IsSettled begun.journal (with_batch c (run_record first.door ∷ [])))
+  pub settled : met.honest → IsOf (met.reads before) (λ c. IsSettled begun.journal (with_batch c (run_record first.register ∷ [])))
   pub begins : IsNewKeeping begun
   pub state : State
   pub is_adopted : seen state ≡ adopted first path owner loaded
   pub objects : AreWhole (adopted first path owner loaded).objects
-  pub document : IsReadBack first.door loaded (adopted first path owner loaded) path
+  pub document : IsReadBack first.register loaded (adopted first path owner loaded) path
   pub ended : Keeping D met
   pub kept : State
   pub last_keeping : KeepsWorld begun state ended kept last
@@ -72,16 +72,9 @@ pub record KeepsAdopted {D : Type 0} (met : Ghosts D) (before after : D) (path o
 
 -- ---- what an import came to
 
--- no run was begun
-abbrev pub IsUnstarted : {D : Type 0} (met : Ghosts D) → D → D → Outcome → Type 0
-IsUnstarted met before after (Unopened why) =
-    MayRefuseOpening met.honest (met.reads before) (met.faults before) (met.faults after) why × (met.honest → SameBytes met before after)
-IsUnstarted met before after (Unbegun why) = IsUnbegun met before after why
-IsUnstarted met before after outcome = ⊥
-
 abbrev pub CameTo : {D : Type 0} (met : Ghosts D) → D → D → (path owner : List ℕ) → (left_before left_after : Option (List ℕ)) → Outcome → Type 0
-CameTo met before after path owner lb la (Unopened why) = IsUnstarted met before after (Unopened why) × (la ≡ lb)
-CameTo met before after path owner lb la (Unbegun why) = IsUnstarted met before after (Unbegun why) × (la ≡ lb)
+CameTo met before after path owner lb la (Unopened why) = IsUnstarted met before after (begin.Unopened why) × (la ≡ lb)
+CameTo met before after path owner lb la (Unbegun why) = IsUnstarted met before after (begin.Unbegun why) × (la ≡ lb)
 CameTo met before after path owner lb la Unread = (first : World) × BeginsAlone met before after first × IsTaken lb la
 CameTo met before after path owner lb la Refused = (first : World) × BeginsAlone met before after first × IsRefused lb la first path
 CameTo met before after path owner lb la NoMemory = (first : World) × BeginsAlone met before after first × IsTaken lb la

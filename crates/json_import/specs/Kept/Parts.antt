@@ -1,9 +1,8 @@
 -- What the parts of an import say.
---     IsBegun j s c      the journal has the record of the run that the world is in
 --     IsUnadopted .. e      why no document was adopted
 --     IsKeptFrom j s after last      a world was kept, or refused to be
 --     CameToFrom j s after .. outcome      what an import came to, from the begin of the run on
-use Rattle.std.specs.Prelude.{◌≡◌, ⊤, ℕ, List, [], ◌∷◌, Option, Result, Ok, Err}
+use Rattle.std.specs.Prelude.{◌≡◌, ⊤, ℕ, List, [], Option, Result, Ok, Err}
 use Rattle.service_core.specs.Described.Told.{AreWhole}
 use Rattle.json_import.specs.Adoption.Adopted.{IsReadBack, counts_of}
 use Rattle.json_import.specs.declared.adoption.counts.Counts.{Counts}
@@ -14,19 +13,17 @@ use Rattle.documents.specs.declared.parts.faults.DocFault.TheVariants as doc
 use Rattle.edge_traits.specs.Causes.{Rose}
 use Rattle.edge_traits.specs.declared.disk.Disk.{Ghosts}
 use Rattle.flush_journal.specs.Batches.{records}
-use Rattle.flush_journal.specs.Files.{Content, content}
-use Rattle.flush_journal.specs.Moments.{Leaves, LeavesSince}
-use Rattle.flush_journal.specs.Records.{put_record}
-use Rattle.flush_journal.specs.Standing.{HoldsEither, IsSettled, disk_of, end_of, with_batch}
+use Rattle.flush_journal.specs.Standing.{disk_of}
 use Rattle.flush_journal.specs.declared.journal.Journal.{Journal}
 use Rattle.flush_journal.specs.declared.why.Why.{Why}
 use Rattle.flush_journal.specs.declared.keepings.keeping.Keeping.{Keeping}
 use Rattle.documents.specs.declared.reader.loaded.Loaded.{Loaded}
-use Rattle.service_core.specs.Journals.Begun.{IsRecovered, IsUnwritten, MayRefuseRun}
 use Rattle.service_core.specs.KeptWorlds.{KeepsWorld}
-use Rattle.service_core.specs.Records.{DescribesWorld, WorldSays, WorldStillSays, run_record}
+use Rattle.service_core.specs.Records.{WorldStillSays}
 use Rattle.service_core.specs.Steps.{World}
 use Rattle.service_core.specs.Worlds.{State, seen}
+use Rattle.service_core.specs.declared.journals.beginning.BeginFault.{BeginFault}
+use Rattle.service_core.specs.declared.journals.beginning.BeginFault.TheVariants as begin
 use Rattle.edge_traits.specs.SourceTexts.Texts.{IsTaken}
 use Rattle.edge_traits.specs.declared.source_texts.reading.TextFault.{TextFault}
 use Rattle.edge_traits.specs.declared.source_texts.reading.TextFault.TheVariants as text
@@ -36,30 +33,11 @@ use Rattle.json_import.specs.declared.kept.outcome.Outcome.TheVariants.{Unopened
 use Rattle.json_import.specs.declared.kept.reading.Unadopted.{Unadopted}
 use Rattle.json_import.specs.declared.kept.reading.Unadopted.TheVariants as unadopted
 
--- ---- a run
+-- ---- a run that was not begun
 
--- the journal holds the run's record behind what it held, and tells the world with it
-pub record IsBegun {D : Type 0} {met : Ghosts D} (j : Journal D met) (s : State) (c : Content) : Type 0 where
-  pub recovered : IsRecovered c.held (seen s)
-  pub settled : IsSettled j (with_batch c (run_record s.door ∷ []))
-  pub says : WorldSays s (put_record (run_record s.door) c.held)
-  pub describes : DescribesWorld (put_record (run_record s.door) c.held) s.door.run (seen s)
-
--- so it is, and whatever a crash left since a disk as it was holds what was held, with that record or without it, but for an image of before
-pub record IsBegunSince {D : Type 0} (met : Ghosts D) (before : D) (j : Journal D met) (s : State) (c : Content) : Type 0 where
-  pub begun : IsBegun j s c
-  pub crash : LeavesSince met before (disk_of j) (HoldsEither c.held (put_record (run_record s.door) c.held))
-
--- the record of the run of an opened world was refused
-pub record IsRunRefused {D : Type 0} {met : Ghosts D} (j : Journal D met) (w : State) (after : D) (why : Why) : Type 0 where
-  pub cause : MayRefuseRun (seen w) (end_of j) (met.most (disk_of j)) (met.faults (disk_of j)) (met.faults after) why
-  pub images : met.honest → (image : List ℕ) → met.images after image → (c : Content) → IsSettled j c → HoldsEither c.held (put_record (run_record w.door) c.held) image
-  pub unwritten : met.honest → IsUnwritten why → (image : List ℕ) → met.images after image → (c : Content) → IsSettled j c → content image ≡ Ok c
-  pub crash : met.honest → (c : Content) → IsSettled j c → Leaves met (disk_of j) after (HoldsEither c.held (put_record (run_record w.door) c.held))
-
-abbrev pub IsRunRefusal : {D : Type 0} {met : Ghosts D} → Journal D met → State → D → Outcome → Type 0
-IsRunRefusal j w after (Unbegun why) = IsRunRefused j w after why
-IsRunRefusal j w after outcome = ⊥
+abbrev pub of_begin : BeginFault → Outcome
+of_begin (begin.Unopened why) = Unopened why
+of_begin (begin.Unbegun why) = Unbegun why
 
 -- ---- a document
 
@@ -98,7 +76,7 @@ pub record IsAdopted (lb la : Option (List ℕ)) (w : World) (path owner : List 
   pub accepted : IsAccepted lb la w path loaded
   pub counts_are : counts ≡ counts_of loaded
   pub is : new ≡ adopted w path owner loaded
-  pub document : IsReadBack w.door loaded new path
+  pub document : IsReadBack w.register loaded new path
 
 -- ---- a keeping
 

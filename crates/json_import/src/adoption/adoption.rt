@@ -10,7 +10,7 @@ ghost use Rattle.service_core.specs.Steps.{IsGiven};
 ghost use Rattle.service_core.specs.Worlds.{seen};
 ghost use Rattle.json_import.specs.Fresh.Names.{with_root};
 ghost use Rattle.json_import.specs.Fresh.Renamed.{other_count};
-ghost use Rattle.json_import.specs.Adoption.Adopted.{IsReadBack, counts_of, door_adopted, objects_adopted};
+ghost use Rattle.json_import.specs.Adoption.Adopted.{IsReadBack, counts_of, objects_adopted, register_adopted};
 ghost use Rattle.json_import.specs.Adoption.Faults.{IsBlamed, OnRefusal, adopt_fault};
 ghost use Rattle.json_import.specs.Adoption.Placing.{placed, placed_each};
 
@@ -40,23 +40,26 @@ pub fn adopt(
     owner: &Name,
     loaded: Loaded,
 ) -> Result<Counts, AdoptFault>
-    ensures faults { IsBlamed result (adopt_fault world.old.door path.now loaded) }
+    ensures faults { IsBlamed result (adopt_fault world.old.register path.now loaded) }
     ensures unchanged { OnRefusal result (world.new ≡ world.old) }
 
     // A domain of this owner with the number and the root's id that were next; besides, only serials were drawn.
-    ensures domain { OnOk result (get world.new.door.catalogue.nodes path.now
-        ≡ Some (new_domain world.old.door.catalogue.next world.old.door.run world.old.door.serial owner.now)) }
-    ensures door { OnOk result (world.new.door ≡ door_adopted world.old.door path.now owner.now loaded) }
+    ensures domain { OnOk result (get world.new.register.catalogue.nodes path.now
+        ≡ Some (new_domain world.old.register.catalogue.next world.old.register.run
+            world.old.register.serial owner.now)) }
+    ensures register { OnOk result (world.new.register
+        ≡ register_adopted world.old.register path.now owner.now loaded) }
 
     // Each object of the document at its id, and all others as they were.
     ensures objects { OnOk result ((seen world.new).objects
-        ≡ objects_adopted world.old.door loaded (seen world.old).objects) }
-    ensures others { OnOk result ((q : Id) → q.domain ≢ world.old.door.catalogue.next
+        ≡ objects_adopted world.old.register loaded (seen world.old).objects) }
+    ensures others { OnOk result ((q : Id) → q.domain ≢ world.old.register.catalogue.next
         → get (seen world.new).objects q ≡ get (seen world.old).objects q) }
     ensures counts { IfOk result (λ counts. counts ≡ counts_of loaded) }
 
     // What a document held is what the document at the path holds, under the fresh ids.
-    ensures document { OnOk result (IsReadBack world.old.door loaded (seen world.new) path.now) }
+    ensures document { OnOk result
+        (IsReadBack world.old.register loaded (seen world.new) path.now) }
     ensures says { WorldStillSays world.old world.new }
 {
     documents_read_back();
@@ -69,7 +72,7 @@ pub fn adopt(
 
 // What speaks against a new domain with the objects of a document.
 fn may_adopt(world: &World, path: &DomainPath, loaded: &Loaded) -> Result<(), AdoptFault>
-    ensures { IsBlamed result (adopt_fault world.now.door path.now loaded.now) }
+    ensures { IsBlamed result (adopt_fault world.now.register path.now loaded.now) }
 {
     if let Err(fault) = world.catalogue().domain_number(path) {
         return Err(AdoptFault::from(fault));
@@ -89,10 +92,11 @@ fn make_domain(
     owner: &Name,
     loaded: Loaded,
 ) -> Result<(), AllocError>
-    requires { world.old.door.serial + other_count loaded < 2 ^ 40 }
-    ensures door { OnOk result (world.new.door ≡ door_adopted world.old.door path.now owner.now loaded) }
+    requires { world.old.register.serial + other_count loaded < 2 ^ 40 }
+    ensures register { OnOk result (world.new.register
+        ≡ register_adopted world.old.register path.now owner.now loaded) }
     ensures objects { OnOk result ((seen world.new).objects
-        ≡ objects_adopted world.old.door loaded (seen world.old).objects) }
+        ≡ objects_adopted world.old.register loaded (seen world.old).objects) }
     ensures says { WorldStillSays world.old world.new }
 {
     world.is_whole();
@@ -106,10 +110,10 @@ fn make_domain(
 }
 
 fn put_root(world: &mut World, id: ObjectId, root: Option<NewObject>) -> Result<(), AllocError>
-    requires given { IsGiven world.old.door id }
+    requires given { IsGiven world.old.register id }
     requires new { get (seen world.old).objects id ≡ None }
     requires kind { IfSome root (λ o. kind_of_body o.body ≡ id.kind) }
-    ensures door { OnOk result (world.new.door ≡ world.old.door) }
+    ensures register { OnOk result (world.new.register ≡ world.old.register) }
     ensures objects { OnOk result ((seen world.new).objects ≡ with_root (seen world.old).objects id root) }
     ensures says { WorldStillSays world.old world.new }
 {
@@ -120,7 +124,7 @@ fn put_root(world: &mut World, id: ObjectId, root: Option<NewObject>) -> Result<
 }
 
 fn put_others(world: &mut World, number: u64, others: NewObjects) -> Result<(), AllocError>
-    requires { number < world.old.door.catalogue.next }
+    requires { number < world.old.register.catalogue.next }
     ensures world { OnOk result (seen world.new ≡ placed_each number (seen world.old) others) }
     ensures says { WorldStillSays world.old world.new }
 {
@@ -132,7 +136,7 @@ fn put_others(world: &mut World, number: u64, others: NewObjects) -> Result<(), 
 }
 
 fn put_object(world: &mut World, number: u64, object: NewObject) -> Result<(), AllocError>
-    requires { number < world.old.door.catalogue.next }
+    requires { number < world.old.register.catalogue.next }
     ensures world { OnOk result (seen world.new ≡ placed number (seen world.old) object) }
     ensures says { WorldStillSays world.old world.new }
 {

@@ -7,7 +7,6 @@ ghost use Rattle.json_import.specs.Kept.Imports.{HasCauseOf, IsDiskFault, CameTo
 ghost use Rattle.json_import.specs.Kept.Parts.{CameToFrom, IsKeptFrom, kept_outcome};
 
 use crate::adoption::Counts;
-use crate::kept::begun::{Begun, begin_run};
 use crate::kept::outcome::{Imported, Outcome};
 use crate::kept::reading::adopt_input;
 use edge_traits::{Disk, Source};
@@ -16,6 +15,7 @@ use flush_journal::{Journal, Why};
 use object_ids::{DomainPath, Name};
 use service_core::World;
 use service_core::described::objects_are_whole;
+use service_core::journals::{BeginRefused, Begun, begin_world};
 use std::alloc::Global;
 
 /// Opens the world that a disk keeps, begins a run of it, makes the document that a source has a new domain of an owner at a
@@ -40,9 +40,12 @@ pub fn import_domain<S: Source, D: Disk>(
         → Rose (D.faults disk) (D.faults result.disk) }
 {
     images_are_kept::<D, World>();
-    match begin_run(alloc, disk) {
+    match begin_world(alloc, disk) {
         Ok(Begun { journal, world }) => import_begun(alloc, path, owner, input, journal, world),
-        Err(imported) => imported,
+        Err(BeginRefused { disk, why }) => Imported {
+            disk,
+            outcome: Outcome::from(why),
+        },
     }
 }
 

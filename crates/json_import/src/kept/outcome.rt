@@ -1,6 +1,9 @@
+ghost use Rattle.std.specs.Prelude.{◌≡◌};
+ghost use Rattle.json_import.specs.Kept.Parts.{of_begin};
+
 use crate::adoption::Counts;
 use flush_journal::Why;
-use service_core::journals::OpenFault;
+use service_core::journals::{BeginFault, OpenFault};
 
 /// What an import came to.
 #[derive(Drop)]
@@ -28,4 +31,15 @@ pub struct Imported<D> {
     pub disk: D,
     /// What it came to.
     pub outcome: Outcome,
+}
+
+impl From<BeginFault> for Outcome {
+    ghost from_gives = { λ fault outcome. outcome ≡ of_begin fault };
+
+    fn from(fault: BeginFault) -> Outcome {
+        match fault {
+            BeginFault::Unopened(why) => Outcome::Unopened(why),
+            BeginFault::Unbegun(why) => Outcome::Unbegun(why),
+        }
+    }
 }

@@ -10,7 +10,7 @@ use Rattle.hdf_values.specs.declared.faults.ValueFault.{ValueFault}
 use Rattle.hdf_values.specs.Nested.{FitsNested, nested_bytes, nested_decoded, nested_normal, nested_from}
 use Rattle.hdf_values.proofs.NestedLemmas.{nested_back, nested_read, are_encoded}
 use Rattle.json_trees.specs.Trees.{list_of}
-use Rattle.shapes.specs.Places.{IsInside, cell_count}
+use Rattle.shapes.specs.RowMajor.{IsInside, cell_count}
 use Rattle.shapes.specs.declared.Shape.{Shape}
 use Rattle.shapes.specs.declared.Shape.TheVariants.{Null, Scalar, Simple}
 use Rattle.shapes.specs.Shapes.{LiesIn, resized_of}

@@ -2,7 +2,7 @@
 use Rattle.std.proofs.Common.{◌≡◌, ℕ, List, length, ap, subst, sym, ◌∙◌}
 use Rattle.hdf_types.specs.Elems.{Elem}
 use Rattle.hdf_values.specs.Nested.{AreEncoded}
-use Rattle.shapes.specs.Places.{cell_count}
+use Rattle.shapes.specs.RowMajor.{cell_count}
 use Rattle.shapes.specs.declared.Shape.{Shape}
 use Rattle.hyperslab.specs.declared.Slab.{Slab}
 use Rattle.hyperslab.specs.Selected.{IsSlab, SlabIn, extents, slab_cells}

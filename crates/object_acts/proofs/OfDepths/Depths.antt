@@ -14,7 +14,7 @@ use Rattle.shapes.specs.declared.Shape.{Shape}
 use Rattle.shapes.specs.declared.Shape.TheVariants.{Null, Scalar, Simple}
 use Rattle.shapes.specs.declared.printing.Form.{Form}
 use Rattle.shapes.specs.declared.printing.Form.TheVariants.{Rest, Document}
-use Rattle.shapes.specs.Places.{cell_count}
+use Rattle.shapes.specs.RowMajor.{cell_count}
 use Rattle.shapes.specs.Printed.{limit_tree, numbers_tree, shape_tree}
 use Rattle.shapes.specs.Shapes.{IsSound, dims_of}
 use Rattle.hdf_values.specs.Attributes.{Content, content}

@@ -4,7 +4,7 @@ ghost use Rattle.std.specs.Prelude.{◌≡◌, ◌≤◌, ℕ, List, All, IfOk, 
 ghost use Rattle.serde_json.specs.View.{view};
 ghost use Rattle.json_trees.specs.Shown.{shown};
 ghost use Rattle.json_trees.specs.Faults.{Gives};
-ghost use Rattle.shapes.specs.Places.{cell_count};
+ghost use Rattle.shapes.specs.RowMajor.{cell_count};
 ghost use Rattle.shapes.specs.declared.TheConstants.{MAX_EXTENT};
 ghost use Rattle.hyperslab.specs.declared.TheConstants.{MAX_SELECTED};
 ghost use Rattle.hyperslab.specs.Judged.{lists_slab};

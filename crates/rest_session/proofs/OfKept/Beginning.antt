@@ -1,115 +1,101 @@
 -- How a session begins.
-use Rattle.std.proofs.Common.{◌≡◌, inl, inr, ⊎_elim, ℕ, ◌+◌, ◌≤◌, List, [], ◌∷◌, ◌++◌, length, Option, Some, None, Result, Ok, Err, refl, sym, ap, subst, ◌∙◌, append_assoc, arith}
-use Rattle.rest_session.specs.Links.Links.{IsFront, spellings}
-use Rattle.rest_session.proofs.OfLinks.Progress.{replays_joined}
-use Rattle.http_wire.specs.Messages.{RequestMessage}
-use Rattle.service_core.specs.Described.Told.{AreWhole}
+use Rattle.std.proofs.Common.{◌≡◌, ◌⊎◌, inl, inr, ℕ, List, [], ◌∷◌, ◌++◌, Option, Result, refl, sym, ap, subst, ◌∙◌, append_assoc, arith}
+use Rattle.access_lists.specs.Tokens.Bearer.{TokenTable}
 use Rattle.edge_traits.specs.declared.disk.Disk.{Ghosts}
 use Rattle.flush_journal.specs.Batches.{records}
-use Rattle.flush_journal.specs.Files.{Content, content, held}
-use Rattle.flush_journal.specs.Frames.{frame_of, need_of}
-use Rattle.flush_journal.specs.declared.report.Report.{Report}
-use Rattle.flush_journal.specs.Moments.{Leaves}
-use Rattle.flush_journal.specs.Records.{Held, Record, put_record}
-use Rattle.flush_journal.specs.Refusals.{MayRefuse}
-use Rattle.flush_journal.specs.Standing.{HasEither, HoldsEither, IsSettled, disk_of, end_of, pending_of, with_batch}
-use Rattle.flush_journal.specs.Tries.{Tries, Writes}
-use Rattle.flush_journal.specs.Unchanged.{SameBytes, SameDisk}
-use Rattle.flush_journal.specs.declared.journal.Journal.{Journal}
-use Rattle.flush_journal.specs.declared.why.Why.{Why}
-use Rattle.flush_journal.specs.declared.why.Why.TheVariants as why
-use Rattle.flush_journal.proofs.ContentLemmas.{held-content}
-use Rattle.flush_journal.proofs.JournalLemmas.{either_held}
-use Rattle.flush_journal.proofs.Moments.{joined, no_call, weaker}
+use Rattle.flush_journal.specs.Files.{Content}
 use Rattle.flush_journal.specs.Keepings.Keepings.{IsBacked, settled}
+use Rattle.flush_journal.specs.Moments.{Leaves, LeavesSince}
+use Rattle.flush_journal.specs.Records.{Record, put_record}
+use Rattle.flush_journal.specs.Standing.{HoldsEither, disk_of, end_of, with_batch}
+use Rattle.flush_journal.specs.declared.journal.Journal.{Journal}
 use Rattle.flush_journal.specs.declared.keepings.keeping.Keeping.{Keeping}
-use Rattle.register.specs.Decided.{Door}
-use Rattle.register.specs.Kept.{all_kept, run_kept}
-use Rattle.service_core.specs.Records.{DescribesWorld, IsKept, IsWorldOf, OrNoMemory, WorldSays, as_kept, run_record}
-use Rattle.service_core.specs.Steps.{World}
-use Rattle.service_core.specs.Worlds.{State, seen}
+use Rattle.flush_journal.specs.declared.why.Why.{Why}
+use Rattle.flush_journal.proofs.Moments.{joined, weaker}
+use Rattle.http_wire.specs.Messages.{RequestMessage}
+use Rattle.service_core.specs.Journals.Begun.{IsBegunSince, IsOfDisk, IsUnstarted}
+use Rattle.service_core.specs.Journals.Opening.{IsOf}
 use Rattle.service_core.specs.KeptWorlds.{TellsWorld}
+use Rattle.service_core.specs.Records.{WorldSays, as_kept, run_record}
+use Rattle.service_core.specs.Worlds.{State}
+use Rattle.service_core.specs.declared.journals.beginning.BeginFault.{BeginFault}
+use Rattle.service_core.specs.declared.journals.beginning.BeginFault.TheVariants as begin
+use Rattle.rest_session.specs.Links.Links.{IsFront, spellings}
 use Rattle.rest_session.specs.Sessions.{IsServed, Served}
 use Rattle.rest_session.specs.Stood.{HoldsStood, IsStretch, StoodSince}
-use Rattle.access_lists.specs.Tokens.Bearer.{TokenTable}
-use Rattle.service_core.specs.Journals.Begun.{IsOpened, IsRecovered, begun}
-use Rattle.service_core.proofs.OfJournals.Beginning.{kept_then, recovered, recovered_begun, since_before, unbegun_from}
-use Rattle.rest_session.specs.Kept.Sessions.{HoldsHeld, IsEnded, IsEndedFrom}
-use Rattle.rest_session.specs.declared.kept.outcome.Outcome.{Outcome}
+use Rattle.rest_session.specs.Kept.Sessions.{HasCausesOf, HoldsHeld, IsDiskFault, IsEnded, IsLinkKept, of_begin}
+use Rattle.rest_session.specs.declared.kept.outcome.Closed.{Closed}
 use Rattle.rest_session.specs.declared.kept.outcome.Outcome.TheVariants as outcome
+use Rattle.rest_session.proofs.OfLinks.Progress.{replays_joined}
 
--- the journal and its keeping, at the begin of a session
-module _ {D : Type 0} {met : Ghosts D} (old new : Journal D met) (w v : State) (c : Content) (is : IsOpened old w c) (k : Keeping D met) (same : v ≡ begun w) where
-  told_first : ((m : Held) → WorldSays w m → WorldSays v (put_record (run_record w.door) m)) → (IsKept v → (m : Held) → WorldSays v m → DescribesWorld m v.door.run (seen v))
-      → TellsWorld (put_record (run_record w.door) c.held) (as_kept v)
-  told_first says described =
-      let d = described (subst IsKept (sym same) (kept_then old w c is)) (put_record (run_record w.door) c.held) (says c.held is.says) in
-      record { register = d.register; objects = d.objects; given = d.given; strays = d.strays }
+-- the first world stood while a link was served
+stood_first : {D : Type 0} {met : Ghosts D} (first final : Served met) (taken : List ℕ) → IsStretch first final taken first final → StoodSince first final taken 0 (as_kept first.world)
+stood_first first final taken whole = record {
+  at = first;
+  before = whole.before;
+  after = whole.between ++ whole.after;
+  read = subst (λ (ms : List RequestMessage). IsFront (spellings ms) taken) (append_assoc whole.before whole.between whole.after) whole.read;
+  answers = whole.first_answers;
+  later_answers = whole.answers ++ whole.later_answers;
+  reaches = whole.reaches;
+  follows = replays_joined IsServed first final final whole.between whole.after whole.answers whole.later_answers whole.passes whole.follows;
+  shown = refl;
+  late = omega arith;
+}
 
-  pub backed_first : OrNoMemory (Ok tt) (new ≡ old) (Writes old new c (run_record w.door ∷ []) (Ok tt)) → ((m : Held) → WorldSays w m → WorldSays v (put_record (run_record w.door) m))
-      → (IsKept v → (m : Held) → WorldSays v m → DescribesWorld m v.door.run (seen v)) → k.journal ≡ new → records k.building ≡ []
-      → IsBacked TellsWorld k.journal (records k.building) (WorldSays v) (as_kept v ∷ [])
-  backed_first (inl h) says described journal none = let no : ◌≡◌ {A = Result (Unit {0}) Why} (Ok tt) (Err why.NoMemory) = h.0 in absurd (cc)
-  backed_first (inr h) says described journal none =
-      subst (λ (j : Journal D met). IsBacked TellsWorld j (records k.building) (WorldSays v) (as_kept v ∷ [])) (sym journal)
-      (subst (λ (b : List Record). IsBacked TellsWorld new b (WorldSays v) (as_kept v ∷ [])) (sym none)
-      (settled (with_batch c (run_record w.door ∷ [])) h.ok (inl (told_first says described)) (says c.held is.says)))
+-- a keeping with the journal of a run that was begun, and its world
+module _ {D : Type 0} (met : Ghosts D) (before : D) (j : Journal D met) (v : State) (k : Keeping D met) (same : k.journal ≡ j) where
+  module _ (c : Content) (b : IsBegunSince met before j v c) where
+    told_first : TellsWorld (put_record (run_record v.register) c.held) (as_kept v)
+    told_first = let d = b.begun.describes in record { register = d.register; objects = d.objects; given = d.given; strays = d.strays }
 
-  -- since the journal was opened, up to the end of the link that was served then
-  module _ (tokens : TokenTable) (final : Served met) (taken : List ℕ) (after : D) where
-    abbrev pub starts : Served met
-    starts = record { tokens = tokens; world = v; keeping = k }
+    pub backed_first : records k.building ≡ [] → IsBacked TellsWorld k.journal (records k.building) (WorldSays v) (as_kept v ∷ [])
+    backed_first none =
+        subst (λ (x : Journal D met). IsBacked TellsWorld x (records k.building) (WorldSays v) (as_kept v ∷ [])) (sym same)
+        (subst (λ (rs : List Record). IsBacked TellsWorld j rs (WorldSays v) (as_kept v ∷ [])) (sym none)
+        (settled (with_batch c (run_record v.register ∷ [])) b.begun.settled (inl told_first) b.begun.says))
 
-    pub left_since_opened : OrNoMemory (Ok tt) (new ≡ old) (Writes old new c (run_record w.door ∷ []) (Ok tt)) → ((m : Held) → WorldSays w m → WorldSays v (put_record (run_record w.door) m))
-        → (IsKept v → (m : Held) → WorldSays v m → DescribesWorld m v.door.run (seen v)) → k.journal ≡ new → k.kept ≡ 0
-        → IsStretch starts final taken starts final
-        → Leaves met (disk_of k.journal) after (HoldsStood starts final taken k.kept)
-        → Leaves met (disk_of old) after (HoldsHeld c.held starts final taken)
-    left_since_opened (inl h) says described journal none whole later = let no : ◌≡◌ {A = Result (Unit {0}) Why} (Ok tt) (Err why.NoMemory) = h.0 in absurd (cc)
-    left_since_opened (inr h) says described journal none whole later =
-        joined met (disk_of old) (disk_of new) after (HoldsHeld c.held starts final taken)
-        (weaker met (disk_of old) (disk_of new) (HasEither c (with_batch c (run_record w.door ∷ []))) (HoldsHeld c.held starts final taken)
-        (λ file has. at file (either_held c (run_record w.door ∷ []) file has)) h.moments)
-        (subst (λ (j : Journal D met). Leaves met (disk_of j) after (HoldsHeld c.held starts final taken)) journal
-        (weaker met (disk_of k.journal) after (HoldsStood starts final taken k.kept) (HoldsHeld c.held starts final taken)
-        (λ file holds. inr (subst (λ (n : ℕ). HoldsStood starts final taken n file) none holds)) later)) where
-          stood : StoodSince starts final taken 0 (as_kept v)
-          stood = record {
-            at = starts;
-            before = whole.before;
-            after = whole.between ++ whole.after;
-            read = subst (λ (ms : List RequestMessage). IsFront (spellings ms) taken) (append_assoc whole.before whole.between whole.after) whole.read;
-            answers = whole.first_answers;
-            later_answers = whole.answers ++ whole.later_answers;
-            reaches = whole.reaches;
-            follows = replays_joined IsServed starts final final whole.between whole.after whole.answers whole.later_answers whole.passes whole.follows;
-            shown = refl;
-            late = omega arith;
-          }
+  module _ (tokens : TokenTable) where
+    abbrev first : Served met
+    first = record { tokens = tokens; world = v; keeping = k }
 
-          at : (file : List ℕ) → HoldsEither c.held (put_record (run_record w.door) c.held) file → HoldsHeld c.held starts final taken file
-          at file (inl was) = inl was
-          at file (inr now) = inr (as_kept v, (put_record (run_record w.door) c.held, now, told_first says described), stood)
+    module _ (final : Served met) (taken : List ℕ) (whole : IsStretch first final taken first final) (c : Content) (b : IsBegunSince met before j v c) where
+      abbrev IsLeft : List ℕ → Type 0
+      IsLeft file = met.images before file ⊎ HoldsHeld c.held first final taken file
 
-module _ {D : Type 0} (met : Ghosts D) (before : D) (j : Journal D met) (w : State) (after : D) (tokens : TokenTable) (lb la hb ha : Option (List ℕ))
-    (opened : met.honest → (c : Content) × (content (met.reads before) ≡ Ok c) × IsOpened j w c) (same : SameDisk met before (disk_of j))
-    (only_now : (disk : D) (file : List ℕ) → met.honest → met.left_since disk (met.moment disk) file → met.images disk file) (bytes : met.honest → SameBytes met before (disk_of j)) where
-  pub ended_from : (o : Outcome) → IsEndedFrom j w after tokens lb la hb ha o → IsEnded met before after tokens lb la hb ha o
-  ended_from (outcome.Unopened why) h = absurd h
-  ended_from (outcome.Unbegun why) h = (unbegun_from met before j w after opened same only_now bytes why h.0 h.1 h.2 h.3, h.4, h.5)
-  ended_from (outcome.Served closed last) h = (
-    h.0,
-    h.1,
-    (λ honest. let o = opened honest in (
-      o.0,
-      o.1,
-      record {
-        recovered = subst (λ (x : State). IsRecovered o.0.held (seen x)) (sym h.2) (recovered_begun o.0.held w (recovered o.0.held o.0.lanes w o.2.world o.2.whole));
-        kept = subst IsKept (sym h.2) (kept_then j w o.0 o.2);
-        end = h.5 ∙ ap (λ (n : ℕ). n + length (frame_of (run_record w.door ∷ []))) o.2.settled.numbers.end
-            ∙ ap (λ (x : State). o.0.end + length (frame_of (run_record x.door ∷ []))) (sym h.2);
-      },
-    )),
-    h.3,
-    λ honest. let o = opened honest in (o.0, o.1, since_before met before (disk_of j) after (HoldsHeld o.0.held h.0 h.3.final h.3.taken) only_now honest (bytes honest) (h.4 honest o.0 o.2)),
-  )
+      of_begun : (file : List ℕ) → met.images before file ⊎ HoldsEither c.held (put_record (run_record v.register) c.held) file → IsLeft file
+      of_begun file (inl old) = inl old
+      of_begun file (inr (inl was)) = inr (inl was)
+      of_begun file (inr (inr now)) = inr (inr (as_kept v, (put_record (run_record v.register) c.held, now, told_first c b), stood_first first final taken whole))
+
+      -- since the disk as it was, up to the end of the link that was served
+      left_since : (after : D) → k.kept ≡ 0 → Leaves met (disk_of k.journal) after (HoldsStood first final taken k.kept) → LeavesSince met before after (HoldsHeld c.held first final taken)
+      left_since after none later = joined met before (disk_of j) after IsLeft
+          (weaker met before (disk_of j) (λ file. met.images before file ⊎ HoldsEither c.held (put_record (run_record v.register) c.held) file) IsLeft of_begun b.crash)
+          (subst (λ (x : Journal D met). Leaves met (disk_of x) after IsLeft) same
+          (weaker met (disk_of k.journal) after (HoldsStood first final taken k.kept) IsLeft
+          (λ file holds. inr (inr (subst (λ (n : ℕ). HoldsStood first final taken n file) none holds))) later))
+
+    pub served_since : (after : D) (lb la hb ha : Option (List ℕ)) (closed : Closed) (last : Result ℕ Why) → (met.honest → IsOf (met.reads before) (IsBegunSince met before j v)) → k.kept ≡ 0
+        → IsLinkKept first after lb la hb ha closed last → IsEnded met before after tokens lb la hb ha (outcome.Served closed last)
+    served_since after lb la hb ha closed last on none link = (
+      first,
+      refl,
+      (λ honest. let o = on honest in (o.0, o.1, record { recovered = o.2.begun.recovered; kept = o.2.begun.kept; end = ap end_of same ∙ o.2.begun.end })),
+      link,
+      λ honest. let o = on honest in (o.0, o.1, left_since link.final link.taken link.stretch o.0 o.2 after none (link.last_crash honest first link.stretch)),
+    )
+
+-- a session of which no run was begun
+pub not_served : {D : Type 0} (met : Ghosts D) (before after : D) (tokens : TokenTable) (left held : Option (List ℕ)) (why : BeginFault) → IsUnstarted met before after why
+    → IsEnded met before after tokens left left held held (of_begin why)
+not_served met before after tokens left held (begin.Unopened refusal) h = (h.0, h.1, refl, refl)
+not_served met before after tokens left held (begin.Unbegun refusal) h = (h, refl, refl)
+
+pub causes_unserved : (read written : ℕ) (why : BeginFault) → HasCausesOf read read written written (of_begin why)
+causes_unserved read written (begin.Unopened refusal) = (refl, refl)
+causes_unserved read written (begin.Unbegun refusal) = (refl, refl)
+
+pub fault_unserved : (why : BeginFault) → IsDiskFault (of_begin why) → IsOfDisk why
+fault_unserved (begin.Unopened refusal) h = h
+fault_unserved (begin.Unbegun refusal) h = h

@@ -44,14 +44,14 @@ earlier s t taken least kept w le h = record {
 
 module _ {D : Type 0} {met : Ghosts D} (first final : Served met) (taken : List ℕ) (k : Keeping D met) (w : State) (last : Result ℕ Why) (keeps : KeepsWorld final.keeping final.world k w last) where
   -- after Ok all is kept
-  pub all_kept_then : (front : ℕ) → front ≡ w.door.places → OnOk last (k.kept ≡ front)
+  pub all_kept_then : (front : ℕ) → front ≡ w.register.places → OnOk last (k.kept ≡ front)
   all_kept_then front is = by last keeps where
     by : (r : Result ℕ Why) → KeepsWorld final.keeping final.world k w r → OnOk r (k.kept ≡ front)
     by (Ok n) h = h.kept ∙ h.number ∙ sym is
     by (Err e) h = tt
 
-  pub places : final.world.door.places ≡ w.door.places
-  places = ap (λ (x : World). x.door.places) (sym keeps.same)
+  pub places : final.world.register.places ≡ w.register.places
+  places = ap (λ (x : World). x.register.places) (sym keeps.same)
 
   -- a fault of the disk was counted
   pub fault_rose : SameDisk met (disk_of first.keeping.journal) (disk_of final.keeping.journal) → last ≡ Err DiskFault → Rose (met.faults (disk_of first.keeping.journal)) (met.faults (disk_of k.journal))
@@ -76,7 +76,7 @@ module _ {D : Type 0} {met : Ghosts D} (first final : Served met) (taken : List 
     stood_in least le image m e (v ∷ vs) all (inl told) = (v, (m, e, told), earlier first final taken least final.keeping.kept v le all.0)
     stood_in least le image m e (v ∷ vs) all (inr told) = stood_in least le image m e vs all.1 told
 
-    stands_now : (least : ℕ) → least ≤ final.world.door.places → (image : List ℕ) (m : Held) → held image ≡ Some m → TellsWorld m (as_kept w) → HoldsStood first final taken least image
+    stands_now : (least : ℕ) → least ≤ final.world.register.places → (image : List ℕ) (m : Held) → held image ≡ Some m → TellsWorld m (as_kept w) → HoldsStood first final taken least image
     stands_now least le image m e told = (as_kept w, (m, e, told), subst (StoodSince first final taken least) (sym keeps.same) (are.now least le))
 
     -- from a moment of the link up to the keeping after its end

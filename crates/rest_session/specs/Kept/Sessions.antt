@@ -2,25 +2,25 @@
 --     IsBegun c first      a session begins with it, and with nothing to be written
 --     IsLinkKept first after ..      a link was served from a world on, and what changed was kept
 --     IsEnded before after .. outcome      what a session came to
-use Rattle.std.specs.Prelude.{◌≡◌, ◌⊎◌, ℕ, ◌+◌, List, [], ◌∷◌, length, Option, Some, None, Result, Ok, Err, OnOk}
+use Rattle.std.specs.Prelude.{◌≡◌, ◌⊎◌, ℕ, ◌+◌, List, [], ◌∷◌, length, Option, Some, Result, Err, OnOk}
 use Rattle.std.specs.Io.KnownBytes.{Appends, Consumes}
 use Rattle.std.specs.List.{AllByRecursion}
 use Rattle.access_lists.specs.Tokens.Bearer.{TokenTable}
 use Rattle.edge_traits.specs.declared.disk.Disk.{Ghosts}
-use Rattle.flush_journal.specs.Batches.{records}
-use Rattle.flush_journal.specs.Files.{Content, content, held}
+use Rattle.flush_journal.specs.Files.{Content, held}
 use Rattle.flush_journal.specs.Frames.{frame_of}
 use Rattle.flush_journal.specs.Moments.{Leaves, LeavesSince}
 use Rattle.flush_journal.specs.Keepings.Keepings.{IsNewKeeping}
-use Rattle.flush_journal.specs.Records.{Held, Record, put_record}
-use Rattle.flush_journal.specs.Standing.{HoldsEither, IsSettled, disk_of, end_of, pending_of}
+use Rattle.flush_journal.specs.Records.{Held, Record}
+use Rattle.flush_journal.specs.Standing.{disk_of, end_of, pending_of}
 use Rattle.flush_journal.specs.Unchanged.{SameBytes}
-use Rattle.flush_journal.specs.declared.journal.Journal.{Journal}
 use Rattle.flush_journal.specs.declared.why.Why.{Why}
 use Rattle.flush_journal.specs.declared.why.Why.TheVariants as why
 use Rattle.flush_journal.specs.declared.keepings.keeping.Keeping.{Keeping}
 use Rattle.service_core.specs.Journals.Opening.{IsOf, MayRefuseOpening}
-use Rattle.service_core.specs.Journals.Begun.{IsOpened, IsRecovered, IsUnbegun, IsUnwritten, MayRefuseRun, begun}
+use Rattle.service_core.specs.Journals.Begun.{IsRecovered, IsUnbegun}
+use Rattle.service_core.specs.declared.journals.beginning.BeginFault.{BeginFault}
+use Rattle.service_core.specs.declared.journals.beginning.BeginFault.TheVariants as begin
 use Rattle.service_core.specs.declared.journals.faults.OpenFault.TheVariants as fault
 use Rattle.rest_session.specs.Links.Links.{HasCauses, IsTranscript}
 use Rattle.service_core.specs.Records.{IsKept, as_kept, run_record}
@@ -39,7 +39,7 @@ use Rattle.rest_session.specs.declared.kept.outcome.Outcome.TheVariants as outco
 pub record IsBegun {D : Type 0} {met : Ghosts D} (c : Content) (first : Served met) : Type 0 where
   pub recovered : IsRecovered c.held (seen first.world)
   pub kept : IsKept first.world
-  pub end : end_of first.keeping.journal ≡ c.end + length (frame_of (run_record first.world.door ∷ []))
+  pub end : end_of first.keeping.journal ≡ c.end + length (frame_of (run_record first.world.register ∷ []))
 
 -- ---- what a crash leaves
 
@@ -66,7 +66,7 @@ pub record IsLinkKept {D : Type 0} {met : Ghosts D} (first : Served met) (after 
   pub transcript : IsTranscript IsServed first taken sent left_after final closed.end
   pub last_keeping : KeepsWorld final.keeping final.world keeping world last
   pub disk : after ≡ disk_of keeping.journal
-  pub front : closed.front ≡ final.world.door.places
+  pub front : closed.front ≡ final.world.register.places
   pub kept : closed.kept ≡ keeping.kept
   pub all : OnOk last (closed.kept ≡ closed.front)
   pub waits : (rs : List Record) → pending_of keeping.journal ≡ Some rs → AllByRecursion (IsOfStood first final taken closed.kept) rs
@@ -100,17 +100,8 @@ IsDiskFault (Unopened refusal) = refusal ≡ fault.DiskFault
 IsDiskFault (Unbegun refusal) = refusal ≡ why.DiskFault
 IsDiskFault (outcome.Served closed last) = last ≡ Err why.DiskFault
 
--- ---- what the parts of a session say
+-- ---- a run that was not begun
 
--- from an opened world on
-abbrev pub IsEndedFrom : {D : Type 0} {met : Ghosts D} → Journal D met → State → D → TokenTable → Option (List ℕ) → Option (List ℕ) → Option (List ℕ) → Option (List ℕ) → Outcome → Type 0
-IsEndedFrom j w after tokens lb la hb ha (Unopened why) = ⊥
-IsEndedFrom {D} {met} j w after tokens lb la hb ha (Unbegun why) =
-    MayRefuseRun (seen w) (end_of j) (met.most (disk_of j)) (met.faults (disk_of j)) (met.faults after) why
-    × (met.honest → (image : List ℕ) → met.images after image → (c : Content) → IsSettled j c → HoldsEither c.held (put_record (run_record w.door) c.held) image)
-    × (met.honest → IsUnwritten why → (image : List ℕ) → met.images after image → (c : Content) → IsSettled j c → content image ≡ Ok c)
-    × (met.honest → (c : Content) → IsSettled j c → Leaves met (disk_of j) after (HoldsEither c.held (put_record (run_record w.door) c.held))) × (la ≡ lb) × (ha ≡ hb)
-IsEndedFrom {D} {met} j w after tokens lb la hb ha (outcome.Served closed last) =
-    (first : Served met) × (first.tokens ≡ tokens) × (first.world ≡ begun w) × (kept : IsLinkKept first after lb la hb ha closed last)
-    × (met.honest → (c : Content) → IsOpened j w c → Leaves met (disk_of j) after (HoldsHeld c.held first kept.final kept.taken))
-    × (end_of first.keeping.journal ≡ end_of j + length (frame_of (run_record w.door ∷ [])))
+abbrev pub of_begin : BeginFault → Outcome
+of_begin (begin.Unopened why) = Unopened why
+of_begin (begin.Unbegun why) = Unbegun why

@@ -1,6 +1,9 @@
+ghost use Rattle.std.specs.Prelude.{◌≡◌};
+ghost use Rattle.rest_session.specs.Kept.Sessions.{of_begin};
+
 use crate::links::LinkEnd;
 use flush_journal::Why;
-use service_core::journals::OpenFault;
+use service_core::journals::{BeginFault, OpenFault};
 
 /// How a link that was served over a world left it.
 #[derive(Clone, Copy, Debug, PartialEq, Eq)]
@@ -36,4 +39,15 @@ pub struct Ended<D> {
     pub disk: D,
     /// What it came to.
     pub outcome: Outcome,
+}
+
+impl From<BeginFault> for Outcome {
+    ghost from_gives = { λ fault outcome. outcome ≡ of_begin fault };
+
+    fn from(fault: BeginFault) -> Outcome {
+        match fault {
+            BeginFault::Unopened(why) => Outcome::Unopened(why),
+            BeginFault::Unbegun(why) => Outcome::Unbegun(why),
+        }
+    }
 }

@@ -1,6 +1,5 @@
-ghost use Rattle.std.specs.Prelude.{◌≡◌, ◌≤◌, ◌∷◌, [], ℕ, None, Result};
-ghost use Rattle.flush_journal.specs.Files.{Content};
-ghost use Rattle.flush_journal.specs.Standing.{disk_of, pending_of};
+ghost use Rattle.std.specs.Prelude.{◌≡◌, ◌≤◌, ◌∷◌, [], ℕ, Result};
+ghost use Rattle.flush_journal.specs.Standing.{disk_of};
 ghost use Rattle.flush_journal.specs.Unchanged.{SameDisk};
 ghost use Rattle.rest_session.specs.Sessions.{Served};
 ghost use Rattle.rest_session.specs.Stood.{IsBackedBy};
@@ -8,10 +7,8 @@ ghost use Rattle.service_core.specs.Records.{as_kept};
 ghost use Rattle.flush_journal.specs.declared.why.Why.{Why};
 ghost use Rattle.rest_session.specs.Links.Links.{HasCauses};
 ghost use Rattle.edge_traits.specs.Causes.{Rose};
-ghost use Rattle.rest_session.specs.Kept.Sessions.{HasCausesOf, IsDiskFault, IsEnded, IsEndedFrom};
-ghost use Rattle.rest_session.specs.Kept.Sessions.{IsLinkKept};
+ghost use Rattle.rest_session.specs.Kept.Sessions.{HasCausesOf, IsDiskFault, IsEnded, IsLinkKept};
 ghost use Rattle.flush_journal.specs.Keepings.Keepings.{IsNewKeeping};
-ghost use Rattle.service_core.specs.Journals.Begun.{IsOpened};
 ghost use Rattle.rest_session.specs.declared.kept.outcome.Closed.{Closed};
 
 use crate::kept::outcome::{Closed, Ended, Outcome};
@@ -19,11 +16,10 @@ use crate::links::LinkEnd;
 use crate::{serve_world, what_is_kept_stood, what_waits_stood};
 use edge_traits::{Disk, Link};
 use flush_journal::keepings::{Keeping, images_are_kept};
-use flush_journal::{Journal, Why};
+use flush_journal::Why;
 use rest_requests::Tokens;
 use service_core::World;
-use service_core::described::objects_are_whole;
-use service_core::journals::{OpenRefused, Opened, open_world};
+use service_core::journals::{BeginRefused, Begun, begin_world};
 use std::alloc::Global;
 
 /// Opens the world that a disk keeps, begins a run of it, serves it over one link, and keeps what changed.
@@ -46,46 +42,14 @@ pub fn serve_disk<D: Disk, L: Link>(
     ensures disk_fault { IsDiskFault result.outcome
         → Rose (D.faults disk) (D.faults result.disk) }
 {
-    match open_world(alloc, disk) {
-        Ok(Opened { journal, world }) => {
-            objects_are_whole(&world);
-            serve_opened(alloc, tokens, link, journal, world)
-        }
-        Err(OpenRefused { disk, why }) => Ended {
-            disk,
-            outcome: Outcome::Unopened(why),
-        },
-    }
-}
-
-// Begins a run of an opened world, serves it and keeps it.
-fn serve_opened<D: Disk, L: Link>(
-    alloc: Global,
-    tokens: &Tokens,
-    link: &mut L,
-    mut journal: Journal<D>,
-    mut world: World,
-) -> Ended<D>
-    requires opened { D.honest → (c : Content) × IsOpened journal world c }
-    requires idle { pending_of journal ≡ None }
-    ensures ended { IsEndedFrom journal world result.disk tokens.now
-        (L.left link.old) (L.left link.new) (L.held link.old) (L.held link.new) result.outcome }
-    ensures causes { HasCausesOf (L.Source.faults link.old) (L.Source.faults link.new)
-        (L.Sink.faults link.old) (L.Sink.faults link.new) result.outcome }
-    ensures names { L.Source.names link.new ≡ L.Source.names link.old }
-    ensures same { SameDisk D.Disk (disk_of journal) result.disk }
-    ensures disk_fault { IsDiskFault result.outcome
-        → Rose (D.faults (disk_of journal)) (D.faults result.disk) }
-{
-    match world.begin_run(&mut journal) {
-        Ok(()) => {
-            world.is_described();
+    match begin_world(alloc, disk) {
+        Ok(Begun { journal, world }) => {
             let keeping = Keeping::new(alloc, journal);
             serve_begun(alloc, tokens, link, keeping, world)
         }
-        Err(why) => Ended {
-            disk: journal.into_disk(),
-            outcome: Outcome::Unbegun(why),
+        Err(BeginRefused { disk, why }) => Ended {
+            disk,
+            outcome: Outcome::from(why),
         },
     }
 }
@@ -101,7 +65,7 @@ fn serve_begun<D: Disk, L: Link>(
     requires backed { D.honest
         → IsBackedBy (record { tokens = tokens.now; world = world; keeping = keeping })
         (as_kept world ∷ []) }
-    requires kept { keeping.kept ≤ world.door.places }
+    requires kept { keeping.kept ≤ world.register.places }
     requires new { IsNewKeeping keeping }
     ensures served { (closed : Closed) × (last : Result ℕ Why)
         × (result.outcome ≡ Outcome.Served closed last)

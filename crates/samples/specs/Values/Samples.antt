@@ -12,7 +12,7 @@ unfoldable pub state : ℕ → ℕ → ℕ
 state n zero = n
 state n (suc k) = next_state (state n k)
 
--- the element at the place k, in row-major order
+-- the element at the linear index k, in row-major order
 unfoldable pub element : ℕ → ℕ → ℕ
 element n k = state n k / 2 ^ 33
 

@@ -67,7 +67,7 @@ module _ {P : Data → Type 0} {Q : Object → Type 0} {G : Grid → Type 0} {S 
 
   module _ (w : World) (caller : Caller) (request : Request) (sound : S request.op) (h : AreAll t w.objects) where
     given : Gives ((step w caller request).0, (step w caller request).1.objects)
-    given = verdict_gives request.op (decided w.door caller request).0 w.objects (decisions_have t w.door caller request) sound h
+    given = verdict_gives request.op (decided w.register caller request).0 w.objects (decisions_have t w.register caller request) sound h
 
     answered : (what : What) (v : World) → (what, v) ≡ step w caller request → Gives (what, v.objects)
     answered what v said = subst (λ (p : What × World). Gives (p.0, p.1.objects)) (sym said) given
@@ -79,6 +79,6 @@ module _ {P : Data → Type 0} {Q : Object → Type 0} {G : Grid → Type 0} {S 
       tt,
       ⊎_elim
           (λ early. subst (λ (x : World). AreAll t x.objects) (sym early.1) h)
-          (λ late. stopped request.op (decided w.door caller request).0 w.objects v.objects late.1 sound h)
+          (λ late. stopped request.op (decided w.register caller request).0 w.objects v.objects late.1 sound h)
           said.1,
     )

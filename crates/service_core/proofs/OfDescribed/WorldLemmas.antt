@@ -28,7 +28,7 @@ module _ (lanes_stand : (lanes lane run next : ℕ) (held : Held) (objects : Id 
     given_to : (last next : ℕ) → IsRun held last → IsNextNumber held next → AreGivenUpTo last next w.objects
     given_to last next is_run is_next id o there = let given = told.given id o there in (
       subst (λ (n : ℕ). id.run ≤ n) (same_run held run last told.register.kept is_run) given.0,
-      subst (λ (n : ℕ). id.domain < n) (one_next held w.door.catalogue.next next told.register.next is_next) given.1,
+      subst (λ (n : ℕ). id.domain < n) (one_next held w.register.catalogue.next next told.register.next is_next) given.1,
     )
 
     no_lane : (lanes last next : ℕ) (key : List ℕ) → IsRun held last → IsNextNumber held next → IsFirstFault lanes last next held key → ⊥
@@ -36,7 +36,7 @@ module _ (lanes_stand : (lanes lane run next : ℕ) (held : Held) (objects : Id 
         (record { bodies = kept; described = λ id range own. told.objects id range; given = given_to last next is_run is_next }) key first.least.has
 
     none_at : (lanes : ℕ) (key : List ℕ) → IsWorldFault lanes held key → ⊥
-    none_at lanes key (of_register least) = registers_stand held run w.door.catalogue told.register key least.has
+    none_at lanes key (of_register least) = registers_stand held run w.register.catalogue told.register key least.has
     none_at lanes key (of_lane last next is_run is_next none first) = no_lane lanes last next key is_run is_next first
     none_at lanes key (of_none last next is_run is_next none all least) = told.strays key least.has
 
@@ -63,17 +63,17 @@ module _ (objects_are_one : (held : Held) (id : Id) (a b : Option Object) → Is
       catalogue = registers.1;
       objects = same_map id_order_total id_order_once v.objects w.objects at_id;
     } where
-      registers : (other ≡ run) × (v.door.catalogue ≡ w.door.catalogue)
-      registers = registers_are_one held run other w.door.catalogue v.door.catalogue x.register y.register
+      registers : (other ≡ run) × (v.register.catalogue ≡ w.register.catalogue)
+      registers = registers_are_one held run other w.register.catalogue v.register.catalogue x.register y.register
 
   pub worlds_are_one : WorldsAreOne
   worlds_are_one held run other w v ws vs x y = one_world held run other w v ws vs x y
 
   pub installs_are_one : InstallsAreOne
-  installs_are_one held lanes s t ss ts x y = λ i. record { door = doors i; objects = one.objects i } where
+  installs_are_one held lanes s t ss ts x y = λ i. record { register = register i; objects = one.objects i } where
     one : AreOne x.register.kept y.register.kept (seen s) (seen t)
     one = one_world held x.register.kept y.register.kept (seen s) (seen t) ss ts x.describes y.describes
 
-    doors : t.door ≡ s.door
-    doors = y.register.begins ∙ ap (λ (c : Contents). installed c lanes (y.register.kept + 1)) one.catalogue
-        ∙ ap (λ (n : ℕ). installed s.door.catalogue lanes (n + 1)) one.run ∙ sym x.register.begins
+    register : t.register ≡ s.register
+    register = y.register.begins ∙ ap (λ (c : Contents). installed c lanes (y.register.kept + 1)) one.catalogue
+        ∙ ap (λ (n : ℕ). installed s.register.catalogue lanes (n + 1)) one.run ∙ sym x.register.begins

@@ -17,7 +17,7 @@ use Rattle.domains.specs.declared.classes.NodeClass.{NodeClass}
 use Rattle.domains.specs.declared.classes.NodeClass.TheVariants.{Folder, Domain}
 use Rattle.object_acts.specs.declared.objects.Object.{Object}
 use Rattle.object_acts.specs.Objects.{empty_group, Objects}
-use Rattle.register.specs.Decided.{Door, IsGivenOut, opened}
+use Rattle.register.specs.Decided.{IsGivenOut, RegisterState, opened}
 use Rattle.service_core.specs.Journals.Groups.{AreFirstRoots, HasFirstGroups, MayHaveGroup, MayHaveGroups}
 use Rattle.service_core.specs.Journals.Groups.{groups_on, root_in, roots_in, roots_of}
 use Rattle.service_core.proofs.OfJournals.RootLemmas.{HasRoot, IsAmong, Nodes, among_root, found_first, found_later, later_path, root_among, tail_rises}
@@ -124,14 +124,14 @@ module _ (c : Contents) where
   -- ---- each root is free
 
   -- an empty world of the catalogue
-  module _ (door : Door) (is : door.catalogue ≡ c) (valid : IsCatalogue c) (given : (path : List ℕ) (number : ℕ) (root : Id) → IsDomainAt c path number root → IsGivenOut door.run door.serial root) where
+  module _ (register : RegisterState) (is : register.catalogue ≡ c) (valid : IsCatalogue c) (given : (path : List ℕ) (number : ℕ) (root : Id) → IsDomainAt c path number root → IsGivenOut register.run register.serial root) where
     may_have : (path : List ℕ) (number : ℕ) (root : Id) (objects : Objects) → IsDomainAt c path number root → get objects root ≡ None
-        → MayHaveGroup (record { door = door; objects = objects }) root
+        → MayHaveGroup (record { register = register; objects = objects }) root
     may_have path number root objects at free =
         let group = valid.roots path number root at in
         record {
           given = record {
-            number = subst (λ (n : ℕ). n < door.catalogue.next) (sym group.1)
+            number = subst (λ (n : ℕ). n < register.catalogue.next) (sym group.1)
                 (subst (λ (k : Contents). number < k.next) (sym is) (valid.below path number root at));
             out = given path number root at;
           };
@@ -141,7 +141,7 @@ module _ (c : Contents) where
 
     pub each_may : (nodes : Nodes) (objects : Objects) → T (is_sorted text_order nodes) → AreOf nodes
         → ((id : Id) → IsAmong id (roots_in nodes) → get objects id ≡ None)
-        → MayHaveGroups (record { door = door; objects = objects }) (roots_in nodes)
+        → MayHaveGroups (record { register = register; objects = objects }) (roots_in nodes)
     each_may [] objects rising own free = tt
     each_may (e ∷ es) objects rising own free = go (root_in e.1.class) refl free (each_may es)
       where
@@ -151,8 +151,8 @@ module _ (c : Contents) where
         go : (o : Option Id) → root_in e.1.class ≡ o → ((id : Id) → IsAmong id (cons_option o (roots_in es)) → get objects id ≡ None)
             → ((objects : Objects) → T (is_sorted text_order es) → AreOf es
             → ((id : Id) → IsAmong id (roots_in es) → get objects id ≡ None)
-            → MayHaveGroups (record { door = door; objects = objects }) (roots_in es))
-            → MayHaveGroups (record { door = door; objects = objects }) (cons_option o (roots_in es))
+            → MayHaveGroups (record { register = register; objects = objects }) (roots_in es))
+            → MayHaveGroups (record { register = register; objects = objects }) (cons_option o (roots_in es))
         go None is free later = later objects (tail_rises e es rising) own_later free
         go (Some root) is free later = (
           may_have e.0 here.0 root objects here.1 (free root (inl refl)),
@@ -191,7 +191,7 @@ module _ (c : Contents) where
 
 -- a world without objects may have a group at each root
 pub first_may : (c : Contents) (lanes : ℕ) → IsCatalogue c → AreFirstRoots c
-    → MayHaveGroups (record { door = opened c lanes 0; objects = empty }) (roots_of c)
+    → MayHaveGroups (record { register = opened c lanes 0; objects = empty }) (roots_of c)
 first_may c lanes valid first =
     each_may c (opened c lanes 0) refl valid first (entries c.nodes) empty (entries_sorted c.nodes)
     (λ path node found. get-entries c.nodes path ∙ found) (λ id among. get-empty id_order id)

@@ -24,7 +24,7 @@ use Rattle.chunk_owner.specs.Slots.Bodies.{IsRecordOf, of_chunk, of_none, of_obj
 use Rattle.chunk_owner.specs.Slots.Slots.{Describes}
 use Rattle.chunk_owner.specs.Lanes.{Lane}
 use Rattle.chunk_owner.specs.Owners.Records.{AreUndropped, IsMarkedIn}
-use Rattle.register.specs.Decided.{Door, opened}
+use Rattle.register.specs.Decided.{RegisterState, opened}
 use Rattle.register.specs.Kept.{IsRegisterRecord, a_node, all_kept, is_marked, of_next, of_node, of_run, the_next, the_run}
 use Rattle.register.specs.Kept.{of_none as of_no_node}
 use Rattle.service_core.specs.Records.{DescribesWorld, IsCutRecord, IsKept, IsSameWorld, IsWorldMarked, IsWorldRecord, WorldSays, as_kept}
@@ -57,14 +57,14 @@ no_lane_key (l ∷ ls) key path is (inl m) = ⊎_elim
 no_lane_key (l ∷ ls) key path is (inr later) = no_lane_key ls key path is later
 
 -- the first cut writes no record of a missing node
-module _ (c : Contents) (lanes : ℕ) (s : State) (opens : s.door ≡ opened c lanes 0) where
+module _ (c : Contents) (lanes : ℕ) (s : State) (opens : s.register ≡ opened c lanes 0) where
   no_missing_node : (key path : List ℕ) → key ≡ node_key path → get c.nodes path ≡ None → IsWorldMarked s key → ⊥
   no_missing_node key path is none (inl (the_run on same)) = let bad : node_key path ≡ run_key = sym is ∙ same in cc
   no_missing_node key path is none (inl (the_next on same)) = let bad : node_key path ≡ next_key = sym is ∙ same in cc
   no_missing_node key path is none (inl (a_node q on same)) =
       let keys : node_key q ≡ node_key path = sym same ∙ is in
       let paths : q ≡ path = cc in
-      let marked : is_marked (opened c lanes 0) path ≡ true = subst (λ (p : List ℕ). is_marked (opened c lanes 0) p ≡ true) paths (subst (λ (d : Door). is_marked d q ≡ true) opens on) in
+      let marked : is_marked (opened c lanes 0) path ≡ true = subst (λ (p : List ℕ). is_marked (opened c lanes 0) p ≡ true) paths (subst (λ (d : RegisterState). is_marked d q ≡ true) opens on) in
       let off : is_marked (opened c lanes 0) path ≡ false =
       ap (λ (o : Option Node). contains_key (empty {X = Bool} {R = text_order}) path || (true && is_some o)) none
       ∙ ap (λ (o : Option Bool). is_some o || (true && false)) (get-empty text_order path) in
@@ -72,19 +72,19 @@ module _ (c : Contents) (lanes : ℕ) (s : State) (opens : s.door ≡ opened c l
   no_missing_node key path is none (inr marked) = no_lane_key s.lanes key path is marked
 
 -- once what is held describes the world
-module _ (c : Contents) (lanes : ℕ) (s : State) (opens : s.door ≡ opened c lanes 0) (groups : HasFirstGroups c (as_kept s).objects) (undropped : AreUndropped s.lanes) (held : Held) (run : ℕ)
+module _ (c : Contents) (lanes : ℕ) (s : State) (opens : s.register ≡ opened c lanes 0) (groups : HasFirstGroups c (as_kept s).objects) (undropped : AreUndropped s.lanes) (held : Held) (run : ℕ)
     (told : DescribesWorld held run (as_kept s)) where
   is_held : (r : Record) (key found : List ℕ) → r.0 ≡ key → get held r.0 ≡ None → get held key ≡ Some found → ⊥
   is_held r key found is none here = absurd (let bad : None ≡ Some found = sym none ∙ ap (get held) is ∙ here in cc)
 
-  no_register_gap : (r : Record) → IsWorldMarked s r.0 → get held r.0 ≡ None → IsRegisterRecord (all_kept s.door) r → ⊥
+  no_register_gap : (r : Record) → IsWorldMarked s r.0 → get held r.0 ≡ None → IsRegisterRecord (all_kept s.register) r → ⊥
   no_register_gap r marked none (of_run is) = is_held r run_key (run_bytes run) (ap (λ (x : Record). x.0) is) none told.register.kept.here
-  no_register_gap r marked none (of_next is) = is_held r next_key (next_bytes s.door.catalogue.next) (ap (λ (x : Record). x.0) is) none told.register.next.here
+  no_register_gap r marked none (of_next is) = is_held r next_key (next_bytes s.register.catalogue.next) (ap (λ (x : Record). x.0) is) none told.register.next.here
   no_register_gap r marked none (of_node path node here is) =
       let gone : get held (node_key path) ≡ None = sym (ap (λ (x : Record). get held x.0) is) ∙ none in
       absurd (let bad : Some node ≡ None = sym here ∙ told.register.nodes path ∙ ap (option_and_then node_of_body) gone in cc)
   no_register_gap r marked none (of_no_node path missing is) =
-      no_missing_node c lanes s opens r.0 path (ap (λ (x : Record). x.0) is) (sym (ap (λ (d : Door). get d.catalogue.nodes path) opens) ∙ missing) marked
+      no_missing_node c lanes s opens r.0 path (ap (λ (x : Record). x.0) is) (sym (ap (λ (d : RegisterState). get d.catalogue.nodes path) opens) ∙ missing) marked
 
   group_there : (id : Id) (o : Object) → get (as_kept s).objects id ≡ Some o → o ≡ empty_group
   group_there id o here =
@@ -110,20 +110,20 @@ module _ (c : Contents) (lanes : ℕ) (s : State) (opens : s.door ≡ opened c l
 -- ---- all of them
 
 pub first_records : (c : Contents) (lanes : ℕ) (old new : State) (before after : List Record)
-    → seen old ≡ record { door = opened c lanes 0; objects = groups_on empty (roots_of c) }
+    → seen old ≡ record { register = opened c lanes 0; objects = groups_on empty (roots_of c) }
     → WorldSays old empty → AreUndropped old.lanes → before ≡ []
     → ((base : Held) → IsCut (IsWorldMarked old) base before after (λ held. WorldSays old base → WorldSays new held))
     → AppendsOnce (IsCutRecord old) before after
     → IsSameWorld old new → IsKept new
-    → ((held : Held) → WorldSays new held → DescribesWorld held new.door.run (seen new))
+    → ((held : Held) → WorldSays new held → DescribesWorld held new.register.run (seen new))
     → AreFirstRecords c after
 first_records c lanes old new before after is says undropped none cut bodies same kept described = record {
   some = some;
-  holds = record { world = as_kept old; nodes = ap (λ (w : World). w.door.catalogue) is; groups = groups; described = told };
+  holds = record { world = as_kept old; nodes = ap (λ (w : World). w.register.catalogue) is; groups = groups; described = told };
   once = once;
   each = all_more (IsCutRecord old) (IsWorldRecord (as_kept old)) after (λ r h. h.stands) each;
   bodies = all_both (IsCutRecord old) (λ r. get (put_all after empty) r.0 ≡ kept_body r.1) (λ r. r.1 ≢ [])
-      (has_body c lanes old (ap (λ (w : World). w.door) is) groups undropped (put_all after empty) 0 told) after each (each_is_held empty after once);
+      (has_body c lanes old (ap (λ (w : World). w.register) is) groups undropped (put_all after empty) 0 told) after each (each_is_held empty after once);
 }
   where
     -- nothing stood in the batch before
@@ -147,14 +147,14 @@ first_records c lanes old new before after is says undropped none cut bodies sam
 
     -- the new world is the old one, of which nothing is to be written
     world_is : seen new ≡ as_kept old
-    world_is = λ i. record { door = (kept.register ∙ same.door) i; objects = same.objects i }
+    world_is = λ i. record { register = (kept.register ∙ same.register) i; objects = same.objects i }
 
-    run_is : new.door.run ≡ 0
-    run_is = ap (λ (w : World). w.door.run) world_is ∙ ap (λ (w : World). w.door.run) is
+    run_is : new.register.run ≡ 0
+    run_is = ap (λ (w : World). w.register.run) world_is ∙ ap (λ (w : World). w.register.run) is
 
     told : DescribesWorld (put_all after empty) 0 (as_kept old)
     told = subst (λ (run : ℕ). DescribesWorld (put_all after empty) run (as_kept old)) run_is
-        (subst (λ (w : World). DescribesWorld (put_all after empty) new.door.run w) world_is (described (put_all after empty) said))
+        (subst (λ (w : World). DescribesWorld (put_all after empty) new.register.run w) world_is (described (put_all after empty) said))
 
     some : after ≢ []
     some e =

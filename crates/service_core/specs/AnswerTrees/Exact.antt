@@ -10,7 +10,7 @@ use Rattle.object_ops.specs.declared.grants.Step.{Step}
 use Rattle.object_ops.specs.Refusals.{refusal_tree}
 use Rattle.object_ops.specs.declared.refusals.Refusal.{Refusal}
 use Rattle.chunk_owner.specs.Acts.{acted}
-use Rattle.register.specs.Decided.{Door, decided}
+use Rattle.register.specs.Decided.{RegisterState, decided}
 use Rattle.service_core.specs.declared.answers.Answer.{Answer}
 use Rattle.service_core.specs.declared.answers.What.{What}
 use Rattle.service_core.specs.Steps.{Steps, World}
@@ -34,7 +34,7 @@ AnswersAreExact = (w : World) (caller : Caller) (request : Request) (answer : An
 
 -- whatever the register, it answers so by itself
 abbrev pub DecisionsAreExact : Type 0
-DecisionsAreExact = (d : Door) (caller : Caller) (request : Request) → VerdictHas HasNoFloat (decided d caller request).0
+DecisionsAreExact = (d : RegisterState) (caller : Caller) (request : Request) → VerdictHas HasNoFloat (decided d caller request).0
 
 -- whatever the objects, each step on them answers so
 abbrev pub ActsAreExact : Type 0

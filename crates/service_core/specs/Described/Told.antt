@@ -30,7 +30,7 @@ pub record AreWhole (objects : Objects) : Type 0 where
 -- but for the places, serials and tickets that were given, of which nothing is held
 pub record AreOne (first second : ℕ) (w v : World) : Type 0 where
   pub run : second ≡ first
-  pub catalogue : v.door.catalogue ≡ w.door.catalogue
+  pub catalogue : v.register.catalogue ≡ w.register.catalogue
   pub objects : v.objects ≡ w.objects
 
 abbrev pub WorldsAreOne : Type 0

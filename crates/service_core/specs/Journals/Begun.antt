@@ -2,39 +2,45 @@
 --     IsRecovered held w      the world that is held, at the begin of the run after the kept one
 --     IsOpened j w c      a journal is opened with its content, and tells the world
 --     IsUnbegun before after why      the record of a run was refused
-use Rattle.std.specs.Prelude.{◌≡◌, ⊤, ℕ, ◌+◌, List, [], ◌∷◌, Ok}
+--     IsBegun j s c      the journal has the record of the run that the world is in
+--     IsUnstarted before after fault      no run was begun
+use Rattle.std.specs.Prelude.{◌≡◌, ⊤, ℕ, ◌+◌, List, [], ◌∷◌, length, Ok}
 use Rattle.edge_traits.specs.declared.disk.Disk.{Ghosts}
 use Rattle.flush_journal.specs.Files.{Content, content}
-use Rattle.flush_journal.specs.Frames.{need_of}
+use Rattle.flush_journal.specs.Frames.{frame_of, need_of}
 use Rattle.flush_journal.specs.Moments.{Leaves, LeavesSince}
 use Rattle.flush_journal.specs.Records.{Held, put_record}
 use Rattle.flush_journal.specs.Refusals.{MayRefuse}
-use Rattle.flush_journal.specs.Standing.{HoldsEither, IsSettled}
+use Rattle.flush_journal.specs.Standing.{HoldsEither, IsSettled, disk_of, end_of, with_batch}
+use Rattle.flush_journal.specs.Unchanged.{SameBytes}
 use Rattle.flush_journal.specs.declared.journal.Journal.{Journal}
 use Rattle.flush_journal.specs.declared.why.Why.{Why}
 use Rattle.flush_journal.specs.declared.why.Why.TheVariants as why
 use Rattle.chunk_owner.specs.Owners.Records.{AreStillIn}
 use Rattle.register.specs.Kept.{run_kept}
 use Rattle.service_core.specs.Described.Told.{AreWhole}
-use Rattle.service_core.specs.Journals.Opening.{IsOf}
-use Rattle.service_core.specs.Records.{DescribesWorld, IsWorldOf, WorldSays, run_record}
+use Rattle.service_core.specs.Journals.Opening.{IsOf, MayRefuseOpening}
+use Rattle.service_core.specs.Records.{DescribesWorld, IsKept, IsWorldOf, WorldSays, run_record}
 use Rattle.service_core.specs.Steps.{World}
-use Rattle.service_core.specs.Worlds.{State, seen, with_door}
+use Rattle.service_core.specs.Worlds.{State, seen, with_register}
+use Rattle.service_core.specs.declared.journals.beginning.BeginFault.{BeginFault}
+use Rattle.service_core.specs.declared.journals.beginning.BeginFault.TheVariants.{Unopened, Unbegun}
+use Rattle.service_core.specs.declared.journals.faults.OpenFault.TheVariants as fault
 
 -- the world at the begin of a run
 pub record IsRecovered (held : Held) (w : World) : Type 0 where
   pub kept : ℕ
   pub described : DescribesWorld held kept w
-  pub run : w.door.run ≡ kept + 1
-  pub serial : w.door.serial ≡ 0
-  pub places : w.door.places ≡ 0
+  pub run : w.register.run ≡ kept + 1
+  pub serial : w.register.serial ≡ 0
+  pub places : w.register.places ≡ 0
   pub whole : AreWhole w.objects
 
 -- the record of a run may be refused so: by a fault only where the disk's count rose, and for want of room only where it doesn't fit
 -- behind the journal's end
 abbrev pub MayRefuseRun : World → (end room before now : ℕ) → Why → Type 0
 MayRefuseRun w end room before now why.NoMemory = Unit {0}
-MayRefuseRun w end room before now why = MayRefuse end (need_of (run_record w.door ∷ [])) room before now why
+MayRefuseRun w end room before now why = MayRefuse end (need_of (run_record w.register ∷ [])) room before now why
 
 -- for want of room or of memory nothing is written
 abbrev pub IsUnwritten : Why → Type 0
@@ -52,9 +58,9 @@ pub record IsUnbegun {D : Type 0} (met : Ghosts D) (before after : D) (why : Why
   pub end : ℕ
   pub behind : met.honest → IsOf (met.reads before) (λ c. end ≡ c.end)
   pub cause : MayRefuseRun world end (met.most before) (met.faults before) (met.faults after) why
-  pub images : met.honest → (image : List ℕ) → met.images after image → IsOf (met.reads before) (λ c. HoldsEither c.held (put_record (run_record world.door) c.held) image)
+  pub images : met.honest → (image : List ℕ) → met.images after image → IsOf (met.reads before) (λ c. HoldsEither c.held (put_record (run_record world.register) c.held) image)
   pub unwritten : met.honest → IsUnwritten why → (image : List ℕ) → met.images after image → IsOf (met.reads before) (λ c. content image ≡ Ok c)
-  pub crash : met.honest → IsOf (met.reads before) (λ c. LeavesSince met before after (HoldsEither c.held (put_record (run_record world.door) c.held)))
+  pub crash : met.honest → IsOf (met.reads before) (λ c. LeavesSince met before after (HoldsEither c.held (put_record (run_record world.register) c.held)))
 
 -- the disk tells the world that a journal keeps
 pub record IsOpened {D : Type 0} {met : Ghosts D} (j : Journal D met) (w : State) (c : Content) : Type 0 where
@@ -66,4 +72,46 @@ pub record IsOpened {D : Type 0} {met : Ghosts D} (j : Journal D met) (w : State
 
 -- the same world in its run, whose record is held
 abbrev pub begun : State → State
-begun w = with_door w (run_kept w.door)
+begun w = with_register w (run_kept w.register)
+
+-- ---- a run that was begun
+
+-- the journal holds the run's record behind what it held, and tells the world with it, of which nothing is to be written
+pub record IsBegun {D : Type 0} {met : Ghosts D} (j : Journal D met) (s : State) (c : Content) : Type 0 where
+  pub recovered : IsRecovered c.held (seen s)
+  pub kept : IsKept s
+  pub settled : IsSettled j (with_batch c (run_record s.register ∷ []))
+  pub end : end_of j ≡ c.end + length (frame_of (run_record s.register ∷ []))
+  pub says : WorldSays s (put_record (run_record s.register) c.held)
+  pub describes : DescribesWorld (put_record (run_record s.register) c.held) s.register.run (seen s)
+
+-- so it is, and whatever a crash left since a disk as it was holds what was held, with that record or without it, but for an image of before
+pub record IsBegunSince {D : Type 0} (met : Ghosts D) (before : D) (j : Journal D met) (s : State) (c : Content) : Type 0 where
+  pub begun : IsBegun j s c
+  pub crash : LeavesSince met before (disk_of j) (HoldsEither c.held (put_record (run_record s.register) c.held))
+
+-- ---- a run that was not begun
+
+-- no world was opened, and no byte was changed; or the record of the run was refused
+abbrev pub IsUnstarted : {D : Type 0} (met : Ghosts D) → D → D → BeginFault → Type 0
+IsUnstarted met before after (Unopened why) =
+    MayRefuseOpening met.honest (met.reads before) (met.faults before) (met.faults after) why × (met.honest → SameBytes met before after)
+IsUnstarted met before after (Unbegun why) = IsUnbegun met before after why
+
+-- the disk had a fault
+abbrev pub IsOfDisk : BeginFault → Type 0
+IsOfDisk (Unopened refusal) = refusal ≡ fault.DiskFault
+IsOfDisk (Unbegun refusal) = refusal ≡ why.DiskFault
+
+-- ---- what the begin of a run of an opened world says
+
+-- the record of the run was refused
+pub record IsRunRefused {D : Type 0} {met : Ghosts D} (j : Journal D met) (w : State) (after : D) (why : Why) : Type 0 where
+  pub cause : MayRefuseRun (seen w) (end_of j) (met.most (disk_of j)) (met.faults (disk_of j)) (met.faults after) why
+  pub images : met.honest → (image : List ℕ) → met.images after image → (c : Content) → IsSettled j c → HoldsEither c.held (put_record (run_record w.register) c.held) image
+  pub unwritten : met.honest → IsUnwritten why → (image : List ℕ) → met.images after image → (c : Content) → IsSettled j c → content image ≡ Ok c
+  pub crash : met.honest → (c : Content) → IsSettled j c → Leaves met (disk_of j) after (HoldsEither c.held (put_record (run_record w.register) c.held))
+
+abbrev pub IsRunRefusal : {D : Type 0} {met : Ghosts D} → Journal D met → State → D → BeginFault → Type 0
+IsRunRefusal j w after (Unopened why) = ⊥
+IsRunRefusal j w after (Unbegun why) = IsRunRefused j w after why

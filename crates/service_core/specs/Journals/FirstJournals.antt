@@ -23,7 +23,7 @@ use Rattle.service_core.specs.Journals.Groups.{HasFirstGroups}
 -- the catalogue's world in run 0, with an empty group at each domain's root, and nothing else
 pub record HoldsFirstWorld (catalogue : Contents) (held : Held) : Type 0 where
   pub world : World
-  pub nodes : world.door.catalogue ≡ catalogue
+  pub nodes : world.register.catalogue ≡ catalogue
   pub groups : HasFirstGroups catalogue world.objects
   pub described : DescribesWorld held 0 world
 

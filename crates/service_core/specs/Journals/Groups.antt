@@ -36,11 +36,11 @@ groups_on objects [] = objects
 groups_on objects (id ∷ ids) = groups_on (insert objects id empty_group) ids
 
 abbrev pub with_groups : World → List Id → World
-with_groups w ids = record { door = w.door; objects = groups_on w.objects ids }
+with_groups w ids = record { register = w.register; objects = groups_on w.objects ids }
 
 -- an id that was given to a group, and has no object
 pub record MayHaveGroup (w : World) (id : Id) : Type 0 where
-  pub given : IsGiven w.door id
+  pub given : IsGiven w.register id
   pub group : id.kind ≡ Group
   pub free : get w.objects id ≡ None
 

@@ -28,7 +28,7 @@ pub(crate) fn first_world(
     requires few_lanes { lanes ≤ 16 }
     requires roots { AreFirstRoots catalogue }
     ensures world { IfOk result (λ world. seen world ≡ record {
-      door = opened catalogue lanes 0;
+      register = opened catalogue lanes 0;
       objects = groups_on empty (roots_of catalogue);
     }) }
     ensures says { IfOk result (λ world. WorldSays world empty) }

@@ -2,8 +2,8 @@
 use Rattle.chunk_layout.proofs.CellLemmas.{offset_below, one_cell_there, cell_rank, cell_chunk, cell_offset, cell_back, chunk_count, chunk_listed}
 use Rattle.chunk_layout.proofs.cells.chunk_and_offset.Goals as goal
 
-pub returns-clause-placed : goal.returns-clause-placed
-returns-clause-placed c = λ chunk at h e. offset_below at chunk h.dims e
+pub returns-clause-below : goal.returns-clause-below
+returns-clause-below c = λ chunk at h e. offset_below at chunk h.dims e
 
 pub returns-clause-one : goal.returns-clause-one
 returns-clause-one c = λ chunk xs ys h e f q o. one_cell_there chunk xs ys h.dims e f q o

@@ -1,4 +1,4 @@
--- The cell of the chunk and the place is the one with this chunk and place.
+-- The cell of the chunk and the offset is the one with this chunk and offset.
 use Rattle.chunk_layout.proofs.CellLemmas.{cell_rank, cell_chunk, cell_offset}
 use Rattle.chunk_layout.proofs.cells.coords_in_chunk.Goals as goal
 

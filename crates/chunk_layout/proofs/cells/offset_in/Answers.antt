@@ -1,4 +1,4 @@
--- The total, times the cells that are left and with their place, is the offset.
+-- The total, times the cells that are left and with their linear index, is the offset.
 use Rattle.std.proofs.Common.{◌<◌, ◌≤◌, length, get_or, refl, arith}
 use Rattle.chunk_layout.proofs.CellLemmas.{inside_remainders, offset_below, step_bound, step_next, step_inside, step_end, step_first}
 use Rattle.chunk_layout.proofs.cells.offset_in.Goals as goal

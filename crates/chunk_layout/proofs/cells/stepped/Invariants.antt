@@ -1,5 +1,5 @@
 use Rattle.std.proofs.Common.{◌≡◌, ◌<◌, ◌++◌, length, drop}
-use Rattle.shapes.specs.Places.{cell_count}
+use Rattle.shapes.specs.RowMajor.{cell_count}
 use Rattle.chunk_layout.specs.Chunks.{cell_at}
 use Rattle.chunk_layout.proofs.cells.stepped.Given as goal
 

@@ -1,6 +1,6 @@
 use Rattle.std.proofs.Common.{◌*◌, sym, ap, ◌∙◌}
 use Rattle.chunk_store.proofs.AccessLemmas.{points_picked}
-use Rattle.chunk_store.proofs.PickLemmas.{many_places}
+use Rattle.chunk_store.proofs.PickLemmas.{many_picked}
 use Rattle.chunk_store.proofs.access.write.Goals as goal
 
 pub write_points-requires-clause-ranks : goal.write_points-requires-clause-ranks
@@ -8,4 +8,4 @@ write_points-requires-clause-ranks c = points_picked c.args.picks.now c.in-Point
 
 pub write_places-requires-clause-bytes : goal.write_places-requires-clause-bytes
 write_places-requires-clause-bytes c =
-    c.requires.bytes ∙ ap (λ n. n * c.args.frame.now.size) (sym (many_places c.args.picks.now c.in-Places.from c.in-Places.many c.args.shape.now c.in-Places.is c.requires.picks))
+    c.requires.bytes ∙ ap (λ n. n * c.args.frame.now.size) (sym (many_picked c.args.picks.now c.in-Places.from c.in-Places.many c.args.shape.now c.in-Places.is c.requires.picks))

@@ -1,7 +1,7 @@
 use Rattle.std.proofs.Common.{◌≡◌, ℕ, ◌<◌, length, sym, ◌∙◌, ap, subst, arith, List}
 use Rattle.std.proofs.lemmas.List.{with_items_is}
 use Rattle.hdf_values.specs.Nested.{piece_at}
-use Rattle.shapes.specs.Places.{cell_count}
+use Rattle.shapes.specs.RowMajor.{cell_count}
 use Rattle.chunk_store.proofs.BufferLemmas.{all_blank}
 use Rattle.chunk_store.proofs.buffers.blanks.Goals as goal
 

@@ -1,7 +1,7 @@
 use Rattle.std.proofs.Common.{◌≤◌, ◌+◌, arith}
 use Rattle.shapes.proofs.CellLemmas.{count_small}
 use Rattle.chunk_store.specs.Picked.{cells_from}
-use Rattle.chunk_store.proofs.PlaceWalkLemmas.{place_there, rest_more, rest_room, written_more}
+use Rattle.chunk_store.proofs.PlaceWalkLemmas.{rest_more, rest_room, stretch_there, written_more}
 use Rattle.chunk_store.proofs.TurnLemmas.{written_there}
 use Rattle.chunk_store.proofs.places.write_places.Goals as goal
 
@@ -17,7 +17,7 @@ write_stretch-requires-clause-there c =
     let f = c.args.frame.now in
     let s = c.args.shape.now in
     let ats = cells_from c.args.from c.args.many s in
-    place_there c.loop-done.chunks f s c.args.from c.args.many c.loop-done.done c.stretch_at-stretch.result
+    stretch_there c.loop-done.chunks f s c.args.from c.args.many c.loop-done.done c.stretch_at-stretch.result
     (written_there c.args.chunks.now c.loop-done.chunks f (cells_from c.args.from c.loop-done.done s) ats _ c.loop-done.invariant.written c.requires.there) c.loop-done-test.true c.requires.inside c.stretch_at-stretch.ensures.cells
 
 pub loop-done-preserved : goal.loop-done-preserved

@@ -1,5 +1,5 @@
 use Rattle.std.proofs.Common.{◌≡◌, ◌*◌, length}
-use Rattle.shapes.specs.Places.{cell_count}
+use Rattle.shapes.specs.RowMajor.{cell_count}
 use Rattle.hyperslab.specs.Selected.{extents}
 use Rattle.chunk_store.proofs.SlabLemmas.{AreChunksRead}
 use Rattle.chunk_store.proofs.slabs.read_slab.Given as goal

@@ -1,7 +1,7 @@
 use Rattle.std.proofs.Common.{◌+◌, ◌++◌, ap, ◌∙◌, arith}
 use Rattle.std.proofs.lemmas.Nat.{mul-le}
 use Rattle.std.proofs.lemmas.Result.{on_ok_weaker}
-use Rattle.shapes.specs.Places.{cell_count}
+use Rattle.shapes.specs.RowMajor.{cell_count}
 use Rattle.chunk_store.proofs.BufferLemmas.{found_full, found_in}
 use Rattle.chunk_store.proofs.StretchLemmas.{on_added, stretch_blank, stretch_read}
 use Rattle.chunk_store.proofs.stretches.read_stretch.Goals as goal

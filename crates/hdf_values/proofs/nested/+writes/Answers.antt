@@ -5,7 +5,7 @@ use Rattle.serde_json.specs.View.{view}
 use Rattle.serde_json.proofs.Views.{view-Array}
 use Rattle.hdf_types.specs.Reading.{size_of}
 use Rattle.hdf_types.specs.Views.{elem}
-use Rattle.shapes.specs.Places.{cell_count}
+use Rattle.shapes.specs.RowMajor.{cell_count}
 use Rattle.hdf_values.specs.Nested.{nested_decoded}
 use Rattle.hdf_values.proofs.WriteLemmas.{piece_size, piece_within, piece_encoded, tree_pushed, list_decoded}
 use Rattle.hdf_values.proofs.nested.+writes.Goals as goal

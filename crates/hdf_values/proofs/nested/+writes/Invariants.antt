@@ -2,7 +2,7 @@ use Rattle.std.proofs.Common.{◌≡◌, ℕ, ◌+◌, ◌*◌, ◌++◌, length
 use Rattle.serde_json.specs.View.{view}
 use Rattle.hdf_types.specs.Reading.{size_of}
 use Rattle.hdf_types.specs.Views.{elem}
-use Rattle.shapes.specs.Places.{cell_count}
+use Rattle.shapes.specs.RowMajor.{cell_count}
 use Rattle.hdf_values.specs.Nested.{nested_decoded, AreEncoded, pieces}
 use Rattle.hdf_values.proofs.nested.+writes.Given as goal
 

@@ -1,5 +1,5 @@
 use Rattle.std.proofs.Common.{◌≡◌, ◌*◌, ◌-◌, ◌^◌, min, drop}
-use Rattle.shapes.specs.Places.{cell_count}
+use Rattle.shapes.specs.RowMajor.{cell_count}
 use Rattle.hdf_values.proofs.nested.room_ahead.Given as goal
 
 abbrev pub invariant-loop-extent : goal.invariant-loop-extent

@@ -1,7 +1,7 @@
 -- As many cells as choices of a number below each extent.
 use Rattle.std.proofs.Common.{ap, sym, ◌∙◌, arith}
-use Rattle.shapes.specs.Places.{cell_count}
-use Rattle.shapes.proofs.PlaceLemmas.{cell_count-room}
+use Rattle.shapes.specs.RowMajor.{cell_count}
+use Rattle.shapes.proofs.RowMajorLemmas.{cell_count-room}
 use Rattle.hyperslab.specs.Selected.{axes_of, extents}
 use Rattle.hyperslab.proofs.SelectLemmas.{selected_count}
 use Rattle.hyperslab.proofs.CellLemmas.{cells_counted}

@@ -1,5 +1,5 @@
 use Rattle.std.proofs.Common.{◌≡◌, ◌*◌, drop}
-use Rattle.shapes.specs.Places.{room_of}
+use Rattle.shapes.specs.RowMajor.{room_of}
 use Rattle.hyperslab.proofs.judging.room.Given as goal
 
 abbrev pub invariant-loop-n : goal.invariant-loop-n

@@ -1,5 +1,5 @@
 use Rattle.std.proofs.Common.{◌≡◌, ◌++◌, map, length, drop}
-use Rattle.shapes.specs.Places.{IsInside}
+use Rattle.shapes.specs.RowMajor.{IsInside}
 use Rattle.hyperslab.specs.Selected.{extent, AreAxes, axes_of, point}
 use Rattle.hyperslab.proofs.AxisLemmas.{axes_from}
 use Rattle.hyperslab.proofs.selected.stepped.Given as goal

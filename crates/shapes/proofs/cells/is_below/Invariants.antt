@@ -1,5 +1,5 @@
 use Rattle.std.proofs.Common.{◌≡◌, drop}
-use Rattle.shapes.specs.Places.{is_inside}
+use Rattle.shapes.specs.RowMajor.{is_inside}
 use Rattle.shapes.proofs.cells.is_below.Given as goal
 
 abbrev pub invariant-loop-axis : goal.invariant-loop-axis

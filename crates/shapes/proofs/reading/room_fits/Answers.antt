@@ -1,7 +1,7 @@
 -- The cap stands above the most cells.
 use Rattle.std.proofs.Common.{ap, ◌∙◌, nat_le}
 use Rattle.shapes.specs.declared.TheConstants.{MAX_CELLS}
-use Rattle.shapes.specs.Places.{room_of}
+use Rattle.shapes.specs.RowMajor.{room_of}
 use Rattle.shapes.proofs.SpelledLemmas.{cap_hides_none}
 use Rattle.shapes.proofs.reading.room_fits.Goals as goal
 

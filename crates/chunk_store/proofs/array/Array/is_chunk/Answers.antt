@@ -2,7 +2,7 @@ use Rattle.std.proofs.Common.{◌*◌, ◌↔◌, ℕ, IsTrue, length, sym, ap, 
 use Rattle.hdf_types.specs.Reading.{size_of}
 use Rattle.hdf_types.specs.Views.{elem as kind_of}
 use Rattle.hdf_values.specs.Nested.{AreEncoded}
-use Rattle.shapes.specs.Places.{cell_count}
+use Rattle.shapes.specs.RowMajor.{cell_count}
 use Rattle.chunk_store.specs.Parts.{stored_in}
 use Rattle.chunk_store.specs.Marks.{Stored, IsChunkOf}
 use Rattle.chunk_store.proofs.PartLemmas.{chunk_sound, frame_sound, held_index, whole_grid, filling}

@@ -1,6 +1,6 @@
 use Rattle.std.proofs.Common.{◌<◌, ◌≤◌, ◌+◌, ◌/◌, ◌%◌, ◌++◌, ◌∷◌, [], map, drop, length, refl, sym, ap, subst, ◌∙◌, arith}
 use Rattle.std.proofs.lemmas.List.{length_push, length-map}
-use Rattle.shapes.specs.Places.{digits_by}
+use Rattle.shapes.specs.RowMajor.{digits_by}
 use Rattle.hyperslab.proofs.SideLemmas.{got}
 use Rattle.chunk_store.specs.Indexes.{IsIndex}
 use Rattle.chunk_store.specs.Touched.{slots_of, chunk_at, chunks_to, layers, touched_at}

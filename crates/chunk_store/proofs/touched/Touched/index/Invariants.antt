@@ -1,5 +1,5 @@
 use Rattle.std.proofs.Common.{◌≡◌, ◌<◌, ◌++◌, drop, map, length}
-use Rattle.shapes.specs.Places.{cell_count, digits_by}
+use Rattle.shapes.specs.RowMajor.{cell_count, digits_by}
 use Rattle.chunk_store.specs.Touched.{slots_of, chunks_to, layers, touched_at}
 use Rattle.chunk_store.proofs.touched.Touched.index.Given as goal
 

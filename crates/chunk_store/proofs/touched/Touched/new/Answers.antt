@@ -1,6 +1,6 @@
 use Rattle.std.proofs.Common.{◌≤◌, ◌+◌, ◌++◌, map, drop, get_or, length, ap, ◌∙◌, arith}
 use Rattle.std.proofs.lemmas.List.{length_push, length-map}
-use Rattle.shapes.specs.Places.{room_of}
+use Rattle.shapes.specs.RowMajor.{room_of}
 use Rattle.hyperslab.specs.Numbered.{extent_of}
 use Rattle.hyperslab.proofs.SideLemmas.{push_next, push_end, room_next}
 use Rattle.chunk_store.specs.Touched.{slots_of, layers}

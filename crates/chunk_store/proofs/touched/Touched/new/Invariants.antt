@@ -1,5 +1,5 @@
 use Rattle.std.proofs.Common.{◌≡◌, ◌≤◌, ◌*◌, ◌++◌, drop, map, length}
-use Rattle.shapes.specs.Places.{cell_count, room_of}
+use Rattle.shapes.specs.RowMajor.{cell_count, room_of}
 use Rattle.hyperslab.specs.declared.TheConstants.{MAX_SELECTED}
 use Rattle.hyperslab.proofs.BoxLemmas.{extents_to}
 use Rattle.chunk_store.specs.Touched.{slots_of, layers, touched_count}

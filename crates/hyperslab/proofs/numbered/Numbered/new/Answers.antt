@@ -1,6 +1,6 @@
 use Rattle.std.proofs.Common.{◌≤◌, ◌+◌, ◌-◌, ◌++◌, map, drop, get_or, length, sym, ap, ◌∙◌, arith}
 use Rattle.std.proofs.lemmas.List.{length_push}
-use Rattle.shapes.specs.Places.{cell_count, room_of}
+use Rattle.shapes.specs.RowMajor.{cell_count, room_of}
 use Rattle.hyperslab.specs.Selected.{axes_of}
 use Rattle.hyperslab.specs.Numbered.{sides, first_of, count_of}
 use Rattle.hyperslab.proofs.SideLemmas.{sided, IsRead, IsSideRead, side_read, IsCounted, side_counted, push_next, push_end, cells_next, cells_end, room_next, last_counts, last_steps, parts_whole, some_part}

@@ -1,5 +1,5 @@
 use Rattle.std.proofs.Common.{◌≡◌, ◌≤◌, ◌*◌, ◌++◌, drop, map, length}
-use Rattle.shapes.specs.Places.{cell_count, room_of}
+use Rattle.shapes.specs.RowMajor.{cell_count, room_of}
 use Rattle.hyperslab.specs.Selected.{axes_of}
 use Rattle.hyperslab.specs.declared.TheConstants.{MAX_SELECTED}
 use Rattle.hyperslab.specs.Numbered.{sides, first_of, count_of}

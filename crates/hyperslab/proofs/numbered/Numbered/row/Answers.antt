@@ -7,18 +7,18 @@ use Rattle.hyperslab.proofs.numbered.Numbered.row.Goals as goal
 within : (c : After-get-wide) → c.len-rank.result - 1 - c.loop-behind.behind < length c.args.self.now.counts
 within c = omega arith
 
-tail : (c : After-get-wide) → IsTail c.args.self.now (suc (c.len-rank.result - 1 - c.loop-behind.behind)) c.loop-behind.place_step c.loop-behind.offset_step
+tail : (c : After-get-wide) → IsTail c.args.self.now (suc (c.len-rank.result - 1 - c.loop-behind.behind)) c.loop-behind.index_step c.loop-behind.offset_step
 tail c =
     let e : c.len-rank.result - c.loop-behind.behind ≡ suc (c.len-rank.result - 1 - c.loop-behind.behind) = omega arith in
     tail_from c.args.self.now (c.len-rank.result - c.loop-behind.behind) (suc (c.len-rank.result - 1 - c.loop-behind.behind)) _ _ e c.loop-behind.invariant
 
 next : (c : After-get-wide) → c.get-many.result ≤ 1
-    → IsNext c.args.self.now (c.len-rank.result - 1 - c.loop-behind.behind) c.loop-behind.place_step c.loop-behind.offset_step c.get-extent.result c.get-wide.result
+    → IsNext c.args.self.now (c.len-rank.result - 1 - c.loop-behind.behind) c.loop-behind.index_step c.loop-behind.offset_step c.get-extent.result c.get-wide.result
 next c few =
     tail_next c.args.self.now (c.len-rank.result - 1 - c.loop-behind.behind) _ _ _ _ _ c.requires.runs (omega arith) (within c) (tail c) c.get-many.ensures few c.get-extent.ensures c.get-wide.ensures
 
-pub get-place_step-requires : goal.get-place_step-requires
-get-place_step-requires c = omega (arith, (all_long c.args.self.now c.requires.runs).extents)
+pub get-index_step-requires : goal.get-index_step-requires
+get-index_step-requires c = omega (arith, (all_long c.args.self.now c.requires.runs).extents)
 
 pub get-offset_step-requires : goal.get-offset_step-requires
 get-offset_step-requires c = omega (arith, (all_long c.args.self.now c.requires.runs).side)
@@ -26,7 +26,7 @@ get-offset_step-requires c = omega (arith, (all_long c.args.self.now c.requires.
 pub loop-behind-init : goal.loop-behind-init
 loop-behind-init c =
     let e : length c.args.self.now.counts ≡ suc (c.len-rank.result - 1) = omega arith in
-    tail_first c.args.self.now (c.len-rank.result - 1) _ _ c.requires.runs e c.get-place_step.ensures c.get-offset_step.ensures
+    tail_first c.args.self.now (c.len-rank.result - 1) _ _ c.requires.runs e c.get-index_step.ensures c.get-offset_step.ensures
 
 pub get-apart-requires : goal.get-apart-requires
 get-apart-requires c = omega (arith, (all_long c.args.self.now c.requires.runs).steps)
@@ -47,8 +47,8 @@ returns-then-many-gt1 c =
     let at = (goal.at.returns-then-many-gt1 c).After-get-wide in
     row_along c.args.self.now _ _ _ _ _ c.requires.runs (within at) (tail at) c.get-many.ensures (omega arith) c.get-apart.ensures
 
-pub overflow_mul-place_step : goal.overflow_mul-place_step
-overflow_mul-place_step c = omega (arith, (next (goal.at.overflow_mul-place_step c).After-get-wide c.if-many-gt1.false).places_fit)
+pub overflow_mul-index_step : goal.overflow_mul-index_step
+overflow_mul-index_step c = omega (arith, (next (goal.at.overflow_mul-index_step c).After-get-wide c.if-many-gt1.false).indices_fit)
 
 pub overflow_mul-offset_step : goal.overflow_mul-offset_step
 overflow_mul-offset_step c = omega (arith, (next (goal.at.overflow_mul-offset_step c).After-get-wide c.if-many-gt1.false).offsets_fit)

@@ -1,13 +1,13 @@
 use Rattle.std.proofs.Common.{◌≤◌, ◌*◌, ◌/◌, length, ap, ◌∙◌, refl, arith}
-use Rattle.shapes.specs.Places.{cell_count}
-use Rattle.hyperslab.specs.Numbered.{sides_of, place_to, offset_to}
+use Rattle.shapes.specs.RowMajor.{cell_count}
+use Rattle.hyperslab.specs.Numbered.{sides_of, index_to, offset_to}
 use Rattle.hyperslab.proofs.SideLemmas.{IsTurn}
 use Rattle.hyperslab.proofs.BoxRunLemmas.{IsSmall, number_small, step_of, below_extent, all_long, run_ended, same_run}
 use Rattle.hyperslab.proofs.numbered.Numbered.run.Goals.{After-get-low}
 use Rattle.hyperslab.proofs.numbered.Numbered.run.Goals as goal
 
 turn : (c : After-get-low) → IsTurn (sides_of c.args.self.now) c.loop-axis.axis (c.loop-axis.step / c.get-count.result) c.loop-axis.rest c.loop-axis.place c.loop-axis.offset
-    (place_to (sides_of c.args.self.now) (c.args.number * c.args.self.now.len)) (offset_to (sides_of c.args.self.now) (c.args.number * c.args.self.now.len))
+    (index_to (sides_of c.args.self.now) (c.args.number * c.args.self.now.len)) (offset_to (sides_of c.args.self.now) (c.args.number * c.args.self.now.len))
     c.get-count.result c.get-first.result c.get-extent.result c.get-wide.result c.get-start.result c.get-apart.result c.get-low.result
 turn c =
     step_of c.args.self.now c.loop-axis.axis c.loop-axis.step _ _ _ _ _ _ _ _ _ _ _ _ _ c.requires.runs (omega arith)
@@ -64,12 +64,12 @@ nonzero_rem-rest c = omega (arith, (turn (goal.at.nonzero_rem-rest c).After-get-
 pub overflow_mul-place : goal.overflow_mul-place
 overflow_mul-place c =
     let at = (goal.at.overflow_mul-place c).After-get-low in
-    omega (arith, (turn at).place_most, (small at).place)
+    omega (arith, (turn at).index_most, (small at).place)
 
 pub overflow_add-place : goal.overflow_add-place
 overflow_add-place c =
     let at = (goal.at.overflow_add-place c).After-get-low in
-    omega (arith, (turn at).place_most, (small at).place)
+    omega (arith, (turn at).index_most, (small at).place)
 
 pub overflow_mul-offset : goal.overflow_mul-offset
 overflow_mul-offset c =
@@ -93,7 +93,7 @@ overflow_add-offset-in-loop-axis c =
 pub loop-axis-preserved : goal.loop-axis-preserved
 loop-axis-preserved c =
     let known = turn (goal.at.loop-axis-preserved c).After-get-low in
-    record { step = known.step_is; rest = known.less; place = known.places; offset = known.offsets }
+    record { step = known.step_is; rest = known.less; place = known.indices; offset = known.offsets }
 
 pub returns : goal.returns
 returns c =

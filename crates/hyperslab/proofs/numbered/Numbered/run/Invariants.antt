@@ -1,6 +1,6 @@
 use Rattle.std.proofs.Common.{◌≡◌, ◌*◌, ◌+◌, ◌<◌, drop}
-use Rattle.shapes.specs.Places.{cell_count}
-use Rattle.hyperslab.specs.Numbered.{sides_of, place_to, offset_to}
+use Rattle.shapes.specs.RowMajor.{cell_count}
+use Rattle.hyperslab.specs.Numbered.{sides_of, index_to, offset_to}
 use Rattle.hyperslab.proofs.BoxLemmas.{counts, extents_to, wides}
 use Rattle.hyperslab.proofs.numbered.Numbered.run.Given as goal
 
@@ -8,6 +8,6 @@ abbrev pub invariant-loop-axis : goal.invariant-loop-axis
 invariant-loop-axis l = record {
   step : l.step ≡ cell_count (counts (drop l.axis (sides_of l.self)));
   rest : l.rest < l.step;
-  place : l.place * cell_count (extents_to (drop l.axis (sides_of l.self))) + place_to (drop l.axis (sides_of l.self)) l.rest ≡ place_to (sides_of l.self) (l.number * l.self.len);
+  place : l.place * cell_count (extents_to (drop l.axis (sides_of l.self))) + index_to (drop l.axis (sides_of l.self)) l.rest ≡ index_to (sides_of l.self) (l.number * l.self.len);
   offset : l.offset * cell_count (wides (drop l.axis (sides_of l.self))) + offset_to (drop l.axis (sides_of l.self)) l.rest ≡ offset_to (sides_of l.self) (l.number * l.self.len);
 }

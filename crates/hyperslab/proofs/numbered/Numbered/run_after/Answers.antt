@@ -8,7 +8,7 @@ returns-then-last-eq0-clause-last c = last_first _ _ _ c.args.last.now _ c.requi
 pub overflow_add-run : goal.overflow_add-run
 overflow_add-run c =
     let some : 0 < c.args.last.now.left = omega (arith, c.if-last-eq0.false) in
-    omega (arith, (is_moved c.args.self.now c.args.row.now c.args.number c.args.last.now c.requires.runs c.requires.row c.requires.below c.requires.last some).place_fits)
+    omega (arith, (is_moved c.args.self.now c.args.row.now c.args.number c.args.last.now c.requires.runs c.requires.row c.requires.below c.requires.last some).index_fits)
 
 pub overflow_add-run-2 : goal.overflow_add-run-2
 overflow_add-run-2 c =

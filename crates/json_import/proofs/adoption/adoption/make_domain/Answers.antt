@@ -3,13 +3,13 @@ use Rattle.std.specs.FinMap.{get}
 use Rattle.std.proofs.lemmas.Result.{on_ok_weaker}
 use Rattle.object_ids.specs.IdValues.{Id}
 use Rattle.object_acts.specs.Objects.{kind_of_body}
-use Rattle.register.specs.Decided.{Door, domain_added}
+use Rattle.register.specs.Decided.{RegisterState, domain_added}
 use Rattle.service_core.specs.Steps.{IsGiven}
 use Rattle.service_core.specs.Worlds.{State, seen}
 use Rattle.json_import.specs.Fresh.Names.{names_of, with_root}
 use Rattle.json_import.specs.Fresh.Renamed.{other_count, other_objects, root_object}
 use Rattle.json_import.specs.Adoption.Placing.{placed_each}
-use Rattle.json_import.proofs.OfAdoption.DomainLemmas.{adopted_door, adopted_objects, below_next, root_given, root_kind, root_new}
+use Rattle.json_import.proofs.OfAdoption.DomainLemmas.{adopted_objects, adopted_register, below_next, root_given, root_kind, root_new}
 use Rattle.json_import.proofs.adoption.adoption.make_domain.Goals as goal
 
 pub rename-requires : goal.rename-requires
@@ -20,9 +20,9 @@ rename-requires c = record {
 pub put_root-requires-clause-given : goal.put_root-requires-clause-given
 put_root-requires-clause-given c =
     let old = c.args.world.now in
-    subst (λ (s : State). IsGiven s.door c.in-Ok.root) (sym c.in-Ok.ensures.ok)
-    (subst (λ (id : Id). IsGiven (domain_added old.door c.args.path.now c.args.owner.now) id) (sym c.in-Ok.ensures.root)
-    (root_given old.door c.args.path.now c.args.owner.now))
+    subst (λ (s : State). IsGiven s.register c.in-Ok.root) (sym c.in-Ok.ensures.ok)
+    (subst (λ (id : Id). IsGiven (domain_added old.register c.args.path.now c.args.owner.now) id) (sym c.in-Ok.ensures.root)
+    (root_given old.register c.args.path.now c.args.owner.now))
 
 pub put_root-requires-clause-new : goal.put_root-requires-clause-new
 put_root-requires-clause-new c =
@@ -39,22 +39,22 @@ put_root-requires-clause-kind c =
 pub put_others-requires : goal.put_others-requires
 put_others-requires c =
     let old = c.args.world.now in
-    let added = domain_added old.door c.args.path.now c.args.owner.now in
-    let door = c.in_ok-put_root.ensures.door ∙ ap (λ (s : State). s.door) c.in-Ok.ensures.ok in
+    let added = domain_added old.register c.args.path.now c.args.owner.now in
+    let register = c.in_ok-put_root.ensures.register ∙ ap (λ (s : State). s.register) c.in-Ok.ensures.ok in
     let number = ap (λ (id : Id). id.domain) (c.root.view_is ∙ c.in-Ok.ensures.root) in
-    subst (λ (d : Door). c.root.inside.domain < d.catalogue.next) (sym door)
-    (subst (λ n. n < added.catalogue.next) (sym number) (below_next old.door.catalogue.next))
+    subst (λ (d : RegisterState). c.root.inside.domain < d.catalogue.next) (sym register)
+    (subst (λ n. n < added.catalogue.next) (sym number) (below_next old.register.catalogue.next))
 
-pub returns-clause-door : goal.returns-clause-door
-returns-clause-door c =
+pub returns-clause-register : goal.returns-clause-register
+returns-clause-register c =
     let old = c.args.world.now in
     let mid = seen c.put_root.new.world in
     let new = seen c.put_others.new.world in
     let others = c.in_ok-renamed.renamed.others in
     let number = ap (λ (id : Id). id.domain) (c.root.view_is ∙ c.in-Ok.ensures.root) in
-    let door = c.in_ok-put_root.ensures.door ∙ ap (λ (s : State). s.door) c.in-Ok.ensures.ok in
+    let register = c.in_ok-put_root.ensures.register ∙ ap (λ (s : State). s.register) c.in-Ok.ensures.ok in
     on_ok_weaker c.put_others.result
-    (λ (put : new ≡ placed_each c.root.inside.domain mid others). adopted_door old c.args.path.now c.args.owner.now c.args.loaded mid new others door c.in_ok-renamed.ensures.many
+    (λ (put : new ≡ placed_each c.root.inside.domain mid others). adopted_register old c.args.path.now c.args.owner.now c.args.loaded mid new others register c.in_ok-renamed.ensures.many
     (put ∙ ap (λ n. placed_each n mid others) number))
     c.put_others.ensures.world
 
@@ -66,11 +66,11 @@ returns-clause-objects c =
     let new = seen c.put_others.new.world in
     let others = c.in_ok-renamed.renamed.others in
     let number = ap (λ (id : Id). id.domain) (c.root.view_is ∙ c.in-Ok.ensures.root) in
-    let door = c.in_ok-put_root.ensures.door ∙ ap (λ (s : State). s.door) c.in-Ok.ensures.ok in
+    let register = c.in_ok-put_root.ensures.register ∙ ap (λ (s : State). s.register) c.in-Ok.ensures.ok in
     let top = c.in_ok-renamed.ensures.root ∙ ap (root_object l) c.in-Ok.ensures.root in
     let root = c.in_ok-put_root.ensures.objects ∙ (λ i. with_root (seen (c.in-Ok.ensures.ok i)).objects (c.in-Ok.ensures.root i) (top i)) in
     on_ok_weaker c.put_others.result
-    (λ (put : new ≡ placed_each c.root.inside.domain mid others). adopted_objects old c.args.path.now c.args.owner.now l mid new others door root
+    (λ (put : new ≡ placed_each c.root.inside.domain mid others). adopted_objects old c.args.path.now c.args.owner.now l mid new others register root
     (c.in_ok-renamed.ensures.others ∙ ap (other_objects l) c.in-Ok.ensures.root)
     (put ∙ ap (λ n. placed_each n mid others) number))
     c.put_others.ensures.world

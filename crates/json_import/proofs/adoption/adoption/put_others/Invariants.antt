@@ -8,7 +8,7 @@ use Rattle.json_import.proofs.adoption.adoption.put_others.Given as goal
 abbrev pub invariant-loop-others : goal.invariant-loop-others
 invariant-loop-others l =
     (placed_each l.number (seen l.world) l.others ≡ placed_each l.number (seen l.fn.world) l.fn.others)
-    × (l.number < l.world.door.catalogue.next)
+    × (l.number < l.world.register.catalogue.next)
     × WorldStillSays l.fn.world l.world
 
 abbrev pub decreases-loop-others : goal.decreases-loop-others

@@ -1,8 +1,10 @@
+use Rattle.std.proofs.Common.{sym, subst}
 use Rattle.flush_journal.specs.Standing.{disk_of}
 use Rattle.flush_journal.proofs.Unchanged.{same_both}
 use Rattle.edge_traits.proofs.CauseLemmas.{rose_since}
-use Rattle.json_import.proofs.OfKept.Begins.{cause_unstarted, not_started}
+use Rattle.json_import.specs.Kept.Imports.{CameTo, HasCauseOf, IsDiskFault}
 use Rattle.json_import.proofs.OfKept.Kept.{came_to_from}
+use Rattle.json_import.proofs.OfKept.Refusals.{cause_unstarted, fault_unstarted, not_started}
 use Rattle.json_import.proofs.kept.import.import_domain.Goals as goal
 
 pub returns-in-Ok-clause-came_to : goal.returns-in-Ok-clause-came_to
@@ -19,7 +21,14 @@ returns-in-Ok-clause-disk_fault g c = λ is.
 
 pub returns-in-Err-clause-came_to : goal.returns-in-Err-clause-came_to
 returns-in-Err-clause-came_to g c =
-    not_started g.D.Disk c.args.disk c.in-Err.imported.disk c.args.path.now c.args.owner.now (g.S.Source.left c.args.input.now) c.in-Err.imported.outcome c.in-Err.ensures.err
+    let left = g.S.Source.left c.args.input.now in
+    subst (CameTo g.D.Disk c.args.disk c.in-Err.field-0.disk c.args.path.now c.args.owner.now left left) (sym c.from.ensures)
+    (not_started g.D.Disk c.args.disk c.in-Err.field-0.disk c.args.path.now c.args.owner.now left c.in-Err.field-0.why c.in-Err.ensures.err)
 
 pub returns-in-Err-clause-causes : goal.returns-in-Err-clause-causes
-returns-in-Err-clause-causes g c = cause_unstarted g.D.Disk c.args.disk c.in-Err.imported.disk (g.S.Source.faults c.args.input.now) c.in-Err.imported.outcome c.in-Err.ensures.err
+returns-in-Err-clause-causes g c =
+    let faults = g.S.Source.faults c.args.input.now in
+    subst (HasCauseOf faults faults) (sym c.from.ensures) (cause_unstarted faults c.in-Err.field-0.why)
+
+pub returns-in-Err-clause-disk_fault : goal.returns-in-Err-clause-disk_fault
+returns-in-Err-clause-disk_fault g c = λ is. c.in-Err.ensures.disk_fault (fault_unstarted c.in-Err.field-0.why (subst IsDiskFault c.from.ensures is))

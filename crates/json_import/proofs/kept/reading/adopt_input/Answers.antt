@@ -15,6 +15,6 @@ returns-clause-ok g c = record {
   loaded = c.in_ok-loaded.loaded;
   accepted = record { document = c.in_ok-loaded.ensures.ok; free = c.in_ok-adopt.ensures.faults };
   counts_are = c.in_ok-adopt.ensures.counts;
-  is = same_world (seen c.adopt.new.world) (adopted (seen c.args.world.now) c.args.path.now c.args.owner.now c.in_ok-loaded.loaded) c.in_ok-adopt.ensures.door c.in_ok-adopt.ensures.objects;
+  is = same_world (seen c.adopt.new.world) (adopted (seen c.args.world.now) c.args.path.now c.args.owner.now c.in_ok-loaded.loaded) c.in_ok-adopt.ensures.register c.in_ok-adopt.ensures.objects;
   document = c.in_ok-adopt.ensures.document;
 }

@@ -1,5 +1,5 @@
 use Rattle.std.proofs.Common.{sym, subst}
-use Rattle.register.specs.Decided.{Door, passed}
+use Rattle.register.specs.Decided.{RegisterState, passed}
 use Rattle.register.proofs.GrantLemmas.{issue_of}
 use Rattle.register.proofs.Saying.{StillSays, decides_says}
 use Rattle.register.proofs.Settling.{counts_place}
@@ -12,6 +12,6 @@ returns-clause-issue c =
 
 pub returns-clause-says : goal.returns-clause-says
 returns-clause-says c =
-    subst (λ (x : Door). StillSays c.args.self.now (passed x)) (sym c.self.view_is)
+    subst (λ (x : RegisterState). StillSays c.args.self.now (passed x)) (sym c.self.view_is)
     (decides_says c.args.self.now c.args.caller.now c.args.request.now c.verdict-verdict.result (passed c.verdict-verdict.new.self)
     (counts_place c.args.self.now c.args.caller.now c.args.request.now c.verdict-verdict.result c.verdict-verdict.new.self c.verdict-verdict.ensures.leaves))

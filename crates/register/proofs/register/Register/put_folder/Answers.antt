@@ -1,13 +1,13 @@
 use Rattle.std.proofs.Common.{sym, subst}
 use Rattle.domains.specs.Contents.{Contents}
-use Rattle.register.specs.Decided.{AreGivenOut, Door}
-use Rattle.register.proofs.Doors.{moved}
+use Rattle.register.specs.Decided.{AreGivenOut, RegisterState}
+use Rattle.register.proofs.RegisterStates.{moved}
 use Rattle.register.proofs.Roots.{with_folder}
 use Rattle.register.proofs.register.Register.put_folder.Goals as goal
 
 pub invariant_of-self-2 : goal.invariant_of-self-2
 invariant_of-self-2 c =
-    let d : Door = record { catalogue = c.self.inside.catalogue; run = c.self.inside.run; serial = c.self.inside.serial; places = c.self.inside.places; issued = c.self.inside.issued; marks = c.self.inside.marks } in
+    let d : RegisterState = record { catalogue = c.self.inside.catalogue; run = c.self.inside.run; serial = c.self.inside.serial; places = c.self.inside.places; issued = c.self.inside.issued; marks = c.self.inside.marks } in
     let Given : Contents → Type 0 = λ k. AreGivenOut k d.run d.serial in
     moved d c.make_folder.new.catalogue c.make_folder.new.marks c.self.invariant
     (subst Given (sym c.in-Ok-make_folder.ensures.ok) (with_folder d.catalogue c.args.path.now c.args.owner.now d.run d.serial c.self.invariant.roots))

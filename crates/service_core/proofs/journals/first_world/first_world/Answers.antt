@@ -1,7 +1,7 @@
 use Rattle.std.proofs.Common.{List, ◌∙◌, ap, subst, sym}
 use Rattle.std.specs.FinMap.{empty}
 use Rattle.object_ids.specs.IdValues.{Id}
-use Rattle.register.specs.Decided.{Door}
+use Rattle.register.specs.Decided.{RegisterState}
 use Rattle.service_core.specs.Steps.{World}
 use Rattle.service_core.specs.Worlds.{seen}
 use Rattle.service_core.specs.Journals.Groups.{MayHaveGroups, roots_of}
@@ -11,7 +11,7 @@ use Rattle.service_core.proofs.journals.first_world.first_world.Goals as goal
 pub put_groups-requires : goal.put_groups-requires
 put_groups-requires c =
     let ids = c.as_slice.ensures.value ∙ c.in_ok-roots.ensures in
-    let bare : Door → World = λ d. record { door = d; objects = empty } in
+    let bare : RegisterState → World = λ d. record { register = d; objects = empty } in
     let world = c.in_ok-world.ensures.world ∙ ap bare c.new.ensures.opened in
     subst (λ (l : List Id). MayHaveGroups (seen c.in_ok-world.world) l) (sym ids)
     (subst (λ (w : World). MayHaveGroups w (roots_of c.args.catalogue)) (sym world)

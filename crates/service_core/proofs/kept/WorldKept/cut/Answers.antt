@@ -17,7 +17,7 @@ pub returns-clause-told : goal.returns-clause-told
 returns-clause-told c = on_ok_weaker c.cut-result.result (λ kept held said. described_as_kept held c.cut-result.new.self (c.is_described.ensures kept held said)) c.cut-result.ensures.kept
 
 pub returns-clause-world : goal.returns-clause-world
-returns-clause-world c = λ i. record { door = c.cut-result.ensures.same.door i; objects = c.cut-result.ensures.same.objects i }
+returns-clause-world c = λ i. record { register = c.cut-result.ensures.same.register i; objects = c.cut-result.ensures.same.objects i }
 
 pub returns-clause-bodies : goal.returns-clause-bodies
 returns-clause-bodies c = c.cut-result.ensures.bodies

@@ -10,12 +10,12 @@ use Rattle.service_core.proofs.world.World.is_described.Goals as goal
 
 pub are_described-requires-clause-some : goal.are_described-requires-clause-some
 are_described-requires-clause-some c =
-    subst (λ (ls : List Lane). 0 < length ls) (sym c.as_slice.ensures.value) (subst (λ n. 0 < n) (sym c.self.invariant.count) c.is_sound.ensures.door.some_lane)
+    subst (λ (ls : List Lane). 0 < length ls) (sym c.as_slice.ensures.value) (subst (λ n. 0 < n) (sym c.self.invariant.count) c.is_sound.ensures.register.some_lane)
 
 pub are_described-requires-clause-lanes : goal.are_described-requires-clause-lanes
 are_described-requires-clause-lanes c = subst (λ (ls : List Lane). AreLanes (length ls) 0 ls) (sym c.as_slice.ensures.value) c.self.invariant.lanes
 
 pub returns : goal.returns
-returns c = subst (λ (s : State). IsKept s → (held : Held) → WorldSays s held → DescribesWorld held s.door.run (seen s)) c.self.view_is
+returns c = subst (λ (s : State). IsKept s → (held : Held) → WorldSays s held → DescribesWorld held s.register.run (seen s)) c.self.view_is
     (all_told c.self.inside.register c.self.inside.owners.items c.self.invariant c.is_described.ensures
     (subst (λ (ls : List Lane). AreStillIn ls → (held : Held) → LanesSay ls held → DescribesObjects held (whole ls)) c.as_slice.ensures.value c.are_described.ensures))

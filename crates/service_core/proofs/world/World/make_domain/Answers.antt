@@ -13,4 +13,4 @@ pub returns-clause-says : goal.returns-clause-says
 returns-clause-says c =
     let left = c.make_domain.new.self in
     let lanes = c.self.inside.owners.items in
-    subst (λ (s : State). WorldStillSays s (record { door = left; lanes = lanes })) c.self.view_is (both_still c.self.inside.register left lanes lanes c.make_domain.ensures.says (λ held said. said))
+    subst (λ (s : State). WorldStillSays s (record { register = left; lanes = lanes })) c.self.view_is (both_still c.self.inside.register left lanes lanes c.make_domain.ensures.says (λ held said. said))

@@ -19,17 +19,17 @@ invariant_of-self c =
     let lanes = subst (λ (ls : List Lane). AreLanes (length ls) 0 left) value c.put_in.ensures.lanes in
     let ok = subst (λ (ls : List Lane). OnOk c.put_in.result (whole left ≡ insert (whole ls) c.args.id (unmarked c.args.object))) value c.put_in.ensures.ok in
     let err = subst (λ (ls : List Lane). OnErr c.put_in.result (whole left ≡ whole ls)) value c.put_in.ensures.err in
-    let given = subst (λ (s : State). IsGiven s.door c.args.id) (sym c.self.view_is) c.requires.given in
+    let given = subst (λ (s : State). IsGiven s.register c.args.id) (sym c.self.view_is) c.requires.given in
     subst (IsBuilt c.self.inside.register) (sym (written _ left _ (c.put_in.auto.owners ∙ c.as_mut_slice.ensures.len)))
     (built_put c.self.inside.register items left c.args.id (unmarked c.args.object) c.put_in.result c.self.invariant given (c.put_in.auto.owners ∙ ap length value) lanes ok err)
 
 pub returns-clause-says : goal.returns-clause-says
 returns-clause-says c =
     let left = c.put_in.new.owners in
-    let door = c.self.inside.register in
+    let register = c.self.inside.register in
     let lanes = subst (λ (ls : List Lane). LanesStillSay ls left) c.as_mut_slice.ensures.value c.put_in.ensures.says in
-    subst (λ (ls : List Lane). WorldStillSays c.args.self.now (record { door = door; lanes = ls })) (sym (written _ left _ (c.put_in.auto.owners ∙ c.as_mut_slice.ensures.len)))
-    (subst (λ (s : State). WorldStillSays s (record { door = door; lanes = left })) c.self.view_is (both_still door door c.self.inside.owners.items left (λ held said. said) lanes))
+    subst (λ (ls : List Lane). WorldStillSays c.args.self.now (record { register = register; lanes = ls })) (sym (written _ left _ (c.put_in.auto.owners ∙ c.as_mut_slice.ensures.len)))
+    (subst (λ (s : State). WorldStillSays s (record { register = register; lanes = left })) c.self.view_is (both_still register register c.self.inside.owners.items left (λ held said. said) lanes))
 
 pub returns-clause-undropped : goal.returns-clause-undropped
 returns-clause-undropped c =

@@ -13,7 +13,7 @@ use Rattle.service_core.proofs.world.World.step.Goals as goal
 pub obey-what-requires-clause-ready : goal.obey-what-requires-clause-ready
 obey-what-requires-clause-ready c =
     subst (λ (ls : List Lane). IsServable (length ls) c.args.request.now.op c.decide-verdict.result (whole ls)) (sym c.as_mut_slice.ensures.value)
-    (servable_now c.self.inside.register c.self.inside.owners.items c.args.caller.now c.args.request.now c.is_sound.ensures.door c.is_sound.ensures.catalogue c.self.invariant
+    (servable_now c.self.inside.register c.self.inside.owners.items c.args.caller.now c.args.request.now c.is_sound.ensures.register c.is_sound.ensures.catalogue c.self.invariant
     c.decide-verdict.result c.decide-verdict.new.self c.decide-verdict.ensures.decides)
 
 pub invariant_of-self : goal.invariant_of-self
@@ -24,7 +24,7 @@ invariant_of-self c =
     let obeys = subst (λ (ls : List Lane). Obeys c.args.request.now.op c.decide-verdict.result (whole ls) c.obey-what.result (whole left)) value c.obey-what.ensures.obeys in
     let lanes = subst (λ (ls : List Lane). AreLanes (length ls) 0 left) value c.obey-what.ensures.lanes in
     subst (IsBuilt c.decide-verdict.new.self) (sym (written _ left _ (c.obey-what.auto.owners ∙ c.as_mut_slice.ensures.len)))
-    (built_after c.self.inside.register items c.args.caller.now c.args.request.now c.is_sound.ensures.door c.is_sound.ensures.catalogue c.self.invariant
+    (built_after c.self.inside.register items c.args.caller.now c.args.request.now c.is_sound.ensures.register c.is_sound.ensures.catalogue c.self.invariant
     c.decide-verdict.result c.obey-what.result c.decide-verdict.new.self left c.decide-verdict.ensures.decides obeys (c.obey-what.auto.owners ∙ ap length value) lanes)
 
 pub returns-clause-steps : goal.returns-clause-steps
@@ -40,6 +40,6 @@ pub returns-clause-says : goal.returns-clause-says
 returns-clause-says c =
     let left = c.obey-what.new.owners in
     let lanes = subst (λ (ls : List Lane). LanesStillSay ls left) c.as_mut_slice.ensures.value c.obey-what.ensures.says in
-    subst (λ (ls : List Lane). WorldStillSays c.args.self.now (record { door = c.decide-verdict.new.self; lanes = ls })) (sym (written _ left _ (c.obey-what.auto.owners ∙ c.as_mut_slice.ensures.len)))
-    (subst (λ (s : State). WorldStillSays s (record { door = c.decide-verdict.new.self; lanes = left })) c.self.view_is
+    subst (λ (ls : List Lane). WorldStillSays c.args.self.now (record { register = c.decide-verdict.new.self; lanes = ls })) (sym (written _ left _ (c.obey-what.auto.owners ∙ c.as_mut_slice.ensures.len)))
+    (subst (λ (s : State). WorldStillSays s (record { register = c.decide-verdict.new.self; lanes = left })) c.self.view_is
     (both_still c.self.inside.register c.decide-verdict.new.self c.self.inside.owners.items left c.decide-verdict.ensures.says lanes))
