@@ -250,8 +250,8 @@ pub fn are_elements(kind: &ElemType, many: u64, bytes: &[u8]) -> bool
     requires { IsSoundType (kind_of kind.now) }
     ensures { IsTrue result → AreEncoded (kind_of kind.now) many bytes.now }
 {
-    let held = bytes.len() / kind.size() as usize;
-    held as u64 == many && first_unencoded(kind, bytes).is_none()
+    let number = bytes.len() / kind.size() as usize;
+    number as u64 == many && first_unencoded(kind, bytes).is_none()
 }
 
 /// Letters as elements of the array.

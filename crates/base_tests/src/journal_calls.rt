@@ -50,7 +50,7 @@ pub fn appended<D: Disk>(journal: &mut Journal<D>, batch: Batch) -> Result<(), W
 }
 
 /// Appends a batch, and settles it at most twice.
-fn held(journal: &mut Journal<MemDisk>, batch: Batch) -> Result<(), Why> {
+fn settled(journal: &mut Journal<MemDisk>, batch: Batch) -> Result<(), Why> {
     let mut done = appended(journal, batch);
     for _ in 0..2u8 {
         if done.is_err() {
@@ -125,7 +125,7 @@ fn call(
     }
     if name == "hold" {
         let batch = batch_of(rt, records)?;
-        return told(alloc, held(journal, batch));
+        return told(alloc, settled(journal, batch));
     }
     let (owes, numbers) = (journal.pending(), journal.report());
     let (batches, end) = (numbers.batches, numbers.end);

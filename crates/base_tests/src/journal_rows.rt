@@ -20,7 +20,7 @@ const OLD: [u8; 36] =
     *b"hsdsjrn1\x00\x00\x00\x01\x00\x00\x00\x00\x01\x00\x00\x00\x00\x00\x00\x00\x0a\x00\x00\x00\x01\x01\x00\x00\x00\x01\x07\x00";
 
 /// The length of a disk, and what the journal on it holds.
-fn held(alloc: Global, disk: MemDisk) -> Result<String, Fail> {
+fn content_text(alloc: Global, disk: MemDisk) -> Result<String, Fail> {
     let length = disk.bytes().len();
     let (journal, recovered) = opened(alloc, disk)?;
     let batches = journal.report().batches;
@@ -43,9 +43,9 @@ const AGAIN: &str = "append 61=31,62=32,63=33,61=34 -> ok;append 63=35,62= -> ok
 fn batches_stand_one_behind_another(rt: HostRuntime) -> Result<(), Fail> {
     let alloc = rt.alloc();
     let disk = lead(&rt, disk_of(alloc, &EMPTY, 1000, &[])?, TWO_BATCHES)?;
-    assert_eq!(rt; held(alloc, disk)?.as_str(), "134 2: [1]=[0, 0, 0, 5] ");
+    assert_eq!(rt; content_text(alloc, disk)?.as_str(), "134 2: [1]=[0, 0, 0, 5] ");
     let disk = lead(&rt, disk_of(alloc, &EMPTY, 1000, &[])?, AGAIN)?;
-    assert_eq!(rt; held(alloc, disk)?.as_str(), "94 2: [97]=[52] [99]=[53] ");
+    assert_eq!(rt; content_text(alloc, disk)?.as_str(), "94 2: [97]=[52] [99]=[53] ");
     lead(&rt, disk_of(alloc, &EMPTY, 120, &[])?, FULL)?;
     Ok(())
 }
@@ -128,7 +128,7 @@ fn a_settle_after_each_failing_call_holds_the_batch(rt: HostRuntime) -> Result<(
     let calls = "hold 01=00000005 -> ok;settle -> ok;now -> 2 batches to 57, false";
     for call in FIRST_CALL..FIRST_CALL + 8 {
         let disk = lead(&rt, disk_of(alloc, &OLD, 1000, &[call])?, calls)?;
-        let left = held(alloc, crashed(&disk, 0)?)?;
+        let left = content_text(alloc, crashed(&disk, 0)?)?;
         assert_eq!(rt; left.as_str(), "58 2: [1]=[0, 0, 0, 5] ", "{call}");
     }
     Ok(())
@@ -182,7 +182,7 @@ fn a_header_is_refused_where_it_differs(rt: HostRuntime) -> Result<(), Fail> {
 }
 
 /// Whether an opening of so many bytes of these finds no journal, at this place.
-fn is_cut(alloc: Global, bytes: &[u8], length: usize, at: usize) -> Result<bool, Fail> {
+fn is_truncated(alloc: Global, bytes: &[u8], length: usize, at: usize) -> Result<bool, Fail> {
     let got = opening(alloc, bytes.get(..length).ok_or("no front")?, &[])?;
     let wanted = format!(in alloc; "NotAJournal {{ at: {at} }}")?;
     Ok(got.as_str() == wanted.as_str())
@@ -192,12 +192,12 @@ fn is_cut(alloc: Global, bytes: &[u8], length: usize, at: usize) -> Result<bool,
 fn a_journal_that_ends_early_is_refused(rt: HostRuntime) -> Result<(), Fail> {
     let alloc = rt.alloc();
     for length in 0..17 {
-        assert!(rt; is_cut(alloc, &EMPTY, length, length)?, "{length}");
+        assert!(rt; is_truncated(alloc, &EMPTY, length, length)?, "{length}");
     }
     for length in 17..35 {
-        assert!(rt; is_cut(alloc, &OLD, length, 17)?, "{length}");
+        assert!(rt; is_truncated(alloc, &OLD, length, 17)?, "{length}");
     }
-    assert!(rt; is_cut(alloc, &OLD, 35, 35)?);
+    assert!(rt; is_truncated(alloc, &OLD, 35, 35)?);
     Ok(())
 }
 

@@ -4,7 +4,7 @@ use command_words::{Wanted, WordsFault, wanted};
 use std::alloc::{AllocError, Global};
 use std::test::Fail;
 
-/// The words of a line, cut at each `|`.
+/// The words of a line, split at each `|`.
 fn words_of(alloc: Global, line: &str) -> Result<Vec<String>, AllocError> {
     let mut words = Vec::new(alloc);
     for word in line.split('|') {

@@ -1,4 +1,4 @@
--- A grid that is cut into chunks of one size: the chunk of a cell, and its offset there.
+-- A grid that is split into chunks of one size: the chunk of a cell, and its offset there.
 pub use Rattle.shapes.specs.ChunkDims.{IsChunkDim, IsChunk}
 use Rattle.std.specs.Prelude.{ℕ, ◌+◌, ◌*◌, ◌/◌, ◌%◌, List, [], ◌∷◌, map}
 use Rattle.shapes.specs.RowMajor.{linear_index, coordinates, digits_by}

@@ -1,4 +1,4 @@
-//! How an array's cells are cut into chunks: the chunk's dims, and the chunk and offset of a cell
+//! How an array's cells are split into chunks: the chunk's dims, and the chunk and offset of a cell
 //! (HDF5 user guide, "Chunked storage layout"; HDF REST API, "creationProperties").
 //!
 //! [`default_chunks`] has the default chunk as a function of the dims.

@@ -21,7 +21,7 @@ use Rattle.object_acts.specs.Objects.{unmarked, unmarked_body, empty_group, Obje
 use Rattle.object_acts.specs.Trees.{body_tree, object_tree}
 use Rattle.chunk_owner.specs.Slots.Changed.{ChangesAt}
 use Rattle.chunk_owner.specs.Lanes.{set_at, at_id}
-use Rattle.chunk_owner.specs.Acts.{missing, held, seen, read_by, reading, left, changed_by, changing, removed, removing}
+use Rattle.chunk_owner.specs.Acts.{missing, object_or_root, object_here, read_by, reading, left, changed_by, changing, removed, removing}
 
 -- to put in what is there changes nothing
 insert_same : (m : Objects) (k : Id) (v : Object) → get m k ≡ Some v → insert m k v ≡ m
@@ -62,62 +62,62 @@ answers_here id f m o r is e =
 
 -- ---- whose domain the object is of
 
-seen_own : (g : Grant) (id : Id) (o : Option Object) → (id.domain == g.number) ≡ true → seen g id o ≡ held g id o
-seen_own g id o e = ap (λ b. cond b (held g id o) None) e
+here_own : (g : Grant) (id : Id) (o : Option Object) → (id.domain == g.number) ≡ true → object_here g id o ≡ object_or_root g id o
+here_own g id o e = ap (λ b. cond b (object_or_root g id o) None) e
 
-pub seen_foreign : (g : Grant) (id : Id) (o : Option Object) → (id.domain == g.number) ≡ false → seen g id o ≡ None
-seen_foreign g id o e = ap (λ b. cond b (held g id o) None) e
+pub here_foreign : (g : Grant) (id : Id) (o : Option Object) → (id.domain == g.number) ≡ false → object_here g id o ≡ None
+here_foreign g id o e = ap (λ b. cond b (object_or_root g id o) None) e
 
-pub held_root : (g : Grant) (id : Id) → id_eq id g.root ≡ true → held g id None ≡ Some empty_group
-held_root g id e = ap (λ b. cond b (Some empty_group) None) e
+pub or_root_empty : (g : Grant) (id : Id) → id_eq id g.root ≡ true → object_or_root g id None ≡ Some empty_group
+or_root_empty g id e = ap (λ b. cond b (Some empty_group) None) e
 
-pub held_none : (g : Grant) (id : Id) → id_eq id g.root ≡ false → held g id None ≡ None
-held_none g id e = ap (λ b. cond b (Some empty_group) None) e
+pub or_root_none : (g : Grant) (id : Id) → id_eq id g.root ≡ false → object_or_root g id None ≡ None
+or_root_none g id e = ap (λ b. cond b (Some empty_group) None) e
 
 -- ---- an object is read
 
 pub reads_own : {E : Type 0} (g : Grant) (id : Id) (f : Object → Reply) (m : Objects) (o : Option Object) (r : Result Reply E)
-    → (id.domain == g.number) ≡ true → get m id ≡ o → IfOk r (λ y. y ≡ read_by f (missing g id) (held g id o)) → Follows (at_id id (reading g id f) m) m r m
+    → (id.domain == g.number) ≡ true → get m id ≡ o → IfOk r (λ y. y ≡ read_by f (missing g id) (object_or_root g id o)) → Follows (at_id id (reading g id f) m) m r m
 reads_own g id f m o (Ok y) own is said =
-    answers_here id (reading g id f) m o y is (λ i. ((ap (read_by f (missing g id)) (seen_own g id o own) ∙ sym said) i, o))
+    answers_here id (reading g id f) m o y is (λ i. ((ap (read_by f (missing g id)) (here_own g id o own) ∙ sym said) i, o))
 reads_own g id f m o (Err e) own is said = refl
 
 pub reads_foreign : (g : Grant) (id : Id) (f : Object → Reply) (m : Objects) (r : Refusal)
     → (id.domain == g.number) ≡ false → r ≡ missing g id → (Refused r ≡ (at_id id (reading g id f) m).0) × (m ≡ (at_id id (reading g id f) m).1)
 reads_foreign g id f m r foreign said =
-    answers_here id (reading g id f) m (get m id) (Refused r) refl (λ i. ((ap (read_by f (missing g id)) (seen_foreign g id (get m id) foreign) ∙ ap Refused (sym said)) i, get m id))
+    answers_here id (reading g id f) m (get m id) (Refused r) refl (λ i. ((ap (read_by f (missing g id)) (here_foreign g id (get m id) foreign) ∙ ap Refused (sym said)) i, get m id))
 
 -- ---- an object is changed
 
-changed_held : {E : Type 0} (p : Reply × Object) (x y : Object) (r : Result Reply E) → Follows p x r y → Follows (left (Some x) p) (Some x) r (Some y)
-changed_held p x y (Ok reply) h = (h.0, ap (λ o. Some o) h.1)
-changed_held p x y (Err e) h = ap (λ o. Some o) h
+changed_there : {E : Type 0} (p : Reply × Object) (x y : Object) (r : Result Reply E) → Follows p x r y → Follows (left (Some x) p) (Some x) r (Some y)
+changed_there p x y (Ok reply) h = (h.0, ap (λ o. Some o) h.1)
+changed_there p x y (Err e) h = ap (λ o. Some o) h
 
-changing_as : (g : Grant) (id : Id) (f : Object → Reply × Object) (o s : Option Object) → seen g id o ≡ s → changed_by f (missing g id) o s ≡ changing g id f o
+changing_as : (g : Grant) (id : Id) (f : Object → Reply × Object) (o s : Option Object) → object_here g id o ≡ s → changed_by f (missing g id) o s ≡ changing g id f o
 changing_as g id f o s e = ap (changed_by f (missing g id) o) (sym e)
 
-pub changes_held : {E : Type 0} (g : Grant) (id : Id) (f : Object → Reply × Object) (m n : Objects) (r : Result Reply E)
+pub changes_there : {E : Type 0} (g : Grant) (id : Id) (f : Object → Reply × Object) (m n : Objects) (r : Result Reply E)
     → (id.domain == g.number) ≡ true → is_some (get m id) ≡ true → ChangesAt id f m r n → Follows (at_id id (changing g id f) m) m r n
-changes_held {E} g id f m n r own held changes = at (get m id) refl held where
+changes_there {E} g id f m n r own held changes = at (get m id) refl held where
   at : (o : Option Object) → get m id ≡ o → is_some o ≡ true → Follows (at_id id (changing g id f) m) m r n
   at None is e = absurd (let both : false ≡ true = e in cc)
   at (Some x) is e =
       let c = changes x is in
       follows_here id (changing g id f) m n (Some x) (Some c.0) r is c.1
-      (subst (λ p. Follows p (Some x) r (Some c.0)) (changing_as g id f (Some x) (Some x) (seen_own g id (Some x) own)) (changed_held (f x) x c.0 r c.2))
+      (subst (λ p. Follows p (Some x) r (Some c.0)) (changing_as g id f (Some x) (Some x) (here_own g id (Some x) own)) (changed_there (f x) x c.0 r c.2))
 
 pub changes_foreign : (g : Grant) (id : Id) (f : Object → Reply × Object) (m : Objects) (r : Refusal)
     → (id.domain == g.number) ≡ false → r ≡ missing g id → (Refused r ≡ (at_id id (changing g id f) m).0) × (m ≡ (at_id id (changing g id f) m).1)
 changes_foreign g id f m r foreign said =
     answers_here id (changing g id f) m (get m id) (Refused r) refl
-    (sym (changing_as g id f (get m id) None (seen_foreign g id (get m id) foreign)) ∙ (λ i. (Refused (sym said i), get m id)))
+    (sym (changing_as g id f (get m id) None (here_foreign g id (get m id) foreign)) ∙ (λ i. (Refused (sym said i), get m id)))
 
 pub changes_absent : (g : Grant) (id : Id) (f : Object → Reply × Object) (m : Objects) (r : Refusal)
     → (id.domain == g.number) ≡ true → id_eq id g.root ≡ false → get m id ≡ None → r ≡ missing g id
     → (Refused r ≡ (at_id id (changing g id f) m).0) × (m ≡ (at_id id (changing g id f) m).1)
 changes_absent g id f m r own other none said =
     answers_here id (changing g id f) m None (Refused r) none
-    (sym (changing_as g id f None None (seen_own g id None own ∙ held_none g id other)) ∙ (λ i. (Refused (sym said i), None)))
+    (sym (changing_as g id f None None (here_own g id None own ∙ or_root_none g id other)) ∙ (λ i. (Refused (sym said i), None)))
 
 left-reply : (reply : Reply) (o : Object) → (left None (reply, o)).0 ≡ reply
 left-reply (Done status body) o = refl
@@ -129,7 +129,7 @@ pub changes_root : {E : Type 0} (g : Grant) (id : Id) (f : Object → Reply × O
     → Follows (reply, set_at m id (left None (reply, y)).1) m r n → Follows (at_id id (changing g id f) m) m r n
 changes_root g id f m n y reply (Ok said) own root none done left_there h =
     let e : left None (reply, y) ≡ changing g id f None =
-    (λ i. left None (done i, left_there i)) ∙ changing_as g id f None (Some empty_group) (seen_own g id None own ∙ held_root g id root) in
+    (λ i. left None (done i, left_there i)) ∙ changing_as g id f None (Some empty_group) (here_own g id None own ∙ or_root_empty g id root) in
     let here = at_here id (changing g id f) m None none in
     (h.0 ∙ sym (left-reply reply y) ∙ ap (λ p. p.0) e ∙ here.0, h.1 ∙ ap (λ p. set_at m id p.1) e ∙ here.1)
 changes_root g id f m n y reply (Err e) own root none done left_there h = h
@@ -164,14 +164,14 @@ root_kind id root e group = group_rank id.kind (eqb-true (kind_rank id.kind) (ki
 
 -- ---- an object is removed
 
-removing-as : (g : Grant) (id : Id) (o s : Option Object) (b : Bool) → id_eq id g.root ≡ b → seen g id o ≡ s → removing g id o ≡ removed b (missing g id) o s
+removing-as : (g : Grant) (id : Id) (o s : Option Object) (b : Bool) → id_eq id g.root ≡ b → object_here g id o ≡ s → removing g id o ≡ removed b (missing g id) o s
 removing-as g id o s b root e = λ i. removed (root i) (missing g id) o (e i)
 
 pub removing-foreign : (g : Grant) (id : Id) (o : Option Object) → (id.domain == g.number) ≡ false → removing g id o ≡ (Refused (missing g id), o)
-removing-foreign g id o foreign = removing-as g id o None (id_eq id g.root) refl (seen_foreign g id o foreign)
+removing-foreign g id o foreign = removing-as g id o None (id_eq id g.root) refl (here_foreign g id o foreign)
 
-removed_root : (g : Grant) (id : Id) (o : Option Object) → id_eq id g.root ≡ true → removed true (missing g id) o (held g id o) ≡ (Refused Root, o)
-removed_root g id None root = ap (removed true (missing g id) None) (held_root g id root)
+removed_root : (g : Grant) (id : Id) (o : Option Object) → id_eq id g.root ≡ true → removed true (missing g id) o (object_or_root g id o) ≡ (Refused Root, o)
+removed_root g id None root = ap (removed true (missing g id) None) (or_root_empty g id root)
 removed_root g id (Some x) root = refl
 
 pub drops_foreign : (g : Grant) (id : Id) (m : Objects) (r : Refusal) → (id.domain == g.number) ≡ false → r ≡ missing g id
@@ -183,17 +183,17 @@ pub drops_root : (g : Grant) (id : Id) (m : Objects) → (id.domain == g.number)
     → (Refused Root ≡ (at_id id (removing g id) m).0) × (m ≡ (at_id id (removing g id) m).1)
 drops_root g id m own root =
     let o = get m id in
-    answers_here id (removing g id) m o (Refused Root) refl (removing-as g id o (held g id o) true root (seen_own g id o own) ∙ removed_root g id o root)
+    answers_here id (removing g id) m o (Refused Root) refl (removing-as g id o (object_or_root g id o) true root (here_own g id o own) ∙ removed_root g id o root)
 
-pub drops_held : (g : Grant) (id : Id) (m n : Objects) (r : Reply) → (id.domain == g.number) ≡ true → id_eq id g.root ≡ false
+pub drops_there : (g : Grant) (id : Id) (m n : Objects) (r : Reply) → (id.domain == g.number) ≡ true → id_eq id g.root ≡ false
     → is_some (get m id) ≡ true → n ≡ remove m id → r ≡ Done 200 nothing
     → (r ≡ (at_id id (removing g id) m).0) × (n ≡ (at_id id (removing g id) m).1)
-drops_held g id m n r own other held gone said = at (get m id) refl held where
+drops_there g id m n r own other held gone said = at (get m id) refl held where
   at : (o : Option Object) → get m id ≡ o → is_some o ≡ true → (r ≡ (at_id id (removing g id) m).0) × (n ≡ (at_id id (removing g id) m).1)
   at None is e = absurd (let both : false ≡ true = e in cc)
   at (Some x) is e =
       let here = at_here id (removing g id) m (Some x) is in
-      let done = removing-as g id (Some x) (Some x) false other (seen_own g id (Some x) own) in
+      let done = removing-as g id (Some x) (Some x) false other (here_own g id (Some x) own) in
       (said ∙ sym (ap (λ p. p.0) done) ∙ here.0, gone ∙ sym (ap (λ p. set_at m id p.1) done) ∙ here.1)
 
 pub drops_absent : (g : Grant) (id : Id) (m : Objects) (r : Refusal) → (id.domain == g.number) ≡ true → id_eq id g.root ≡ false
@@ -201,4 +201,4 @@ pub drops_absent : (g : Grant) (id : Id) (m : Objects) (r : Refusal) → (id.dom
     → (Refused r ≡ (at_id id (removing g id) m).0) × (m ≡ (at_id id (removing g id) m).1)
 drops_absent g id m r own other none said =
     answers_here id (removing g id) m None (Refused r) none
-    (removing-as g id None None false other (seen_own g id None own ∙ held_none g id other) ∙ (λ i. (Refused (sym said i), None)))
+    (removing-as g id None None false other (here_own g id None own ∙ or_root_none g id other) ∙ (λ i. (Refused (sym said i), None)))

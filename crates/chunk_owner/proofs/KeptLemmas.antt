@@ -23,7 +23,7 @@ use Rattle.object_acts.specs.Objects.{unmarked, Objects}
 use Rattle.object_acts.specs.Acts.{change_of, link_put, on_links, reads_object, reply_of}
 use Rattle.object_acts.proofs.LawLemmas.{Keeps}
 use Rattle.chunk_owner.specs.Lanes.{shown, at_id}
-use Rattle.chunk_owner.specs.Acts.{act, acted, changed_by, changing, left, link_to, linking, make_act, making, missing, on_touched, reading, removed, removing, seen, touched}
+use Rattle.chunk_owner.specs.Acts.{act, acted, changed_by, changing, left, link_to, linking, make_act, making, missing, on_touched, reading, removed, removing, object_here, touched}
 use Rattle.chunk_owner.specs.Laws.{RefusalsLeaveAll, ReadsLeaveAll, OthersAreLeft, OthersAreUnlinked}
 use Rattle.chunk_owner.proofs.AtIds.{answers_here, own_set, removing-foreign}
 use Rattle.chunk_owner.proofs.Eaches.{get-shown}
@@ -49,7 +49,7 @@ changed_some f absent x false kept refusal e = refl
 
 changing_kept : (g : Grant) (id : Id) (f : Object → Reply × Object) (w : Option Object) → ((x : Object) → Keeps (unmarked x) (f (unmarked x)))
     → Keeps (option_map unmarked w) (changing g id f (option_map unmarked w))
-changing_kept g id f None kept = changed_none f (missing g id) (seen g id None)
+changing_kept g id f None kept = changed_none f (missing g id) (object_here g id None)
 changing_kept g id f (Some x) kept = changed_some f (missing g id) (unmarked x) (id.domain == g.number) (kept x)
 
 removed_kept : (is_root : Bool) (absent : Refusal) (old s : Option Object) → Keeps old (removed is_root absent old s)
@@ -58,7 +58,7 @@ removed_kept true absent old (Some o) refusal e = refl
 removed_kept false absent old (Some o) refusal e = absurd (cc)
 
 removing_kept : (g : Grant) (id : Id) (o : Option Object) → Keeps o (removing g id o)
-removing_kept g id o = removed_kept (id_eq id g.root) (missing g id) o (seen g id o)
+removing_kept g id o = removed_kept (id_eq id g.root) (missing g id) o (object_here g id o)
 
 making_kept : (g : Grant) (make : Make) (fresh : Option Id) (o : Option Object) → Keeps o (making g make fresh o)
 making_kept g make None o refusal e = refl

@@ -16,7 +16,7 @@ use Rattle.chunk_owner.specs.Slots.Slots.{HasSameIds, Slots, object_by, object_o
 use Rattle.chunk_owner.specs.Slots.Slots.{AreOfKind as AreSlotsOfKind}
 use Rattle.chunk_owner.proofs.OfSlots.Placed.{everywhere}
 use Rattle.chunk_owner.proofs.OfSlots.Standing.{get-objects_of, objects-insert}
-use Rattle.chunk_owner.specs.Lanes.{AreHome, AreOfKind, AreShown, AreSlotsOf, Each, Forgets, IsWhole, StandsIn, StaysHome, StayHome, seen_lane, shown}
+use Rattle.chunk_owner.specs.Lanes.{AreHome, AreOfKind, AreShown, AreSlotsOf, Each, Forgets, IsWhole, StandsIn, StaysHome, StayHome, lane_with, shown}
 use Rattle.chunk_owner.specs.Acts.{IsTouchedIn}
 use Rattle.chunk_owner.proofs.Eaches.{get-shown, option-unmarked, unmarked_kind}
 
@@ -82,8 +82,8 @@ stand lane lanes m were q o e =
     let s = slot_of m q o e in
     record { own = were.home q s.0 s.1; kind = subst (λ (x : Object). IsOfKind q.kind x) s.2 (unmarked_kind q.kind s.0.object (were.kinds q s.0 s.1)) }
 
-pub whole_lane : (lane lanes : ℕ) (m : Slots) → AreSlotsOf lane lanes m → IsWhole (seen_lane lane lanes m)
-whole_lane lane lanes m were = record { lane = were.below; own = stand lane lanes m were; seen = refl; slots = were }
+pub whole_lane : (lane lanes : ℕ) (m : Slots) → AreSlotsOf lane lanes m → IsWhole (lane_with lane lanes m)
+whole_lane lane lanes m were = record { lane = were.below; own = stand lane lanes m were; objects = refl; slots = were }
 
 pub kinds_of : (lane lanes : ℕ) (m : Objects) → Each (StandsIn lane lanes) m → AreOfKind m
 kinds_of lane lanes m own = λ q o e. (own q o e).kind
@@ -92,8 +92,8 @@ no_object : (w : Option Object) → is_some w ≡ false → w ≡ None
 no_object None e = refl
 no_object (Some o) e = absurd (let both : true ≡ false = e in cc)
 
-pub not_held : (m : Slots) (id : Id) → is_some (object_of (get m id)) ≡ false → get (objects_of m) id ≡ None
-not_held m id e = get-objects_of m id ∙ no_object (object_of (get m id)) e
+pub none_standing : (m : Slots) (id : Id) → is_some (object_of (get m id)) ≡ false → get (objects_of m) id ≡ None
+none_standing m id e = get-objects_of m id ∙ no_object (object_of (get m id)) e
 
 -- ---- as requests see them
 

@@ -14,7 +14,7 @@ use Rattle.object_acts.specs.declared.objects.Object.{Object}
 use Rattle.chunk_owner.specs.Lanes.{set_at}
 use Rattle.chunk_owner.specs.Acts.{is_used, missing, act, on_touched, read_by, changed_by, touched}
 use Rattle.chunk_owner.specs.Laws.{GoneWhereGiven, NoObjectElsewhere, OthersAreHidden, OthersStay, WasGiven}
-use Rattle.chunk_owner.proofs.AtIds.{seen_foreign}
+use Rattle.chunk_owner.proofs.AtIds.{here_foreign}
 use Rattle.containers.proofs.Plain.{passed_over}
 use Rattle.object_acts.specs.Objects.{Objects}
 
@@ -54,7 +54,7 @@ no_object_elsewhere g id never =
 
 pub others_are_hidden : OthersAreHidden
 others_are_hidden g id o f h other =
-    let none = seen_foreign g id o (ne_eqb id.domain g.number other) in
+    let none = here_foreign g id o (ne_eqb id.domain g.number other) in
     let said = no_object_elsewhere g id (λ w. other w.0) in
     (λ i. ((ap (read_by f (missing g id)) none ∙ ap Refused said) i, o), ap (changed_by h (missing g id) o) none ∙ (λ i. (Refused (said i), o)))
 

@@ -34,13 +34,13 @@ abbrev pub missing : Grant → Id → Refusal
 missing g id = if id.domain == g.number && is_used g id then Gone id else NoObject id
 
 -- a domain's root that isn't held is the empty group
-abbrev pub held : Grant → Id → Option Object → Option Object
-held g id None = if id_eq id g.root then Some empty_group else None
-held g id (Some o) = Some o
+abbrev pub object_or_root : Grant → Id → Option Object → Option Object
+object_or_root g id None = if id_eq id g.root then Some empty_group else None
+object_or_root g id (Some o) = Some o
 
 -- an id of another domain has no object here, even where that domain has one
-abbrev pub seen : Grant → Id → Option Object → Option Object
-seen g id o = if id.domain == g.number then held g id o else None
+abbrev pub object_here : Grant → Id → Option Object → Option Object
+object_here g id o = if id.domain == g.number then object_or_root g id o else None
 
 -- ---- the object of an id is read, changed, removed or made
 
@@ -49,7 +49,7 @@ read_by f absent None = Refused absent
 read_by f absent (Some o) = f o
 
 abbrev pub reading : Grant → Id → (Object → Reply) → Option Object → Reply × Option Object
-reading g id f o = (read_by f (missing g id) (seen g id o), o)
+reading g id f o = (read_by f (missing g id) (object_here g id o), o)
 
 -- what follows is kept, but a root that isn't held stays so where the change is refused
 abbrev pub left : Option Object → Reply × Object → Reply × Option Object
@@ -62,7 +62,7 @@ changed_by f absent old None = (Refused absent, old)
 changed_by f absent old (Some o) = left old (f o)
 
 abbrev pub changing : Grant → Id → (Object → Reply × Object) → Option Object → Reply × Option Object
-changing g id f o = changed_by f (missing g id) o (seen g id o)
+changing g id f o = changed_by f (missing g id) o (object_here g id o)
 
 -- a root is never removed
 abbrev pub removed : Bool → Refusal → Option Object → Option Object → Reply × Option Object
@@ -70,7 +70,7 @@ removed is_root absent old None = (Refused absent, old)
 removed is_root absent old (Some o) = if is_root then (Refused Root, old) else (Done 200 nothing, None)
 
 abbrev pub removing : Grant → Id → Option Object → Reply × Option Object
-removing g id o = removed (id_eq id g.root) (missing g id) o (seen g id o)
+removing g id o = removed (id_eq id g.root) (missing g id) o (object_here g id o)
 
 abbrev pub placing : Id → Id → Object → Option Object → Reply × Option Object
 placing id root new o = (Done 201 (object_tree id root new), Some new)

@@ -49,14 +49,14 @@ pub record AreSlotsOf (lane lanes : ℕ) (slots : Slots) : Type 0 where
   pub kinds : AreSlotsOfKind slots
 
 -- the lane of these slots
-abbrev pub seen_lane : ℕ → ℕ → Slots → Lane
-seen_lane lane lanes slots = record { lane = lane; lanes = lanes; objects = objects_of slots; slots = slots }
+abbrev pub lane_with : ℕ → ℕ → Slots → Lane
+lane_with lane lanes slots = record { lane = lane; lanes = lanes; objects = objects_of slots; slots = slots }
 
 -- the lane is one of the lanes, each object stands in it, and the objects are those of the slots that weren't removed
 pub record IsWhole (l : Lane) : Type 0 where
   pub lane : l.lane < l.lanes
   pub own : Each (StandsIn l.lane l.lanes) l.objects
-  pub seen : l.objects ≡ objects_of l.slots
+  pub objects : l.objects ≡ objects_of l.slots
   pub slots : AreSlotsOf l.lane l.lanes l.slots
 
 -- a step at an id leaves each slot at an id of the lane

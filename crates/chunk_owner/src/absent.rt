@@ -3,7 +3,7 @@
 ghost use Rattle.std.specs.Prelude.{◌≡◌, ◌==◌, true, None, IfOk};
 ghost use Rattle.object_ids.specs.IdOrder.{id_eq};
 ghost use Rattle.object_acts.specs.Acts.{reads_object, reply_of};
-ghost use Rattle.chunk_owner.specs.Acts.{is_used, missing, held, read_by};
+ghost use Rattle.chunk_owner.specs.Acts.{is_used, missing, object_or_root, read_by};
 
 use object_acts::{Object, reply};
 use object_ids::ObjectId;
@@ -44,7 +44,7 @@ pub(crate) fn missing(grant: &Grant, id: &ObjectId) -> Refusal
     Refusal::NoObject { id: *id }
 }
 
-/// The answer to an operation that reads an object which isn't held.
+/// The answer to an operation that reads an object which isn't there.
 pub(crate) fn read_absent(
     alloc: Global,
     op: &Op,
@@ -53,7 +53,7 @@ pub(crate) fn read_absent(
 ) -> Result<Reply, AllocError>
     requires { reads_object op.now ≡ true }
     ensures { IfOk result (λ r. r ≡ read_by (reply_of grant.now.root op.now)
-        (missing grant.now id.now) (held grant.now id.now None)) }
+        (missing grant.now id.now) (object_or_root grant.now id.now None)) }
 {
     if !is_root(grant, id) {
         return Ok(Reply::Refused(missing(grant, id)));

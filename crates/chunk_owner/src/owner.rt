@@ -56,7 +56,7 @@ impl Model for Owner {
     ghost use Rattle.object_acts.specs.declared.objects.Object.{Object};
     ghost use Rattle.chunk_owner.specs.contracts.slots.slot.Slot as slot;
     ghost use Rattle.chunk_owner.specs.declared.slots.slot.Slot.{Slot};
-    ghost use Rattle.chunk_owner.specs.Lanes.{AreSlotsOf, Lane, seen_lane};
+    ghost use Rattle.chunk_owner.specs.Lanes.{AreSlotsOf, Lane, lane_with};
 
     ghost Value = { Lane };
 
@@ -65,7 +65,7 @@ impl Model for Owner {
         (λ l. (l.lane, (l.lanes, (l.objects, l.slots))))
         (λ p. record { lane = p.0; lanes = p.1.0; objects = p.1.1.0; slots = p.1.1.1 }) (λ _. refl) };
 
-    ghost view = { λ a. seen_lane a.lane a.lanes a.slots };
+    ghost view = { λ a. lane_with a.lane a.lanes a.slots };
 
     ghost invariant = { λ a. AreSlotsOf a.lane a.lanes a.slots };
 }

@@ -9,9 +9,9 @@ mod holding;
 mod laws;
 mod objects;
 mod placing;
-mod seen;
 mod settling;
 mod slot;
+mod standing;
 
 pub use changing::{change, change_at, link_at, link_made};
 pub use cuts::cut;
@@ -19,5 +19,5 @@ pub use forgetting::forget;
 pub use holding::are_described;
 pub use laws::records_describe;
 pub use placing::{put, remove};
-pub use seen::{is_held, next_id, object};
 pub use slot::{Mark, Slot};
+pub use standing::{has_object, next_id, object};

@@ -17,7 +17,7 @@ ghost use Rattle.chunk_owner.specs.Marks.{IsChangeMark};
 
 use crate::absent::{is_own, is_root, missing, read_absent};
 use crate::placing::put_done;
-use crate::slots::{Slot, change_at, is_held, link_at, object, remove};
+use crate::slots::{Slot, change_at, has_object, link_at, object, remove};
 use object_acts::{Object, change, link_made, reply};
 use object_ids::{IdMap, ObjectId};
 use object_ops::{Grant, LinkPlace, Op, Refusal, Reply};
@@ -70,7 +70,7 @@ pub(crate) fn change_in(
     if !is_own(grant, id) {
         return Ok(Reply::Refused(missing(grant, id)));
     }
-    if !is_held(slots, id) {
+    if !has_object(slots, id) {
         return change_absent(alloc, slots, op, id, grant);
     }
     change_at(alloc, slots, id, op)
@@ -132,7 +132,7 @@ pub(crate) fn link_in(
     if !is_own(grant, id) {
         return Ok(Reply::Refused(missing(grant, id)));
     }
-    if !is_held(slots, id) {
+    if !has_object(slots, id) {
         return link_absent(alloc, slots, place, fresh, grant);
     }
     link_at(alloc, slots, id, &place.title, fresh)
@@ -188,7 +188,7 @@ pub(crate) fn drop_in(alloc: Global, slots: &mut IdMap<Slot>, id: &ObjectId, gra
     if is_root(grant, id) {
         return Reply::Refused(Refusal::Root);
     }
-    if !is_held(slots, id) {
+    if !has_object(slots, id) {
         return Reply::Refused(missing(grant, id));
     }
     remove(slots, id);

@@ -5,7 +5,7 @@ use Rattle.shapes.specs.Shapes.{LiesIn}
 use Rattle.chunk_store.specs.Cells.{put}
 use Rattle.chunk_store.specs.Grids.{Grid, IsWhole}
 use Rattle.chunk_store.specs.Indexes.{IsIndex}
-use Rattle.chunk_store.specs.Marks.{Stored, AreIndexes, state, in_grid, touches, IsNoted, MarksBegun, MarksWritten, MarksCut, after_cut, cleared}
+use Rattle.chunk_store.specs.Marks.{Stored, AreIndexes, state, in_grid, touches, IsNoted, MarksBegun, MarksWritten, MarksResized, after_resize, cleared}
 use Rattle.chunk_store.proofs.KeyLemmas.{put_cases}
 use Rattle.chunk_store.proofs.ChunkLemmas.{index_here}
 use Rattle.chunk_store.proofs.TrackLemmas.{touched_grid}
@@ -38,12 +38,12 @@ pub indexes_written : (s t : Stored) (ats : List (List ℕ)) → t.grid.chunk �
 indexes_written s t ats same w each marks =
     indexes_from s t same (λ i. subst (IsFrom s.grid i (state s i)) (sym (marks i)) (written_from s.grid i (touches s.grid.chunk ats i) (state s i) (λ t. index_here s.grid i w (touched_grid s.grid ats i w each t))))
 
-cut_from : (h : Grid) (i : List ℕ) (k : Bool) (o : Option Bool) → IsFrom h i o (after_cut k o)
-cut_from h i k None there = inl there
-cut_from h i k (Some b) there = inl refl
+resized_from : (h : Grid) (i : List ℕ) (k : Bool) (o : Option Bool) → IsFrom h i o (after_resize k o)
+resized_from h i k None there = inl there
+resized_from h i k (Some b) there = inl refl
 
-pub indexes_cut : (s t : Stored) (dims : List ℕ) → t.grid.chunk ≡ s.grid.chunk → MarksCut s dims t → AreIndexes s → AreIndexes t
-indexes_cut s t dims same marks = indexes_from s t same (λ i. subst (IsFrom s.grid i (state s i)) (sym (marks i)) (cut_from s.grid i _ (state s i)))
+pub indexes_resized : (s t : Stored) (dims : List ℕ) → t.grid.chunk ≡ s.grid.chunk → MarksResized s dims t → AreIndexes s → AreIndexes t
+indexes_resized s t dims same marks = indexes_from s t same (λ i. subst (IsFrom s.grid i (state s i)) (sym (marks i)) (resized_from s.grid i _ (state s i)))
 
 cleared_from : (h : Grid) (i : List ℕ) (k : Bool) (o : Option Bool) → IsFrom h i o (cleared k o)
 cleared_from h i k None there = inl there

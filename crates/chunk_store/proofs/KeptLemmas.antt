@@ -22,7 +22,7 @@ use Rattle.chunk_layout.specs.Layouts.{Fits}
 use Rattle.chunk_store.specs.Cells.{find_in, has, value_in}
 use Rattle.shapes.proofs.InsideLemmas.{lies_told, lies_read}
 use Rattle.chunk_store.specs.declared.picks.Picks.{Picks}
-use Rattle.chunk_store.specs.Grids.{Grid, tabulated, value_at, reads, written, writes, with_dims, cut_to, blank_of, all_fill, IsWhole}
+use Rattle.chunk_store.specs.Grids.{Grid, tabulated, value_at, reads, written, writes, with_dims, resized_to, blank_of, all_fill, IsWhole}
 use Rattle.chunk_store.specs.Picked.{picked, PicksIn}
 use Rattle.chunk_store.specs.Kept.{IsKept, given_fill}
 use Rattle.shapes.proofs.CellLemmas.{cells_length}
@@ -128,8 +128,8 @@ chosen_value : (blank : List ℕ) (b : Bool) (o : Option (Vec ℕ Global)) → o
 chosen_value blank true o = refl
 chosen_value blank false o = refl
 
-pub cut_value : (m n : Cells) (blank : List ℕ) (p : List ℕ → Bool) → ((q : List ℕ) → find_in n q ≡ cond (p q) (find_in m q) None) → (q : List ℕ) → value_in n blank q ≡ cond (p q) (value_in m blank q) blank
-cut_value m n blank p h q = ap (λ o. option_map_or (λ v. v.items) o blank) (h q) ∙ chosen_value blank (p q) (find_in m q)
+pub resized_value : (m n : Cells) (blank : List ℕ) (p : List ℕ → Bool) → ((q : List ℕ) → find_in n q ≡ cond (p q) (find_in m q) None) → (q : List ℕ) → value_in n blank q ≡ cond (p q) (value_in m blank q) blank
+resized_value m n blank p h q = ap (λ o. option_map_or (λ v. v.items) o blank) (h q) ∙ chosen_value blank (p q) (find_in m q)
 
 pub absent_value : (blank : List ℕ) (o : Option (Vec ℕ Global)) → (is_some o ≡ true → ⊥) → option_map_or (λ v. v.items) o blank ≡ blank
 absent_value blank None h = refl
@@ -143,16 +143,16 @@ chosen_some : (b : Bool) (o : Option (Vec ℕ Global)) → is_some (cond b o Non
 chosen_some true o h = refl
 chosen_some false o h = h
 
-pub kept_cut : (e : Elem) (s t : Shape) (c : List ℕ) (given : Bool) (blank : List ℕ) (size : ℕ) (m n : Cells) (dims : List ℕ) → IsKept e s c given blank size m → IsResized s dims t → IsSound t
+pub kept_resized : (e : Elem) (s t : Shape) (c : List ℕ) (given : Bool) (blank : List ℕ) (size : ℕ) (m n : Cells) (dims : List ℕ) → IsKept e s c given blank size m → IsResized s dims t → IsSound t
     → ((q : List ℕ) → find_in n q ≡ cond (lies_in q t) (find_in m q) None) → IsKept e t c given blank size n
-kept_cut e s t c given blank size m n dims kept re sound h = record {
+kept_resized e s t c given blank size m n dims kept re sound h = record {
   kind = kept.kind;
   shape = sound;
   layout = record { rank = kept.layout.rank ∙ same_rank s t dims kept.shape re; each_dim = kept.layout.each_dim; bytes = kept.layout.bytes };
   sized = kept.sized;
   unwritten = kept.unwritten;
   blank_encoded = kept.blank_encoded;
-  encoded = λ q. subst (IsEncoded e) (sym (cut_value m n blank (λ p. lies_in p t) h q)) (chosen_encoded e (lies_in q t) (value_in m blank q) blank (kept.encoded q) kept.blank_encoded);
+  encoded = λ q. subst (IsEncoded e) (sym (resized_value m n blank (λ p. lies_in p t) h q)) (chosen_encoded e (lies_in q t) (value_in m blank q) blank (kept.encoded q) kept.blank_encoded);
   inside = λ q there. lies_told q t (chosen_some (lies_in q t) (find_in m q) (sym (ap is_some (h q)) ∙ there));
 }
 
@@ -162,9 +162,9 @@ absent_blank e s c given blank size m kept at out =
     absent_value blank (find_in m at) (λ there. let both : true ≡ false = sym (lies_read at s (kept.inside at there)) ∙ out in cc)
 
 -- cells that keep what they had, or have the blank where they are new
-pub cut_same : (e : Elem) (s t : Shape) (c : List ℕ) (given : Bool) (blank dims : List ℕ) (f g : List ℕ → List ℕ) → blank ≡ blank_of e (given_fill given blank) → IsResized s dims t → ((q : List ℕ) → LiesIn q t → g q ≡ f q)
-    → ((q : List ℕ) → LiesIn q t → lies_in q s ≡ false → f q ≡ blank) → tabulated e t c (given_fill given blank) g ≡ cut_to (tabulated e s c (given_fill given blank) f) dims
-cut_same e s t c given blank dims f g filling re same new =
+pub resized_same : (e : Elem) (s t : Shape) (c : List ℕ) (given : Bool) (blank dims : List ℕ) (f g : List ℕ → List ℕ) → blank ≡ blank_of e (given_fill given blank) → IsResized s dims t → ((q : List ℕ) → LiesIn q t → g q ≡ f q)
+    → ((q : List ℕ) → LiesIn q t → lies_in q s ≡ false → f q ≡ blank) → tabulated e t c (given_fill given blank) g ≡ resized_to (tabulated e s c (given_fill given blank) f) dims
+resized_same e s t c given blank dims f g filling re same new =
     let old = tabulated e s c (given_fill given blank) f in
     ap (λ x. tabulated e x c (given_fill given blank) g) (resized_is s t dims re)
     ∙ tabulated_same e (with_dims s dims) c (given_fill given blank) g (λ at. cond (lies_in at s) (value_at (tabulated e s c (given_fill given blank) f) at) (blank_of e (given_fill given blank))) (λ at lies.
@@ -176,13 +176,13 @@ cut_same e s t c given blank dims f g filling re same new =
       | inr outside ↦ same at on ∙ new at on outside ∙ filling ∙ sym (ap (λ b. cond b (value_at old at) (blank_of e (given_fill given blank))) outside)
     ])
 
-pub cut_view : (a : Grid) (e : Elem) (s t : Shape) (c : List ℕ) (given : Bool) (blank : List ℕ) (size : ℕ) (m n : Cells) (dims : List ℕ) → IsKept e s c given blank size m → IsResized s dims t
+pub resized_view : (a : Grid) (e : Elem) (s t : Shape) (c : List ℕ) (given : Bool) (blank : List ℕ) (size : ℕ) (m n : Cells) (dims : List ℕ) → IsKept e s c given blank size m → IsResized s dims t
     → ((q : List ℕ) → find_in n q ≡ cond (lies_in q t) (find_in m q) None) → tabulated e s c (given_fill given blank) (value_in m blank) ≡ a
-    → tabulated e t c (given_fill given blank) (value_in n blank) ≡ cut_to a dims
-cut_view a e s t c given blank size m n dims kept re h is =
-    subst (λ (x : Grid). tabulated e t c (given_fill given blank) (value_in n blank) ≡ cut_to x dims) is
-    (cut_same e s t c given blank dims (value_in m blank) (value_in n blank) (given_blank e given blank kept.unwritten) re
-    (λ at lies. cut_value m n blank (λ p. lies_in p t) h at ∙ ap (λ b. cond b (value_in m blank at) blank) (lies_read at t lies))
+    → tabulated e t c (given_fill given blank) (value_in n blank) ≡ resized_to a dims
+resized_view a e s t c given blank size m n dims kept re h is =
+    subst (λ (x : Grid). tabulated e t c (given_fill given blank) (value_in n blank) ≡ resized_to x dims) is
+    (resized_same e s t c given blank dims (value_in m blank) (value_in n blank) (given_blank e given blank kept.unwritten) re
+    (λ at lies. resized_value m n blank (λ p. lies_in p t) h at ∙ ap (λ b. cond b (value_in m blank at) blank) (lies_read at t lies))
     (λ at lies out. absent_blank e s c given blank size m kept at out))
 
 module _ (e : Elem) (s : Shape) (c : List ℕ) (given : Bool) (blank : List ℕ) (size : ℕ) (m : Cells) (kept : IsKept e s c given blank size m) where

@@ -23,7 +23,7 @@ mod PlaceWalkLemmas
 mod PointLemmas
 mod AccessLemmas
 mod EntryLemmas
-mod CutChunkLemmas
+mod TruncationLemmas
 mod PartLemmas
 pub mod BoxCopies
 pub mod StridedCopies

@@ -27,20 +27,20 @@ use Rattle.chunk_layout.proofs.DefaultLemmas.{fits_chunk}
 use Rattle.chunk_store.specs.Parts.{IsBuffered, stored_in}
 use Rattle.chunk_store.specs.Buffers.{AreFull, IsFrame, IsFull, IsGrown, IsWritten, bytes_at, chunk_bytes, flag_at, flags_of, has_cell, when_cleared}
 use Rattle.chunk_store.specs.Cells.{find_in, has, put}
-use Rattle.chunk_store.specs.Grids.{Grid, IsWhole, all_fill, blank_of, cut_to, reads, tabulated, value_at, writes, written}
+use Rattle.chunk_store.specs.Grids.{Grid, IsWhole, all_fill, blank_of, resized_to, reads, tabulated, value_at, writes, written}
 use Rattle.chunk_store.specs.Indexes.{IsIndex}
 use Rattle.chunk_store.specs.Kept.{given_fill}
-use Rattle.chunk_store.specs.Marks.{Stored, AreIndexes, IsChunkOf, IsNoted, IsTracked, MarksBegun, MarksCut, MarksWritten, after_cut, body_of, cleared, content, cut, in_grid, keeps, shown, state, touches, with_chunk}
+use Rattle.chunk_store.specs.Marks.{Stored, AreIndexes, IsChunkOf, IsNoted, IsTracked, MarksBegun, MarksResized, MarksWritten, after_resize, body_of, cleared, content, cut, in_grid, keeps, shown, state, touches, with_chunk}
 use Rattle.chunk_store.specs.Picked.{picked, PicksIn}
 use Rattle.chunk_store.specs.declared.buffers.Frame.{Frame}
 use Rattle.chunk_store.specs.declared.buffers.Held.{Held}
 use Rattle.chunk_store.specs.declared.picks.Picks.{Picks}
-use Rattle.chunk_store.proofs.ArrayLemmas.{indexes_begun, indexes_cleared, indexes_cut, indexes_put, indexes_written, noted_flagged}
+use Rattle.chunk_store.proofs.ArrayLemmas.{indexes_begun, indexes_cleared, indexes_resized, indexes_put, indexes_written, noted_flagged}
 use Rattle.chunk_store.proofs.ChunkLemmas.{body_some, bytes_there, fill_same, index_here}
 use Rattle.chunk_store.proofs.CutLemmas.{cut_tracked, grid_here, lies_rank, made_tracked}
 use Rattle.chunk_store.proofs.GridLemmas.{reads_same, tabulated_same, value-tabulated}
 use Rattle.chunk_store.proofs.InstallLemmas.{cell_there, flat_pieces, install_tracked}
-use Rattle.chunk_store.proofs.KeptLemmas.{cut_same, given_blank, given_same, read_view, same_rank, same_view, whole_of, write_view}
+use Rattle.chunk_store.proofs.KeptLemmas.{resized_same, given_blank, given_same, read_view, same_rank, same_view, whole_of, write_view}
 use Rattle.chunk_store.proofs.KeyLemmas.{put_cases, put_through}
 use Rattle.chunk_store.proofs.PickLemmas.{picked_inside}
 use Rattle.chunk_store.proofs.TrackLemmas.{begun_tracked, cell_of_chunk, rank_of, resize_tracked, write_tracked, written_other}
@@ -136,9 +136,9 @@ pub record Writes (a : Stored) (ats : List (List ℕ)) (bytes : List ℕ) (t : S
   pub marks : MarksWritten a ats t
   pub tracked : (held : List ℕ → List ℕ) → IsTracked held a → IsTracked held t
 
-pub record Cuts (a : Stored) (dims : List ℕ) (t : Stored) : Type 0 where
-  pub done : t.grid ≡ cut_to a.grid dims
-  pub marks : MarksCut a dims t
+pub record Resizes (a : Stored) (dims : List ℕ) (t : Stored) : Type 0 where
+  pub done : t.grid ≡ resized_to a.grid dims
+  pub marks : MarksResized a dims t
   pub tracked : (held : List ℕ → List ℕ) → IsTracked held a → IsTracked held t
 
 pub record Clears (a t : Stored) : Type 0 where
@@ -379,18 +379,18 @@ module _ (e : Elem) (s : Shape) (given : Bool) (f : Frame) where
 
     module _ (t : Shape) (dims : List ℕ) (n : Chunks) (re : IsResized s dims t) (sound : IsSound t)
         (cells : (q : List ℕ) → length q ≡ length f.layout.chunk → bytes_at n f q ≡ cond (lies_in q t) (bytes_at m f q) f.blank.items)
-        (full : AreFull n f) (flags : (i : List ℕ) → flag_at n i ≡ after_cut (keeps i f.layout.chunk (dims_of s) (dims_of t)) (flag_at m i)) where
-      abbrev with_cut : Stored
-      with_cut = stored_in e t given f n
+        (full : AreFull n f) (flags : (i : List ℕ) → flag_at n i ≡ after_resize (keeps i f.layout.chunk (dims_of s) (dims_of t)) (flag_at m i)) where
+      abbrev with_resize : Stored
+      with_resize = stored_in e t given f n
 
-      cut_flags : MarksCut old dims with_cut
-      cut_flags = λ i.
+      resize_flags : MarksResized old dims with_resize
+      resize_flags = λ i.
           state_flag n i ∙ flags i
-          ∙ ap (λ ds. after_cut (keeps i f.layout.chunk (dims_of s) ds) (flag_at m i)) (dims_again s t dims re)
-          ∙ ap (after_cut (keeps i f.layout.chunk (dims_of s) dims)) (sym (state_flag m i))
+          ∙ ap (λ ds. after_resize (keeps i f.layout.chunk (dims_of s) ds) (flag_at m i)) (dims_again s t dims re)
+          ∙ ap (after_resize (keeps i f.layout.chunk (dims_of s) dims)) (sym (state_flag m i))
 
-      pub kept_cut : IsBuffered e t given f n
-      kept_cut = record {
+      pub kept_resized : IsBuffered e t given f n
+      kept_resized = record {
         kind = kept.kind;
         shape = sound;
         layout = record { rank = kept.layout.rank ∙ same_rank s t dims kept.shape re; each_dim = kept.layout.each_dim; bytes = kept.layout.bytes };
@@ -400,22 +400,22 @@ module _ (e : Elem) (s : Shape) (given : Bool) (f : Frame) where
         encoded = λ q rank. subst (IsEncoded e) (sym (cells q rank)) (cond_holds (IsEncoded e) (lies_in q t) (bytes_at m f q) f.blank.items (λ on. kept.encoded q rank) (λ off. kept.blank_encoded));
         outside = λ q rank off. cells q rank ∙ ap (λ b. cond b (bytes_at m f q) f.blank.items) off;
         full = full;
-        indexes = indexes_back n (indexes_cut old with_cut dims refl cut_flags known_indexes);
+        indexes = indexes_back n (indexes_resized old with_resize dims refl resize_flags known_indexes);
       }
 
-      cut_grid : with_cut.grid ≡ cut_to old.grid dims
-      cut_grid =
-          cut_same e s t f.layout.chunk given f.blank.items dims (bytes_at m f) (bytes_at n f) filling re
+      resize_grid : with_resize.grid ≡ resized_to old.grid dims
+      resize_grid =
+          resized_same e s t f.layout.chunk given f.blank.items dims (bytes_at m f) (bytes_at n f) filling re
           (λ q lies. cells q (new_cell q lies) ∙ ap (λ b. cond b (bytes_at m f q) f.blank.items) (lies_read q t lies))
           (λ q lies off. kept.outside q (new_cell q lies) off)
         where
           new_cell : (q : List ℕ) → LiesIn q t → length q ≡ length f.layout.chunk
           new_cell q lies = lies_rank q t lies ∙ sym (same_rank s t dims kept.shape re) ∙ sym kept.layout.rank
 
-      pub cuts_from : (a : Stored) → stored_in e s given f m ≡ a → Cuts a dims with_cut
-      cuts_from a is =
-          subst (λ (x : Stored). Cuts x dims (stored_in e t given f n)) is
-          (record { done = cut_grid; marks = cut_flags; tracked = λ held. resize_tracked held old with_cut dims t whole_grid re cut_grid cut_flags })
+      pub resizes_from : (a : Stored) → stored_in e s given f m ≡ a → Resizes a dims with_resize
+      resizes_from a is =
+          subst (λ (x : Stored). Resizes x dims (stored_in e t given f n)) is
+          (record { done = resize_grid; marks = resize_flags; tracked = λ held. resize_tracked held old with_resize dims t whole_grid re resize_grid resize_flags })
 
     -- ---- flags that were cleared
 

@@ -22,9 +22,9 @@ same_values s xs ys e l h = same_list ys xs (l ∙ sym e) (λ k low.
     let here = index-cell s k within in
     ap (λ j. get_or ys j []) (sym here) ∙ h at lies ∙ ap (λ j. get_or xs j []) here)
 
-pub same_held : (h k : Grid) → k.kind ≡ h.kind → k.shape ≡ h.shape → k.chunk ≡ h.chunk → k.fill ≡ h.fill → length h.values ≡ count_of h.shape → length k.values ≡ count_of h.shape
+pub same_grids : (h k : Grid) → k.kind ≡ h.kind → k.shape ≡ h.shape → k.chunk ≡ h.chunk → k.fill ≡ h.fill → length h.values ≡ count_of h.shape → length k.values ≡ count_of h.shape
     → ((at : List ℕ) → LiesIn at h.shape → value_at k at ≡ value_at h at) → k ≡ h
-same_held h k kind shape chunk fill e l each =
+same_grids h k kind shape chunk fill e l each =
     let values = same_values h.shape h.values k.values e l (λ at lies. ap (λ s. get_or k.values (linear_index at (dims_of s)) []) (sym shape) ∙ each at lies) in
     ap (λ x. record k { kind = x }) kind ∙ ap (λ x. record k { kind = h.kind; shape = x }) shape ∙ ap (λ x. record k { kind = h.kind; shape = h.shape; chunk = x }) chunk
     ∙ ap (λ x. record k { kind = h.kind; shape = h.shape; chunk = h.chunk; fill = x }) fill ∙ ap (λ x. record h { values = x }) values

@@ -8,7 +8,7 @@ use Rattle.hdf_values.specs.Nested.{piece_at, pieces_at}
 use Rattle.hdf_values.proofs.JoinLemmas.{joined_whole}
 use Rattle.chunk_layout.specs.Chunks.{quotients, offset_of}
 use Rattle.chunk_layout.proofs.CellLemmas.{one_cell_there}
-use Rattle.chunk_store.proofs.StridedCopies.StrideLemmas.{length-cut, piece_of_cut}
+use Rattle.chunk_store.proofs.StridedCopies.StrideLemmas.{length-subslice, piece_of_subslice}
 use Rattle.chunk_store.specs.Buffers.{AreFull, IsFrame, IsWritten, bytes_at, chunk_bytes, flag_at}
 use Rattle.chunk_store.specs.Cells.{find_in, put}
 use Rattle.chunk_store.specs.Grids.{written}
@@ -31,10 +31,10 @@ pub stretch_read : (m : Chunks) (f : Frame) (t : Stretch) (h : Held) (ats : List
 stretch_read m f t h ats on there room =
     let many = on.many in
     joined_whole f.size (bytes_at m f) ats [] (pieces_at f.size t.offset t.len h.bytes.items)
-    (length-cut f.size t.offset t.len h.bytes.items room ∙ ap (λ n. n * f.size) (sym many))
+    (length-subslice f.size t.offset t.len h.bytes.items room ∙ ap (λ n. n * f.size) (sym many))
     (λ j low.
     let at = on.each j low in
-    piece_of_cut f.size t.offset t.len j h.bytes.items (omega (arith, low, many))
+    piece_of_subslice f.size t.offset t.len j h.bytes.items (omega (arith, low, many))
     ∙ ap (λ o. piece_at f.size o h.bytes.items) (sym at.offset)
     ∙ sym (found_bytes m f (get_or ats j []) t.index (Some h) (sym at.index) there))
 

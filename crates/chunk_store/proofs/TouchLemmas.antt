@@ -277,9 +277,9 @@ pub index_step : (ss : List Side) (i step st rest m : ℕ) (found whole : List �
 index_step ss i step st rest m found whole h em es l est so =
     let t = get_or ss i no_side in
     let tail = drop (i + 1) ss in
-    let cut = drop_more ss i no_side h in
-    let es_here = rw cut at es in
-    let so_here = rw cut at so in
+    let opened = drop_more ss i no_side h in
+    let es_here = rw opened at es in
+    let so_here = rw opened at so in
     let some = (some_factor (slots_of t) (cell_count (map slots_of tail)) rest (omega (arith, l, es_here))).1 in
     let slot = div_below rest (cell_count (map slots_of tail)) (slots_of t) some (omega (arith, l, es_here)) in
     let now : st ≡ cell_count (map slots_of tail) = est ∙ ap (λ n. step / n) em ∙ ap (λ n. n / slots_of t) es_here ∙ mul-div_cancel_left (cell_count (map slots_of tail)) (omega (arith, slot)) in

@@ -15,10 +15,10 @@ use Rattle.chunk_layout.specs.Chunks.{IsChunkDim, quotients, offset_of, corner, 
 use Rattle.chunk_layout.proofs.CellLemmas.{cell_rank, cell_chunk, chunk_count, chunk_listed}
 use Rattle.chunk_store.specs.Cells.{put}
 use Rattle.chunk_store.proofs.KeyLemmas.{put_cases}
-use Rattle.chunk_store.specs.Grids.{IsWhole, Grid, value_at, blank_of, written, writes, with_dims, cut_to}
+use Rattle.chunk_store.specs.Grids.{IsWhole, Grid, value_at, blank_of, written, writes, with_dims, resized_to}
 use Rattle.chunk_store.proofs.GridLemmas.{value-tabulated, reads_same}
 use Rattle.chunk_store.proofs.KeptLemmas.{new_rank}
-use Rattle.chunk_store.specs.Marks.{Stored, state, in_grid, shown, content, all_blank, Stands, IsTracked, IsNoted, touches, MarksWritten, MarksBegun, MarksCut, keeps, keeps_axis, after_cut}
+use Rattle.chunk_store.specs.Marks.{Stored, state, in_grid, shown, content, all_blank, Stands, IsTracked, IsNoted, touches, MarksWritten, MarksBegun, MarksResized, keeps, keeps_axis, after_resize}
 use Rattle.chunk_store.proofs.CutLemmas.{grid_here, content_piece, blank_piece}
 use Rattle.json_trees.proofs.ListLemmas.{all_weaker}
 
@@ -174,24 +174,24 @@ kept_corner (i ∷ is) (n ∷ ns) (o ∷ olds) (w ∷ news) e l m h = (
   kept_corner is ns olds news (omega (arith, e)) (omega (arith, l)) (omega (arith, m)) (and_parts (keeps_axis i n o w) (keeps is ns olds news) h).1,
 )
 
--- a cell of the array after the cut
-cut_shown : (h : Grid) (dims x : List ℕ) → lies_in x (with_dims h.shape dims) ≡ true → shown (cut_to h dims) x ≡ cond (lies_in x h.shape) (value_at h x) (blank_of h.kind h.fill)
-cut_shown h dims x on =
-    ap (λ b. cond b (value_at (cut_to h dims) x) (blank_of h.kind h.fill)) on
+-- a cell of the array of other dims
+resized_shown : (h : Grid) (dims x : List ℕ) → lies_in x (with_dims h.shape dims) ≡ true → shown (resized_to h dims) x ≡ cond (lies_in x h.shape) (value_at h x) (blank_of h.kind h.fill)
+resized_shown h dims x on =
+    ap (λ b. cond b (value_at (resized_to h dims) x) (blank_of h.kind h.fill)) on
     ∙ value-tabulated h.kind (with_dims h.shape dims) h.chunk h.fill (λ at. cond (lies_in at h.shape) (value_at h at) (blank_of h.kind h.fill)) x (lies_told x (with_dims h.shape dims) on)
 
-cut_blank : (h : Grid) (dims i : List ℕ) → all_blank (cut_to h dims) i ≡ all_blank h i
+resized_blank : (h : Grid) (dims i : List ℕ) → all_blank (resized_to h dims) i ≡ all_blank h i
 unfolding all_blank
-cut_blank h dims i = refl
+resized_blank h dims i = refl
 
 -- a chunk that keeps its cells keeps its bytes
-uncut_content : (h : Grid) (dims i : List ℕ) → AllByRecursion (λ x. lies_in x h.shape ≡ true → lies_in x (with_dims h.shape dims) ≡ true) (chunk_cells i h.chunk) → content (cut_to h dims) i ≡ content h i
+resized_content : (h : Grid) (dims i : List ℕ) → AllByRecursion (λ x. lies_in x h.shape ≡ true → lies_in x (with_dims h.shape dims) ≡ true) (chunk_cells i h.chunk) → content (resized_to h dims) i ≡ content h i
 unfolding content
-uncut_content h dims i each =
-    reads_same (λ x. lies_in x h.shape ≡ true → lies_in x (with_dims h.shape dims) ≡ true) (shown (cut_to h dims)) (shown h) (λ x stays. elim (cases_Bool (lies_in x (with_dims h.shape dims))) [
-      | inl on ↦ cut_shown h dims x on
+resized_content h dims i each =
+    reads_same (λ x. lies_in x h.shape ≡ true → lies_in x (with_dims h.shape dims) ≡ true) (shown (resized_to h dims)) (shown h) (λ x stays. elim (cases_Bool (lies_in x (with_dims h.shape dims))) [
+      | inl on ↦ resized_shown h dims x on
       | inr off ↦
-          ap (λ b. cond b (value_at (cut_to h dims) x) (blank_of h.kind h.fill)) off
+          ap (λ b. cond b (value_at (resized_to h dims) x) (blank_of h.kind h.fill)) off
           ∙ elim (cases_Bool (lies_in x h.shape)) [
             | inl old ↦ absurd (let both : true ≡ false = sym (stays old) ∙ off in cc)
             | inr gone ↦ sym (ap (λ b. cond b (value_at h x) (blank_of h.kind h.fill)) gone)
@@ -199,11 +199,11 @@ uncut_content h dims i each =
     ]) (chunk_cells i h.chunk) each
 
 -- a chunk of which all cells have the fill still has it
-blank_content : (h : Grid) (dims i : List ℕ) → IsWhole h → length i ≡ length h.chunk → (in_grid h i ≡ true → content h i ≡ all_blank h i) → content (cut_to h dims) i ≡ all_blank (cut_to h dims) i
+blank_content : (h : Grid) (dims i : List ℕ) → IsWhole h → length i ≡ length h.chunk → (in_grid h i ≡ true → content h i ≡ all_blank h i) → content (resized_to h dims) i ≡ all_blank (resized_to h dims) i
 unfolding content all_blank
 blank_content h dims i w rank blank =
-    reads_same (IsCellOf h.chunk i) (shown (cut_to h dims)) (λ x. blank_of h.kind h.fill) (λ x cell. elim (cases_Bool (lies_in x (with_dims h.shape dims))) [
-      | inl on ↦ cut_shown h dims x on ∙ elim (cases_Bool (lies_in x h.shape)) [
+    reads_same (IsCellOf h.chunk i) (shown (resized_to h dims)) (λ x. blank_of h.kind h.fill) (λ x cell. elim (cases_Bool (lies_in x (with_dims h.shape dims))) [
+      | inl on ↦ resized_shown h dims x on ∙ elim (cases_Bool (lies_in x h.shape)) [
         | inl old ↦
             let here = cell.1 in
             let lies = lies_told x h.shape old in
@@ -216,14 +216,14 @@ blank_content h dims i w rank blank =
             ∙ blank_piece h x w lies
         | inr new ↦ ap (λ b. cond b (value_at h x) (blank_of h.kind h.fill)) new
       ]
-      | inr off ↦ ap (λ b. cond b (value_at (cut_to h dims) x) (blank_of h.kind h.fill)) off
+      | inr off ↦ ap (λ b. cond b (value_at (resized_to h dims) x) (blank_of h.kind h.fill)) off
     ]) (chunk_cells i h.chunk) (cells_of_chunk h.chunk i w.dims rank)
 
 module _ (h : Grid) (dims i : List ℕ) (t : Shape) (w : IsWhole h) (re : IsResized h.shape dims t) where
   ranks : length dims ≡ length h.chunk
   ranks = new_rank h.shape t dims w.shape re ∙ sym w.rank
 
-  stays_in : in_grid h i ≡ true → keeps i h.chunk (dims_of h.shape) dims ≡ true → in_grid (cut_to h dims) i ≡ true
+  stays_in : in_grid h i ≡ true → keeps i h.chunk (dims_of h.shape) dims ≡ true → in_grid (resized_to h dims) i ≡ true
   stays_in g k =
       let rank = rank_of h i g in
       let inside = kept_corner i h.chunk (dims_of h.shape) dims rank (sym w.rank) ranks k in
@@ -234,23 +234,23 @@ module _ (h : Grid) (dims i : List ℕ) (t : Shape) (w : IsWhole h) (re : IsResi
       let old = inside_told x (dims_of h.shape) (sym (new_lies x h.shape t dims re).0 ∙ on) in
       (new_lies x h.shape t dims re).1 ∙ inside_read x dims (kept_cell i h.chunk (dims_of h.shape) dims x w.dims (rank_of h i g) (sym w.rank) ranks cell.1 k old)
 
-  after_stands : (body : List ℕ) (k : Bool) (o : Option Bool) → keeps i h.chunk (dims_of h.shape) dims ≡ k → Stands body o h i → Stands body (after_cut k o) (cut_to h dims) i
-  after_stands body k None e on = (on.0, λ g. blank_content h dims i w (rank_of (cut_to h dims) i g) on.1)
+  after_stands : (body : List ℕ) (k : Bool) (o : Option Bool) → keeps i h.chunk (dims_of h.shape) dims ≡ k → Stands body o h i → Stands body (after_resize k o) (resized_to h dims) i
+  after_stands body k None e on = (on.0, λ g. blank_content h dims i w (rank_of (resized_to h dims) i g) on.1)
   after_stands body false (Some b) e on = tt
   after_stands body true (Some true) e on = tt
   after_stands body true (Some false) e on =
-      let same = uncut_content h dims i (all_weaker (IsCellOf h.chunk i) (λ x. lies_in x h.shape ≡ true → lies_in x (with_dims h.shape dims) ≡ true) (stays_on on.0 e) (chunk_cells i h.chunk) (cells_of_chunk h.chunk i w.dims (rank_of h i on.0))) in (
+      let same = resized_content h dims i (all_weaker (IsCellOf h.chunk i) (λ x. lies_in x h.shape ≡ true → lies_in x (with_dims h.shape dims) ≡ true) (stays_on on.0 e) (chunk_cells i h.chunk) (cells_of_chunk h.chunk i w.dims (rank_of h i on.0))) in (
         stays_in on.0 e,
-        elim on.1 as (λ v. (body ≡ content (cut_to h dims) i) ⊎ ((body ≡ []) × (content (cut_to h dims) i ≡ all_blank (cut_to h dims) i))) [
+        elim on.1 as (λ v. (body ≡ content (resized_to h dims) i) ⊎ ((body ≡ []) × (content (resized_to h dims) i ≡ all_blank (resized_to h dims) i))) [
           | inl is ↦ inl (is ∙ sym same)
-          | inr is ↦ inr (is.0, same ∙ is.1 ∙ sym (cut_blank h dims i))
+          | inr is ↦ inr (is.0, same ∙ is.1 ∙ sym (resized_blank h dims i))
         ],
       )
 
-pub resize_tracked : (kept : List ℕ → List ℕ) (s t : Stored) (dims : List ℕ) (shape : Shape) → IsWhole s.grid → IsResized s.grid.shape dims shape → t.grid ≡ cut_to s.grid dims → MarksCut s dims t → IsTracked kept s → IsTracked kept t
+pub resize_tracked : (kept : List ℕ → List ℕ) (s t : Stored) (dims : List ℕ) (shape : Shape) → IsWhole s.grid → IsResized s.grid.shape dims shape → t.grid ≡ resized_to s.grid dims → MarksResized s dims t → IsTracked kept s → IsTracked kept t
 unfolding IsTracked
 resize_tracked kept s t dims shape w re is marks on = λ i.
     let h = s.grid in
     subst (λ (x : Grid). Stands (kept i) (state t i) x i) (sym is)
-    (subst (λ (o : Option Bool). Stands (kept i) o (cut_to h dims) i) (sym (marks i))
+    (subst (λ (o : Option Bool). Stands (kept i) o (resized_to h dims) i) (sym (marks i))
     (after_stands h dims i shape w re (kept i) (keeps i h.chunk (dims_of h.shape) dims) (state s i) refl (on i)))

@@ -16,7 +16,7 @@ use Rattle.shapes.proofs.InsideLemmas.{lies_told, lies_read}
 use Rattle.chunk_layout.specs.Chunks.{quotients, offset_of, chunk_cells}
 use Rattle.chunk_layout.proofs.CellLemmas.{chunk_count}
 use Rattle.chunk_store.specs.Cells.{put}
-use Rattle.chunk_store.specs.Grids.{Grid, IsWhole, all_fill, blank_of, cut_to, reads, value_at, with_dims, writes, written}
+use Rattle.chunk_store.specs.Grids.{Grid, IsWhole, all_fill, blank_of, resized_to, reads, value_at, with_dims, writes, written}
 use Rattle.chunk_store.specs.Listed.{IsLast, IsNowhere, IsOnce}
 use Rattle.chunk_store.specs.Marks.{Stored, IsTracked, is_dirty, flagged, state, Stands, IsChunkOf, ReadsAs, body_of, body_value, content, in_grid, shown, with_chunk}
 use Rattle.chunk_store.proofs.ChunkLemmas.{chunk_told}
@@ -25,7 +25,7 @@ use Rattle.chunk_store.proofs.GridLemmas.{value-tabulated, tabulated_same, reads
 use Rattle.chunk_store.proofs.InstallLemmas.{flat_pieces}
 use Rattle.chunk_store.proofs.KeyLemmas.{put_here}
 use Rattle.chunk_store.proofs.PickLemmas.{each_all}
-use Rattle.chunk_store.proofs.SameLemmas.{same_held}
+use Rattle.chunk_store.proofs.SameLemmas.{same_grids}
 use Rattle.chunk_store.proofs.TrackLemmas.{by_index, written_other}
 use Rattle.chunk_store.proofs.WriteLemmas.{read_encoded, written_on}
 use Rattle.json_trees.proofs.ListLemmas.{all_at}
@@ -78,8 +78,8 @@ joined_writes h a b xs ys e =
 
 -- ---- other dims
 
-cut_value : (h : Grid) (dims at : List ℕ) → LiesIn at (with_dims h.shape dims) → value_at (cut_to h dims) at ≡ cond (lies_in at h.shape) (value_at h at) (blank_of h.kind h.fill)
-cut_value h dims at lies = value-tabulated h.kind (with_dims h.shape dims) h.chunk h.fill (λ x. cond (lies_in x h.shape) (value_at h x) (blank_of h.kind h.fill)) at lies
+resized_value : (h : Grid) (dims at : List ℕ) → LiesIn at (with_dims h.shape dims) → value_at (resized_to h dims) at ≡ cond (lies_in at h.shape) (value_at h at) (blank_of h.kind h.fill)
+resized_value h dims at lies = value-tabulated h.kind (with_dims h.shape dims) h.chunk h.fill (λ x. cond (lies_in x h.shape) (value_at h x) (blank_of h.kind h.fill)) at lies
 
 outside_read : (at : List ℕ) (s : Shape) → (LiesIn at s → ⊥) → lies_in at s ≡ false
 outside_read at s off = elim (cases_Bool (lies_in at s)) [
@@ -87,19 +87,19 @@ outside_read at s off = elim (cases_Bool (lies_in at s)) [
   | inr none ↦ none
 ]
 
-pub cut_stays : (h : Grid) (dims at : List ℕ) → LiesIn at h.shape → LiesIn at (with_dims h.shape dims) → value_at (cut_to h dims) at ≡ value_at h at
-cut_stays h dims at old new = cut_value h dims at new ∙ ap (λ b. cond b (value_at h at) (blank_of h.kind h.fill)) (lies_read at h.shape old)
+pub resized_stays : (h : Grid) (dims at : List ℕ) → LiesIn at h.shape → LiesIn at (with_dims h.shape dims) → value_at (resized_to h dims) at ≡ value_at h at
+resized_stays h dims at old new = resized_value h dims at new ∙ ap (λ b. cond b (value_at h at) (blank_of h.kind h.fill)) (lies_read at h.shape old)
 
-pub cut_comes : (h : Grid) (dims at : List ℕ) → (LiesIn at h.shape → ⊥) → LiesIn at (with_dims h.shape dims) → value_at (cut_to h dims) at ≡ blank_of h.kind h.fill
-cut_comes h dims at off new = cut_value h dims at new ∙ ap (λ b. cond b (value_at h at) (blank_of h.kind h.fill)) (outside_read at h.shape off)
+pub resized_comes : (h : Grid) (dims at : List ℕ) → (LiesIn at h.shape → ⊥) → LiesIn at (with_dims h.shape dims) → value_at (resized_to h dims) at ≡ blank_of h.kind h.fill
+resized_comes h dims at off new = resized_value h dims at new ∙ ap (λ b. cond b (value_at h at) (blank_of h.kind h.fill)) (outside_read at h.shape off)
 
 dims_twice : (s : Shape) (small large : List ℕ) → with_dims (with_dims s small) large ≡ with_dims s large
 dims_twice Null small large = refl
 dims_twice Scalar small large = refl
 dims_twice (Simple dims limits) small large = refl
 
-pub cut_again : (h : Grid) (small large at : List ℕ) → (LiesIn at (with_dims h.shape small) → ⊥) → LiesIn at (with_dims h.shape large) → value_at (cut_to (cut_to h small) large) at ≡ blank_of h.kind h.fill
-cut_again h small large at off on = cut_comes (cut_to h small) large at off (subst (LiesIn at) (sym (dims_twice h.shape small large)) on)
+pub resized_again : (h : Grid) (small large at : List ℕ) → (LiesIn at (with_dims h.shape small) → ⊥) → LiesIn at (with_dims h.shape large) → value_at (resized_to (resized_to h small) large) at ≡ blank_of h.kind h.fill
+resized_again h small large at off on = resized_comes (resized_to h small) large at off (subst (LiesIn at) (sym (dims_twice h.shape small large)) on)
 
 -- ---- reads
 
@@ -180,7 +180,7 @@ copy_installed h i w g =
     let bs = content h i in
     let f = λ (x : List ℕ). cond (bytes_eq (quotients x h.chunk) i) (body_value h (content h i) x) (value_at h x) in
     ap (with_chunk h i) (body_in h i g)
-    ∙ same_held h (with_chunk h i bs) refl refl refl refl w.table (length-map (cells_of h.shape) f ∙ cells_length h.shape) (λ at lies. kept_value h i at w lies)
+    ∙ same_grids h (with_chunk h i bs) refl refl refl refl w.table (length-map (cells_of h.shape) f ∙ cells_length h.shape) (λ at lies. kept_value h i at w lies)
 
 -- ---- records
 
@@ -190,5 +190,5 @@ parts_value h k (b ∷ bs) at kind chunk fill = ap (λ e. piece_at (size_of e) (
 
 pub one_array : (kept : List ℕ → List ℕ) (h k : Grid) → IsWhole h → IsWhole k → k.kind ≡ h.kind → k.shape ≡ h.shape → k.chunk ≡ h.chunk → k.fill ≡ h.fill → ReadsAs kept h → ReadsAs kept k → k ≡ h
 one_array kept h k w v kind shape chunk fill on also =
-    same_held h k kind shape chunk fill w.table (v.table ∙ ap count_of shape) (λ at lies.
+    same_grids h k kind shape chunk fill w.table (v.table ∙ ap count_of shape) (λ at lies.
     sym (also at (subst (LiesIn at) (sym shape) lies)) ∙ ap (λ c. body_value k (kept (quotients at c)) at) chunk ∙ parts_value h k (kept (quotients at h.chunk)) at kind chunk fill ∙ on at lies)

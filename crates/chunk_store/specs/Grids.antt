@@ -61,8 +61,8 @@ with_dims Scalar dims = Scalar
 with_dims (Simple old limits) dims = Simple dims limits
 
 -- a cell that the old dims have too keeps its bytes, and any other has the fill
-abbrev pub cut_to : Grid → List ℕ → Grid
-cut_to h dims = tabulated h.kind (with_dims h.shape dims) h.chunk h.fill (λ at. cond (lies_in at h.shape) (value_at h at) (blank_of h.kind h.fill))
+abbrev pub resized_to : Grid → List ℕ → Grid
+resized_to h dims = tabulated h.kind (with_dims h.shape dims) h.chunk h.fill (λ at. cond (lies_in at h.shape) (value_at h at) (blank_of h.kind h.fill))
 
 -- what is true of every array
 pub record IsWhole (h : Grid) : Type 0 where

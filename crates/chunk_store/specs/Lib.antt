@@ -9,7 +9,7 @@ pub mod Buffers
 pub mod Touched
 pub mod Slabs
 pub mod Stretches
-pub mod Cuts
+pub mod Truncation
 pub mod Parts
 pub use Rattle.hyperslab.specs.Selected
 pub use Rattle.hdf_values.specs.Nested

@@ -107,7 +107,7 @@ IsNoted touched o p = (p ≡ o) ⊎ ((o ≡ None) × (touched ≡ true) × (p �
 abbrev pub MarksBegun : Stored → List (List ℕ) → Stored → Type 0
 MarksBegun s ats t = (i : List ℕ) → IsNoted (touches s.grid.chunk ats i) (state s i) (state t i)
 
--- on one axis, chunk i of width n begins below the new dim, and none of its numbers below the old dim is cut off
+-- on one axis, chunk i of width n begins below the new dim, and none of its numbers below the old dim is lost
 abbrev pub keeps_axis : (i n old new : ℕ) → Bool
 keeps_axis i n old new = nat_lt (i * n) new && nat_le (min (i * n + n) old) new
 
@@ -117,12 +117,12 @@ keeps (i ∷ is) (n ∷ ns) (old ∷ olds) (new ∷ news) = keeps_axis i n old n
 keeps is ns olds news = true
 
 -- after other dims each known chunk that lost a cell, or has none left, is dirty, and of every other chunk the same is known as before
-abbrev pub after_cut : Bool → Option Bool → Option Bool
-after_cut kept None = None
-after_cut kept (Some b) = cond kept (Some b) (Some true)
+abbrev pub after_resize : Bool → Option Bool → Option Bool
+after_resize kept None = None
+after_resize kept (Some b) = cond kept (Some b) (Some true)
 
-abbrev pub MarksCut : Stored → List ℕ → Stored → Type 0
-MarksCut s dims t = (i : List ℕ) → state t i ≡ after_cut (keeps i s.grid.chunk (dims_of s.grid.shape) dims) (state s i)
+abbrev pub MarksResized : Stored → List ℕ → Stored → Type 0
+MarksResized s dims t = (i : List ℕ) → state t i ≡ after_resize (keeps i s.grid.chunk (dims_of s.grid.shape) dims) (state s i)
 
 -- the index of each known chunk, also of one outside the array, has a number for each axis, of 32 bits
 abbrev pub AreIndexes : Stored → Type 0

@@ -13,21 +13,21 @@ ghost use Rattle.chunk_layout.specs.Layouts.{Fits};
 ghost use Rattle.hyperslab.specs.Selected.{IsSlab, SlabIn, slab_cells};
 ghost use Rattle.point_select.specs.declared.TheConstants.{MAX_POINTS};
 ghost use Rattle.chunk_store.specs.Cells.{put};
-ghost use Rattle.chunk_store.specs.Grids.{IsWhole, all_fill, cut_to, reads, with_dims, writes};
+ghost use Rattle.chunk_store.specs.Grids.{IsWhole, all_fill, resized_to, reads, with_dims, writes};
 ghost use Rattle.chunk_store.specs.Picked.{PicksIn, cells_from, picked};
 ghost use Rattle.chunk_store.specs.Indexes.{IsIndex};
 ghost use Rattle.chunk_store.specs.Marks.{Stored, AreIndexes, IsTracked, IsNextDirty, IsNextChunk, IsChunkOf, MarksBegun};
-ghost use Rattle.chunk_store.specs.Marks.{MarksCut, MarksWritten, with_chunk, body_of, state, in_grid};
+ghost use Rattle.chunk_store.specs.Marks.{MarksResized, MarksWritten, with_chunk, body_of, state, in_grid};
 ghost use Rattle.chunk_store.specs.Marks.{cleared, cut};
 ghost use Rattle.chunk_store.specs.declared.array.InstallFault.TheVariants.{BadChunk, NoMemory};
 
 use crate::access;
 use crate::buffers::{Chunks, Frame, put_chunk};
 use crate::chunks::{cell_number, has_cell, is_blank_outside};
-use crate::cutting::cut;
 use crate::elements::{are_elements, blank_bytes};
 use crate::marks::{clear_flags, first_dirty, first_known};
 use crate::picks::Picks;
+use crate::truncating::truncate;
 use chunk_layout::Layout;
 use hdf_types::ElemType;
 use hyperslab::Slab;
@@ -281,15 +281,15 @@ impl Array {
         requires fits { IsResized self.old.grid.shape dims.now
             (with_dims self.old.grid.shape dims.now) }
         requires small { All (λ n. n ≤ MAX_EXTENT) dims.now }
-        ensures done { self.new.grid ≡ cut_to self.old.grid dims.now }
-        ensures marks { MarksCut self.old dims.now self.new }
+        ensures done { self.new.grid ≡ resized_to self.old.grid dims.now }
+        ensures marks { MarksResized self.old dims.now self.new }
         ensures tracked { (held : List ℕ → List ℕ) → IsTracked held self.old
             → IsTracked held self.new }
     {
         let Ok(shape) = resized(&self.shape, dims) else {
             unreachable!();
         };
-        cut(&mut self.chunks, &self.frame, &self.shape, &shape);
+        truncate(&mut self.chunks, &self.frame, &self.shape, &shape);
         self.shape = shape;
     }
 

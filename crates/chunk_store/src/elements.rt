@@ -35,6 +35,6 @@ pub(crate) fn are_elements(elem: &ElemType, many: u64, bytes: &[u8]) -> bool
     requires { IsSoundType (kind_of elem.now) }
     ensures { IsTrue result ↔ AreEncoded (kind_of elem.now) many bytes.now }
 {
-    let held = bytes.len() / elem.size() as usize;
-    held as u64 == many && first_unencoded(elem, bytes).is_none()
+    let number = bytes.len() / elem.size() as usize;
+    number as u64 == many && first_unencoded(elem, bytes).is_none()
 }

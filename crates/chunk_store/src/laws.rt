@@ -10,7 +10,7 @@ ghost use Rattle.hdf_values.specs.Nested.{piece_at};
 ghost use Rattle.shapes.specs.declared.Shape.{Shape};
 ghost use Rattle.shapes.specs.Shapes.{LiesIn, count_of};
 ghost use Rattle.chunk_layout.specs.Chunks.{quotients};
-ghost use Rattle.chunk_store.specs.Grids.{Grid, IsWhole, all_fill, blank_of, cut_to, reads, value_at, with_dims, writes};
+ghost use Rattle.chunk_store.specs.Grids.{Grid, IsWhole, all_fill, blank_of, resized_to, reads, value_at, with_dims, writes};
 ghost use Rattle.chunk_store.specs.Listed.{IsLast, IsNowhere, IsOnce};
 ghost use Rattle.chunk_store.specs.Marks.{Stored, IsTracked, is_dirty, ReadsAs, Covers, IsNext, recorded, cut};
 ghost use Rattle.chunk_store.specs.Marks.{IsChunkOf, body_of, body_value, in_grid, with_chunk};
@@ -35,13 +35,13 @@ pub fn cells_after_calls()
     ensures others { (h : Grid) (ats : List (List ℕ)) (bytes at : List ℕ) → LiesIn at h.shape
         → IsNowhere ats at → value_at (writes h ats bytes) at ≡ value_at h at }
     ensures stays { (h : Grid) (dims at : List ℕ) → LiesIn at h.shape
-        → LiesIn at (with_dims h.shape dims) → value_at (cut_to h dims) at ≡ value_at h at }
+        → LiesIn at (with_dims h.shape dims) → value_at (resized_to h dims) at ≡ value_at h at }
     ensures comes { (h : Grid) (dims at : List ℕ) → (LiesIn at h.shape → ⊥)
         → LiesIn at (with_dims h.shape dims)
-        → value_at (cut_to h dims) at ≡ blank_of h.kind h.fill }
+        → value_at (resized_to h dims) at ≡ blank_of h.kind h.fill }
     ensures again { (h : Grid) (small large at : List ℕ)
         → (LiesIn at (with_dims h.shape small) → ⊥) → LiesIn at (with_dims h.shape large)
-        → value_at (cut_to (cut_to h small) large) at ≡ blank_of h.kind h.fill }
+        → value_at (resized_to (resized_to h small) large) at ≡ blank_of h.kind h.fill }
 {}
 
 /// What a read gives: for each cell of the list, in order, its element. Cells of which each stands

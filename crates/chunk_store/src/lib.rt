@@ -11,7 +11,6 @@ pub mod box_copies;
 mod buffers;
 mod chunk_boxes;
 mod chunks;
-mod cutting;
 mod elements;
 mod laws;
 mod marks;
@@ -22,6 +21,7 @@ mod slabs;
 mod stretches;
 pub mod strided_copies;
 mod touched;
+mod truncating;
 
 pub use array::{Array, InstallFault};
 pub use chunk_boxes::boxes_of_chunks;

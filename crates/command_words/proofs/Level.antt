@@ -87,21 +87,21 @@ first_is name (p ∷ ps) = go (bytes_eq p.0 name) (first_is name ps)
 
 -- ---- the command's name
 
-pub stopped_walk : (c : List Rule) (names : Names) (w : Walk) (name : Text) (seen words : List Text)
-    → (fold (walked c names) (record w { stopped = Some (name, seen) }) words).stopped ≡ Some (name, seen ++ words)
+pub stopped_walk : (c : List Rule) (names : Names) (w : Walk) (name : Text) (earlier words : List Text)
+    → (fold (walked c names) (record w { stopped = Some (name, earlier) }) words).stopped ≡ Some (name, earlier ++ words)
 unfolding walked
-stopped_walk c names w name seen [] = ap (λ (l : List Text). Some (name, l)) (sym (append-nil seen))
-stopped_walk c names w name seen (word ∷ rest) = stopped_walk c names w name (seen ++ word ∷ []) rest
-    ∙ ap (λ (l : List Text). Some (name, l)) (append_assoc seen (word ∷ []) rest)
+stopped_walk c names w name earlier [] = ap (λ (l : List Text). Some (name, l)) (sym (append-nil earlier))
+stopped_walk c names w name earlier (word ∷ rest) = stopped_walk c names w name (earlier ++ word ∷ []) rest
+    ∙ ap (λ (l : List Text). Some (name, l)) (append_assoc earlier (word ∷ []) rest)
 
-pub stopped_held : (c : List Rule) (names : Names) (w : Walk) (name : Text) (seen words : List Text)
-    → (fold (walked c names) (record w { stopped = Some (name, seen) }) words).held ≡ w.held
+pub stopped_held : (c : List Rule) (names : Names) (w : Walk) (name : Text) (earlier words : List Text)
+    → (fold (walked c names) (record w { stopped = Some (name, earlier) }) words).held ≡ w.held
 unfolding walked
-stopped_held c names w name seen [] = refl
-stopped_held c names w name seen (word ∷ rest) = stopped_held c names w name (seen ++ word ∷ []) rest
+stopped_held c names w name earlier [] = refl
+stopped_held c names w name earlier (word ∷ rest) = stopped_held c names w name (earlier ++ word ∷ []) rest
 
-pub stopped_passes : (s : Shape) (names : Names) (w : Walk) (name : Text) (seen words : List Text)
-    → walk_passes s names (record w { stopped = Some (name, seen) }) words ≡ true
+pub stopped_passes : (s : Shape) (names : Names) (w : Walk) (name : Text) (earlier words : List Text)
+    → walk_passes s names (record w { stopped = Some (name, earlier) }) words ≡ true
 unfolding walked walk_passes
-stopped_passes s names w name seen [] = refl
-stopped_passes s names w name seen (word ∷ rest) = stopped_passes s names w name (seen ++ word ∷ []) rest
+stopped_passes s names w name earlier [] = refl
+stopped_passes s names w name earlier (word ∷ rest) = stopped_passes s names w name (earlier ++ word ∷ []) rest

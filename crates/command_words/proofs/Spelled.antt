@@ -57,8 +57,8 @@ abbrev pub written : Text × Option Text → Text
 written (name, None) = name
 written (name, Some value) = name ++ 61 ∷ value
 
-cut_written : (text : Text) → text ≡ written (name_and_value text)
-cut_written text = go (list_any is_sign text) refl
+parts_written : (text : Text) → text ≡ written (name_and_value text)
+parts_written text = go (list_any is_sign text) refl
   where
     go : (b : Bool) → list_any is_sign text ≡ b → text ≡ written (name_and_value text)
     go false none = ap written (sym (name_and_value-without text (lacks text none)))
@@ -85,7 +85,7 @@ strip_written (x ∷ xs) rest e = go (x == 45) refl
 rest_written : (rest : Text) (o : Text × Option Text) → long_of_rest rest ≡ Some o
     → rest ≡ written o
 rest_written [] o e = cc
-rest_written (x ∷ xs) o e = let same : name_and_value (x ∷ xs) ≡ o = cc in cut_written (x ∷ xs)
+rest_written (x ∷ xs) o e = let same : name_and_value (x ∷ xs) ≡ o = cc in parts_written (x ∷ xs)
     ∙ ap written same
 
 -- the word that is an option

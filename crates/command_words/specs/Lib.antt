@@ -3,4 +3,4 @@ pub mod Reading
 pub mod Numbers
 pub mod Commands
 pub mod Apps
-pub mod Seen
+pub mod Views

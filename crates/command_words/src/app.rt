@@ -12,7 +12,7 @@ ghost use Rattle.command_words.specs.Commands.{config_in, export_of, export_row,
 ghost use Rattle.command_words.specs.Commands.{init_of, init_row, journal_in, lanes_in, n_in, owner_in};
 ghost use Rattle.command_words.specs.Commands.{owner_of, path_in, pieces_in, sample_of, sample_row};
 ghost use Rattle.command_words.specs.Commands.{session_of, session_row, text_in, verify_of, verify_row};
-ghost use Rattle.command_words.specs.Seen.{Answers, HasLanes};
+ghost use Rattle.command_words.specs.Views.{Answers, HasLanes};
 
 use crate::command::{
     DEFAULT_CONFIG, DEFAULT_JOURNAL, DEFAULT_LANES, DEFAULT_OWNER, MAX_LANES, MAX_OWNER_LEN,

@@ -91,7 +91,7 @@ impl From<AllocError> for WordsFault {
 }
 
 impl From<PathFault> for WordsFault {
-    ghost use Rattle.command_words.specs.Seen.{of_path};
+    ghost use Rattle.command_words.specs.Views.{of_path};
 
     ghost from_gives = { λ fault e. e ≡ of_path fault };
 
@@ -104,7 +104,7 @@ impl From<PathFault> for WordsFault {
 }
 
 impl From<NameFault> for WordsFault {
-    ghost use Rattle.command_words.specs.Seen.{of_name};
+    ghost use Rattle.command_words.specs.Views.{of_name};
 
     ghost from_gives = { λ fault e. e ≡ of_name fault };
 

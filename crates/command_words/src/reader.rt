@@ -4,7 +4,7 @@ ghost use Rattle.clap.specs.Lexer.{long_of};
 ghost use Rattle.command_words.specs.Lines.{is_value, has_piece, is_filled};
 ghost use Rattle.command_words.specs.Reading.{with_piece, idle_with, placed, named, opened};
 ghost use Rattle.command_words.specs.Reading.{after_word, ended, pieces_of};
-ghost use Rattle.command_words.specs.Seen.{row_of, state_of};
+ghost use Rattle.command_words.specs.Views.{row_of, state_of};
 
 use crate::long::long_of;
 use crate::row::Row;

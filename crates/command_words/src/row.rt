@@ -1,7 +1,7 @@
 ghost use Rattle.std.specs.Prelude.{◌≡◌, option_map};
 ghost use Rattle.command_words.specs.Commands.{verb_named};
 ghost use Rattle.command_words.specs.Lines.{has};
-ghost use Rattle.command_words.specs.Seen.{row_of};
+ghost use Rattle.command_words.specs.Views.{row_of};
 
 /// A command's name, its options, and the name of its place, where it has one.
 #[derive(Clone, Copy)]

@@ -1,7 +1,7 @@
 ghost use Rattle.std.specs.Prelude.{◌≡◌, ◌↔◌, Some, None, is_some, IfOk, IsErrOf};
 ghost use Rattle.std.specs.Prelude.{map, string_bytes};
 ghost use Rattle.command_words.specs.Commands.{Command, IsCommand, command_of, pieces_in};
-ghost use Rattle.command_words.specs.Seen.{Answers, HasLanes, seen};
+ghost use Rattle.command_words.specs.Views.{Answers, HasLanes, as_command};
 
 use crate::app::{chosen, matched};
 use crate::command::{Wanted, WordsFault};
@@ -28,7 +28,8 @@ use std::alloc::{AllocError, Global};
 ///
 /// `Refused` exactly where the words are no command.
 pub fn wanted<'a>(alloc: Global, words: &'a [String]) -> Result<Wanted<'a>, WordsFault>
-    ensures ok { IfOk result (λ w. command_of (map string_bytes words.entry.now) ≡ Some (seen w)) }
+    ensures ok { IfOk result
+        (λ w. command_of (map string_bytes words.entry.now) ≡ Some (as_command w)) }
     ensures refused { IsErrOf result WordsFault.Refused
         → command_of (map string_bytes words.entry.now) ≡ None }
 

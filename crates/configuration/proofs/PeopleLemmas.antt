@@ -35,17 +35,17 @@ or_false : (c : Bool) → c ≡ (c || false)
 or_false true = refl
 or_false false = refl
 
--- a user that was seen already
-pub seen_still : {V : Type 0} (m : FinMap text_order V) (u q : List ℕ) → contains_key m u ≡ true → contains_key m q ≡ (contains_key m q || bytes_eq q u)
-seen_still {V} m u q h = split (bytes_eq q u) refl
+-- a user that was known already
+pub known_still : {V : Type 0} (m : FinMap text_order V) (u q : List ℕ) → contains_key m u ≡ true → contains_key m q ≡ (contains_key m q || bytes_eq q u)
+known_still {V} m u q h = split (bytes_eq q u) refl
   where
     split : (b : Bool) → bytes_eq q u ≡ b → contains_key m q ≡ (contains_key m q || b)
     split true e = same_or (contains_key m q) true (ap (contains_key m) ((bytes_eq-Decides q u).0 e) ∙ h)
     split false e = or_false (contains_key m q)
 
 -- a user that is put there
-pub seen_more : {V : Type 0} (m : FinMap text_order V) (u q : List ℕ) (v : V) → contains_key (insert m u v) q ≡ (contains_key m q || bytes_eq q u)
-seen_more {V} m u q v =
+pub known_more : {V : Type 0} (m : FinMap text_order V) (u q : List ℕ) (v : V) → contains_key (insert m u v) q ≡ (contains_key m q || bytes_eq q u)
+known_more {V} m u q v =
     ap is_some (get-insert nat_list_cmp_total m u v q ∙ ap (λ (b : Bool). cond b (Some v) (get m q)) (is_eq-slice_cmp q u)) ∙ split (bytes_eq q u) (get m q)
   where
     split : (b : Bool) (o : Option V) → is_some (cond b (Some v) o) ≡ (is_some o || b)
@@ -54,21 +54,21 @@ seen_more {V} m u q v =
     split false None = refl
     split false (Some x) = refl
 
--- nothing is added for a user that was seen
-pub adds_none : {V : Type 0} (seen : FinMap text_order V) (names : List (List ℕ)) (u g q : List ℕ) → contains_key seen u ≡ true → names ≡ names ++ cond (not (contains_key seen q) && bytes_eq q u) (g ∷ []) []
-adds_none seen names u g q h = sym (append-nil names) ∙ sym (ap (λ (b : Bool). names ++ cond b (g ∷ []) []) (split (bytes_eq q u) refl))
+-- nothing is added for a user that was known
+pub adds_none : {V : Type 0} (known : FinMap text_order V) (names : List (List ℕ)) (u g q : List ℕ) → contains_key known u ≡ true → names ≡ names ++ cond (not (contains_key known q) && bytes_eq q u) (g ∷ []) []
+adds_none known names u g q h = sym (append-nil names) ∙ sym (ap (λ (b : Bool). names ++ cond b (g ∷ []) []) (split (bytes_eq q u) refl))
   where
-    split : (b : Bool) → bytes_eq q u ≡ b → (not (contains_key seen q) && b) ≡ false
-    split true e = ap (λ (d : Bool). not d && true) (ap (contains_key seen) ((bytes_eq-Decides q u).0 e) ∙ h)
-    split false e = and-false (not (contains_key seen q))
+    split : (b : Bool) → bytes_eq q u ≡ b → (not (contains_key known q) && b) ≡ false
+    split true e = ap (λ (d : Bool). not d && true) (ap (contains_key known) ((bytes_eq-Decides q u).0 e) ∙ h)
+    split false e = and-false (not (contains_key known q))
 
--- one who was not seen gets the group
-pub adds_one : {V : Type 0} (seen : FinMap text_order V) (u g q : List ℕ) → contains_key seen u ≡ false → cond (bytes_eq q u) (g ∷ []) [] ≡ cond (not (contains_key seen q) && bytes_eq q u) (g ∷ []) []
-adds_one seen u g q h = ap (λ (b : Bool). cond b (g ∷ []) []) (split (bytes_eq q u) refl)
+-- one who was not known gets the group
+pub adds_one : {V : Type 0} (known : FinMap text_order V) (u g q : List ℕ) → contains_key known u ≡ false → cond (bytes_eq q u) (g ∷ []) [] ≡ cond (not (contains_key known q) && bytes_eq q u) (g ∷ []) []
+adds_one known u g q h = ap (λ (b : Bool). cond b (g ∷ []) []) (split (bytes_eq q u) refl)
   where
-    split : (b : Bool) → bytes_eq q u ≡ b → b ≡ (not (contains_key seen q) && b)
-    split true e = sym (ap (λ (d : Bool). not d && true) (ap (contains_key seen) ((bytes_eq-Decides q u).0 e) ∙ h))
-    split false e = sym (and-false (not (contains_key seen q)))
+    split : (b : Bool) → bytes_eq q u ≡ b → b ≡ (not (contains_key known q) && b)
+    split true e = sym (ap (λ (d : Bool). not d && true) (ap (contains_key known) ((bytes_eq-Decides q u).0 e) ∙ h))
+    split false e = sym (and-false (not (contains_key known q)))
 
 -- what is added for some users and for one more
 pub added_more : (old names before : List (List ℕ)) (g : List ℕ) (was here : Bool) → before ≡ old ++ cond was (g ∷ []) [] → names ≡ before ++ cond (not was && here) (g ∷ []) [] → names ≡ old ++ cond (was || here) (g ∷ []) []

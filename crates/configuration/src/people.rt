@@ -117,29 +117,29 @@ fn add_group(
     ensures { OnOk result ((q : List ℕ) → names_at memberships.new q
         ≡ names_at memberships.old q ++ (if list_any (bytes_eq q) users.now then group.now ∷ [] else [])) }
 {
-    let mut seen = TextMap::new(alloc);
+    let mut known = TextMap::new(alloc);
     'users: for user in users {
-        add_once(alloc, memberships, &mut seen, group, user)?;
+        add_once(alloc, memberships, &mut known, group, user)?;
     }
     Ok(())
 }
 
-// Adds a group to those of a user who was not seen in this group yet.
+// Adds a group to those of a user who was not known in this group yet.
 fn add_once(
     alloc: Global,
     memberships: &mut TextMap<Names>,
-    seen: &mut TextMap<bool>,
+    known: &mut TextMap<bool>,
     group: &Name,
     user: &Name,
 ) -> Result<(), AllocError>
-    ensures seen { OnOk result ((q : List ℕ) → map.contains_key seen.new q ≡ (map.contains_key seen.old q || bytes_eq q user.now)) }
+    ensures known { OnOk result ((q : List ℕ) → map.contains_key known.new q ≡ (map.contains_key known.old q || bytes_eq q user.now)) }
     ensures added { OnOk result ((q : List ℕ) → names_at memberships.new q
-        ≡ names_at memberships.old q ++ (if not (map.contains_key seen.old q) && bytes_eq q user.now then group.now ∷ [] else [])) }
+        ≡ names_at memberships.old q ++ (if not (map.contains_key known.old q) && bytes_eq q user.now then group.now ∷ [] else [])) }
 {
-    if seen.contains_key(user.text()) {
+    if known.contains_key(user.text()) {
         return Ok(());
     }
-    seen.put_copy(user.text(), true)?;
+    known.put_copy(user.text(), true)?;
     add_membership(alloc, memberships, user, group)
 }
 

@@ -6,7 +6,7 @@ use Rattle.std.proofs.lemmas.Bool.Decides.{nat_tests}
 use Rattle.std.proofs.lemmas.List.{take_at, take_all, drop_all, length-take, length-take-le, length-replicate, append-nil, drop-drop, take-append-le, drop-append-le}
 use Rattle.std.proofs.Math.Seq.{drop-append-add}
 use Rattle.edge_traits.specs.Disks.{Written, overwritten, Torn, Follows, After, LeavesAll, Elapses, ElapsesBy}
-use Rattle.edge_traits.specs.MemDisks.{Write, Memory, begun, written, synced, TornBy, IsImage, lengthened, cut_short, cut_all_short}
+use Rattle.edge_traits.specs.MemDisks.{Write, Memory, begun, written, synced, TornBy, IsImage, lengthened, torn_write, torn_writes}
 use Rattle.edge_traits.specs.DiskCalls.{step, after, writes_of, all_done, holding, LeftSince, writes_fit, size_after, Unsynced}
 use Rattle.edge_traits.specs.declared.mem_disk.Call.{Call}
 use Rattle.edge_traits.specs.declared.mem_disk.Call.TheVariants.{Wrote, Synced}
@@ -158,16 +158,16 @@ lengthened_past end old = ⊎_elim
     (λ (long : length old < end). drop_all end (lengthened end old) (omega (arith, long, lengthened_length end old)) ∙ sym (drop_all end old (omega (arith, long))))
     (order end (length old))
 
-cut_length : (n : ℕ) (w : Write) (old : List ℕ) → w.at ≤ length old → length (cut_short n w old) ≡ max (length old) (w.at + length w.bytes)
-cut_length n w old inside =
+torn_length : (n : ℕ) (w : Write) (old : List ℕ) → w.at ≤ length old → length (torn_write n w old) ≡ max (length old) (w.at + length w.bytes)
+torn_length n w old inside =
     let kept = take n w.bytes in
     let rest = drop (w.at + length kept) (lengthened (w.at + length w.bytes) old) in
     length-append (take w.at old ++ kept) rest
     ∙ omega (arith, length-append (take w.at old) kept, length-take-le w.at old inside, length-take n w.bytes, length-drop (w.at + length kept) (lengthened (w.at + length w.bytes) old), lengthened_length (w.at + length w.bytes) old)
 
--- a write that was cut short is one that was torn
-cut_torn : (n : ℕ) (w : Write) (old : List ℕ) → w.at ≤ length old → Torn w.at (length w.bytes) old (cut_short n w old)
-cut_torn n w old inside =
+-- a write whose first bytes stand is one that was torn
+write_torn : (n : ℕ) (w : Write) (old : List ℕ) → w.at ≤ length old → Torn w.at (length w.bytes) old (torn_write n w old)
+write_torn n w old inside =
     let end = w.at + length w.bytes in
     let kept = take n w.bytes in
     let from = w.at + length kept in
@@ -175,27 +175,27 @@ cut_torn n w old inside =
     let front : length (take w.at old ++ kept) ≡ from = length-append (take w.at old) kept ∙ omega (arith, length-take-le w.at old inside) in
     record {
       before = ap (take w.at) (append_assoc (take w.at old) kept rest) ∙ take_at (take w.at old) (kept ++ rest) w.at (length-take-le w.at old inside);
-      after = ap (λ (k : ℕ). drop k (cut_short n w old)) (let e : end ≡ from + (end - from) = omega (arith, length-take n w.bytes) in e)
-          ∙ ap (λ (k : ℕ). drop (k + (end - from)) (cut_short n w old)) (sym front) ∙ drop-append-add (take w.at old ++ kept) rest (end - from)
+      after = ap (λ (k : ℕ). drop k (torn_write n w old)) (let e : end ≡ from + (end - from) = omega (arith, length-take n w.bytes) in e)
+          ∙ ap (λ (k : ℕ). drop (k + (end - from)) (torn_write n w old)) (sym front) ∙ drop-append-add (take w.at old ++ kept) rest (end - from)
           ∙ drop-drop (end - from) from (lengthened end old)
           ∙ ap (λ (k : ℕ). drop k (lengthened end old)) (let e : from + (end - from) ≡ end = omega (arith, length-take n w.bytes) in e) ∙ lengthened_past end old;
-      no_shorter = omega (arith, cut_length n w old inside);
-      no_longer = omega (arith, cut_length n w old inside);
+      no_shorter = omega (arith, torn_length n w old inside);
+      no_longer = omega (arith, torn_length n w old inside);
     }
 
--- writes that were cut short are writes that were torn
-pub all_cut_torn : (n size : ℕ) (calls : List Call) (old : List ℕ) → length old ≡ size → writes_fit size calls ≡ true → TornBy (writes_of calls) old (cut_all_short n (writes_of calls) old)
-all_cut_torn n size [] old is fit = refl
-all_cut_torn n size (Wrote a b ∷ calls) old is fit =
+-- writes whose first bytes stand are writes that were torn
+pub writes_torn : (n size : ℕ) (calls : List Call) (old : List ℕ) → length old ≡ size → writes_fit size calls ≡ true → TornBy (writes_of calls) old (torn_writes n (writes_of calls) old)
+writes_torn n size [] old is fit = refl
+writes_torn n size (Wrote a b ∷ calls) old is fit =
     let w : Write = record { at = a; bytes = b.items } in
     let inside : a ≤ length old = grind (arith, nat_tests, fit, is) in (
-      cut_short n w old,
-      cut_torn n w old inside,
-      all_cut_torn (n - length b.items) (max size (a + length b.items)) calls (cut_short n w old)
-          (cut_length n w old inside ∙ ap (λ (k : ℕ). max k (a + length b.items)) is)
+      torn_write n w old,
+      write_torn n w old inside,
+      writes_torn (n - length b.items) (max size (a + length b.items)) calls (torn_write n w old)
+          (torn_length n w old inside ∙ ap (λ (k : ℕ). max k (a + length b.items)) is)
           (second_so (nat_le a size) (writes_fit (max size (a + length b.items)) calls) fit),
     )
-all_cut_torn n size (Synced ∷ calls) old is fit = absurd (cc)
+writes_torn n size (Synced ∷ calls) old is fit = absurd (cc)
 
 -- a fact on bytes holds of the value that has them
 pub if_ok_has : {T E : Type 0} (r : Result T E) (f : T → List ℕ) (x : List ℕ) (P : List ℕ → Type 0) → P x → IfOk r (λ d. f d ≡ x) → IfOk r (λ d. P (f d))

@@ -1,7 +1,7 @@
 -- The record of calls that a disk in memory keeps, and what it says of the disk's bytes.
 use Rattle.std.specs.Prelude.{◌≡◌, ℕ, ◌+◌, ◌≤◌, max, Bool, true, false, List, [], ◌∷◌, length, take, drop, nat_le, ◌&&◌}
 use Rattle.edge_traits.specs.Disks.{overwritten}
-use Rattle.edge_traits.specs.MemDisks.{Write, Memory, begun, written, synced, IsImage, cut_all_short}
+use Rattle.edge_traits.specs.MemDisks.{Write, Memory, begun, written, synced, IsImage, torn_writes}
 use Rattle.edge_traits.specs.declared.mem_disk.Call.{Call}
 use Rattle.edge_traits.specs.declared.mem_disk.Call.TheVariants.{Wrote, Synced}
 
@@ -53,6 +53,6 @@ pub record Unsynced (base_size size : ℕ) (calls : List Call) : Type 0 where
 
 -- The first k of these writes are done on a start, and so many of the bytes to keep are left: the others make the same of it.
 pub record Tears (start image : List ℕ) (kept left k : ℕ) (calls : List Call) : Type 0 where
-  pub whole : cut_all_short left (writes_of (drop k calls)) image ≡ cut_all_short kept (writes_of calls) start
+  pub whole : torn_writes left (writes_of (drop k calls)) image ≡ torn_writes kept (writes_of calls) start
   pub fit : writes_fit (length image) (drop k calls) ≡ true
   pub reach : size_after (length image) (drop k calls) ≡ size_after (length start) calls

@@ -8,7 +8,7 @@ overwritten at bytes old = take at old ++ bytes ++ drop (at + length bytes) old
 abbrev pub Written : ℕ → List ℕ → List ℕ → List ℕ → Type 0
 Written at bytes old new = new ≡ overwritten at bytes old
 
--- a write of n bytes that was cut short: any bytes in its range and past the old end, the same elsewhere
+-- a write of n bytes that was torn: any bytes in its range and past the old end, the same elsewhere
 pub record Torn (at n : ℕ) (old new : List ℕ) : Type 0 where
   pub before : take at new ≡ take at old
   pub after : drop (at + n) new ≡ drop (at + n) old

@@ -42,15 +42,15 @@ abbrev pub lengthened : ℕ → List ℕ → List ℕ
 lengthened n bytes = bytes ++ replicate (n - length bytes) 0
 
 -- a write of which the first n bytes stand; the others are as they were before, or 0 past the old end
-abbrev pub cut_short : ℕ → Write → List ℕ → List ℕ
-cut_short n w old = take w.at old ++ take n w.bytes
+abbrev pub torn_write : ℕ → Write → List ℕ → List ℕ
+torn_write n w old = take w.at old ++ take n w.bytes
     ++ drop (w.at + length (take n w.bytes)) (lengthened (w.at + length w.bytes) old)
 
 -- these writes, of whose bytes the first n stand, in order of writing
-abbrev pub cut_all_short : ℕ → List Write → List ℕ → List ℕ
-cut_all_short n [] old = old
-cut_all_short n (w ∷ writes) old = cut_all_short (n - length w.bytes) writes (cut_short n w old)
+abbrev pub torn_writes : ℕ → List Write → List ℕ → List ℕ
+torn_writes n [] old = old
+torn_writes n (w ∷ writes) old = torn_writes (n - length w.bytes) writes (torn_write n w old)
 
 -- what is left of a disk by a crash that keeps the first n bytes written since the last sync
 abbrev pub crashed : ℕ → Memory → List ℕ
-crashed n m = cut_all_short n m.unsynced m.base
+crashed n m = torn_writes n m.unsynced m.base

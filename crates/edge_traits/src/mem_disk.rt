@@ -5,7 +5,7 @@ ghost use Rattle.std.specs.Io.{ReadsAtMost};
 ghost use Rattle.edge_traits.specs.Causes.{HasCause};
 ghost use Rattle.edge_traits.specs.Disks.{Written, Torn, Fills, LeavesNoMore, LeavesAll, After, Follows, Only};
 ghost use Rattle.edge_traits.specs.Disks.{Elapses, ElapsesBy, overwritten};
-ghost use Rattle.edge_traits.specs.MemDisks.{begun, written, synced, cut_short, cut_all_short, crashed};
+ghost use Rattle.edge_traits.specs.MemDisks.{begun, written, synced, torn_write, torn_writes, crashed};
 ghost use Rattle.edge_traits.specs.DiskCalls.{after, holding, writes_of, all_done, Unsynced, writes_fit, size_after};
 ghost use Rattle.edge_traits.specs.declared.mem_disk.Call.TheVariants.{Wrote, Synced};
 
@@ -55,7 +55,7 @@ fn put(image: &mut Vec<u8>, at: usize, bytes: &[u8], keep: usize) -> Result<(), 
     requires some { keep ≤ length bytes.now }
     requires fits { at + length bytes.now < 2 ^ 64 }
     ensures kept { OnOk result (image.new.items
-        ≡ cut_short keep (record { at = at; bytes = bytes.now }) image.old.items) }
+        ≡ torn_write keep (record { at = at; bytes = bytes.now }) image.old.items) }
     ensures err { OnErr result (image.new.items ≡ image.old.items) }
     ensures len { OnOk result (length image.new.items
         ≡ max (length image.old.items) (at + length bytes.now)) }
@@ -117,7 +117,7 @@ fn tear(image: &mut Vec<u8>, calls: &[Call], kept: u64) -> Result<(), AllocError
     requires fit { writes_fit (length image.old.items) calls.now ≡ true }
     requires short { size_after (length image.old.items) calls.now < 2 ^ 64 }
     ensures torn { OnOk result (image.new.items
-        ≡ cut_all_short kept (writes_of calls.now) image.old.items) }
+        ≡ torn_writes kept (writes_of calls.now) image.old.items) }
     ensures len { OnOk result (length image.new.items
         ≡ size_after (length image.old.items) calls.now) }
 {

@@ -4,33 +4,33 @@ use Rattle.std.specs.Prelude.{option_map, option_and_then, unwrap_or, if◌then�
 use Rattle.std.proofs.lemmas.Bool.{cond-true}
 use Rattle.std.proofs.lemmas.Bool.Decides.{nat_tests}
 use Rattle.std.proofs.lemmas.List.{take_at, drop_at, append-nil}
-use Rattle.flush_journal.specs.Records.{Record, cut, is_key_length, cut_key, cut_body, first_record, records_of, four_bytes, eight_bytes, encoded, encoded_all}
+use Rattle.flush_journal.specs.Records.{Record, split_front, is_key_length, split_key, split_body, first_record, records_of, four_bytes, eight_bytes, encoded, encoded_all}
 use Rattle.flush_journal.specs.Frames.{record_size, framed, frame_of, framed_records, payload_of}
 use Rattle.flush_journal.specs.Markers.{EndsShut}
-use Rattle.flush_journal.proofs.RecordLemmas.{cut-append, cut_number_4-append, length-four_bytes, length-eight_bytes, records_of_first, records_of_more, records_of_nothing}
+use Rattle.flush_journal.proofs.RecordLemmas.{split-append, split_number_4-append, length-four_bytes, length-eight_bytes, records_of_first, records_of_more, records_of_nothing}
 
-cut_key-append : (key rest : List ℕ) → 0 < length key → length key < 65536 → cut_key (four_bytes (length key) ++ (key ++ rest)) ≡ Some (key, rest)
-unfolding cut_key
-cut_key-append key rest some short =
-    ap (option_and_then (λ (n : ℕ × List ℕ). if is_key_length n.0 then cut n.0 n.1 else None)) (cut_number_4-append (length key) (key ++ rest) (omega (arith, short)))
-    ∙ cond-true (is_key_length (length key)) (cut (length key) (key ++ rest)) None (allowed (length key) some short)
-    ∙ cut-append (length key) key rest refl
+split_key-append : (key rest : List ℕ) → 0 < length key → length key < 65536 → split_key (four_bytes (length key) ++ (key ++ rest)) ≡ Some (key, rest)
+unfolding split_key
+split_key-append key rest some short =
+    ap (option_and_then (λ (n : ℕ × List ℕ). if is_key_length n.0 then split_front n.0 n.1 else None)) (split_number_4-append (length key) (key ++ rest) (omega (arith, short)))
+    ∙ cond-true (is_key_length (length key)) (split_front (length key) (key ++ rest)) None (allowed (length key) some short)
+    ∙ split-append (length key) key rest refl
   where
     allowed : (n : ℕ) → 0 < n → n < 65536 → is_key_length n ≡ true
     allowed n some short = grind (arith, nat_tests)
 
-cut_body-append : (body rest : List ℕ) → length body < 2 ^ 32 → cut_body (four_bytes (length body) ++ (body ++ rest)) ≡ Some (body, rest)
-unfolding cut_body
-cut_body-append body rest short =
-    ap (option_and_then (λ (n : ℕ × List ℕ). cut n.0 n.1)) (cut_number_4-append (length body) (body ++ rest) short) ∙ cut-append (length body) body rest refl
+split_body-append : (body rest : List ℕ) → length body < 2 ^ 32 → split_body (four_bytes (length body) ++ (body ++ rest)) ≡ Some (body, rest)
+unfolding split_body
+split_body-append body rest short =
+    ap (option_and_then (λ (n : ℕ × List ℕ). split_front n.0 n.1)) (split_number_4-append (length body) (body ++ rest) short) ∙ split-append (length body) body rest refl
 
 -- an encoded record is read back
 pub first_record-encoded : (r : Record) (rest : List ℕ) → 0 < length r.0 → length r.0 < 65536 → length r.1 < 2 ^ 32 → first_record (encoded r ++ rest) ≡ Some (r, rest)
 unfolding first_record
 first_record-encoded r rest some short small =
     ap first_record (append_assoc (four_bytes (length r.0) ++ r.0 ++ four_bytes (length r.1)) r.1 rest ∙ append_assoc (four_bytes (length r.0) ++ r.0) (four_bytes (length r.1)) (r.1 ++ rest) ∙ append_assoc (four_bytes (length r.0)) r.0 (four_bytes (length r.1) ++ (r.1 ++ rest)))
-    ∙ ap (option_and_then (λ (k : List ℕ × List ℕ). option_and_then (λ (b : List ℕ × List ℕ). Some ((k.0, b.0), b.1)) (cut_body k.1))) (cut_key-append r.0 (four_bytes (length r.1) ++ (r.1 ++ rest)) some short)
-    ∙ ap (option_and_then (λ (b : List ℕ × List ℕ). Some ((r.0, b.0), b.1))) (cut_body-append r.1 rest small)
+    ∙ ap (option_and_then (λ (k : List ℕ × List ℕ). option_and_then (λ (b : List ℕ × List ℕ). Some ((k.0, b.0), b.1)) (split_body k.1))) (split_key-append r.0 (four_bytes (length r.1) ++ (r.1 ++ rest)) some short)
+    ∙ ap (option_and_then (λ (b : List ℕ × List ℕ). Some ((r.0, b.0), b.1))) (split_body-append r.1 rest small)
 
 pub length-encoded : (r : Record) → length (encoded r) ≡ record_size r
 length-encoded r =

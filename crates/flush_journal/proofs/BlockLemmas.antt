@@ -6,11 +6,11 @@ use Rattle.std.proofs.lemmas.Bool.{cases_eq}
 use Rattle.std.proofs.lemmas.Option.{option_and_then_some}
 use Rattle.std.proofs.lemmas.List.Sums.{sum_by-cons}
 use Rattle.std.proofs.lemmas.List.Elements.{All-from_recursion, recursion_from_All}
-use Rattle.flush_journal.specs.Records.{Record, Held, cut, cut_number_8, records_of, put_all, encoded_all, eight_bytes}
+use Rattle.flush_journal.specs.Records.{Record, Held, split_front, split_number_8, records_of, put_all, encoded_all, eight_bytes}
 use Rattle.flush_journal.specs.Files.{Content, Framed, first_batch, grown, read_on}
 use Rattle.flush_journal.specs.Blocks.{payload_bytes, blocks, IsBatch, HasNoPayload}
-use Rattle.flush_journal.proofs.RecordLemmas.{cut_found, cut_number_8-append, length-eight_bytes}
-use Rattle.flush_journal.proofs.FileLemmas.{behind_number, first_batch-is, behind_number-cut, after_batch, read_on_open, read_on_shut, read_on_steps, batch_shorter}
+use Rattle.flush_journal.proofs.RecordLemmas.{split_found, split_number_8-append, length-eight_bytes}
+use Rattle.flush_journal.proofs.FileLemmas.{behind_number, first_batch-is, behind_number-split, after_batch, read_on_open, read_on_shut, read_on_steps, batch_shorter}
 use Rattle.flush_journal.proofs.EncodingLemmas.{Bytes, bytes_parts, IsSpelled, number_8_spelled, IsFramed, framed_by, payload_encoded, encoded_read, all_records, each_record}
 
 -- a whole payload of records is a batch
@@ -19,8 +19,8 @@ batch_of_payload rs rest is =
     let p = encoded_all rs in
     ap first_batch (append_assoc (eight_bytes (length p)) p rest)
     ∙ first_batch-is (eight_bytes (length p) ++ (p ++ rest))
-    ∙ ap (option_and_then behind_number) (cut_number_8-append (length p) (p ++ rest) is.size)
-    ∙ behind_number-cut (length p) p rest rs refl (encoded_read rs (each_record rs is.each))
+    ∙ ap (option_and_then behind_number) (split_number_8-append (length p) (p ++ rest) is.size)
+    ∙ behind_number-split (length p) p rest rs refl (encoded_read rs (each_record rs is.each))
 
 -- what a batch was read from
 pub record IsPayload (bytes : List ℕ) (b : Framed) : Type 0 where
@@ -32,25 +32,25 @@ pub record IsPayload (bytes : List ℕ) (b : Framed) : Type 0 where
 pub payload_of_batch : (bytes : List ℕ) (b : Framed) → Bytes bytes → first_batch bytes ≡ Some b → IsPayload bytes b
 unfolding behind_number
 payload_of_batch bytes b h e =
-    option_and_then_some behind_number (cut_number_8 bytes) b (sym (first_batch-is bytes) ∙ e)
+    option_and_then_some behind_number (split_number_8 bytes) b (sym (first_batch-is bytes) ∙ e)
     (λ n ne fe.
     let number = number_8_spelled bytes n h ne in
-    option_and_then_some (λ (p : List ℕ × List ℕ). option_and_then (λ (rs : List Record). Some (record { size = n.0; records = rs; rest = p.1 })) (records_of p.0)) (cut n.0 n.1) b fe
+    option_and_then_some (λ (p : List ℕ × List ℕ). option_and_then (λ (rs : List Record). Some (record { size = n.0; records = rs; rest = p.1 })) (records_of p.0)) (split_front n.0 n.1) b fe
     (λ p pe ge.
     let framed = framed_by eight_bytes (2 ^ 64) bytes n p number pe in
     option_and_then_some (λ (rs : List Record). Some (record { size = n.0; records = rs; rest = p.1 })) (records_of p.0) b ge
     (λ rs are he. found n p number framed pe rs are he)))
   where
-    found : (n : ℕ × List ℕ) (p : List ℕ × List ℕ) → IsSpelled eight_bytes (2 ^ 64) bytes n → IsFramed eight_bytes (2 ^ 64) bytes p → cut n.0 n.1 ≡ Some p
+    found : (n : ℕ × List ℕ) (p : List ℕ × List ℕ) → IsSpelled eight_bytes (2 ^ 64) bytes n → IsFramed eight_bytes (2 ^ 64) bytes p → split_front n.0 n.1 ≡ Some p
         → (rs : List Record) → records_of p.0 ≡ Some rs → ◌≡◌ {A = Option Framed} (Some (record { size = n.0; records = rs; rest = p.1 })) (Some b) → IsPayload bytes b
     found n p number framed pe rs are he =
-        let cut_ = cut_found n.0 n.1 p pe in
-        let is = payload_encoded p.0 rs (bytes_parts p.0 p.1 (subst Bytes cut_.whole number.rest)).0 are in
+        let front_is = split_found n.0 n.1 p pe in
+        let is = payload_encoded p.0 rs (bytes_parts p.0 p.1 (subst Bytes front_is.whole number.rest)).0 are in
         let same : ◌≡◌ {A = Framed} (record { size = n.0; records = rs; rest = p.1 }) b = cc in
         subst (IsPayload bytes) same (record {
           whole = framed.whole ∙ (λ i. eight_bytes (length (is.0 i)) ++ (is.0 i ++ p.1)) ∙ sym (append_assoc (eight_bytes (length (encoded_all rs))) (encoded_all rs) p.1);
           sound = record { each = all_records rs is.1; size = omega (arith, framed.small, ap length is.0) };
-          size = sym cut_.size ∙ ap length is.0;
+          size = sym front_is.size ∙ ap length is.0;
           rest = framed.rest;
         })
 

@@ -7,8 +7,8 @@ use Rattle.std.proofs.lemmas.Option.{option_and_then_some}
 use Rattle.std.proofs.lemmas.Bool.Decides.{nat_tests}
 use Rattle.std.proofs.lemmas.Nat.{be_bytes_4, be_bytes_8}
 use Rattle.std.proofs.lemmas.List.Elements.{All-from_recursion, recursion_from_All}
-use Rattle.flush_journal.specs.Records.{Record, AreBytes, IsRecord, cut, cut_number_4, cut_number_8, is_key_length, cut_key, cut_body, first_record, records_in, records_of, four_bytes, eight_bytes, encoded, encoded_all}
-use Rattle.flush_journal.proofs.RecordLemmas.{cut_found, records_of_first, records_of_nothing}
+use Rattle.flush_journal.specs.Records.{Record, AreBytes, IsRecord, split_front, split_number_4, split_number_8, is_key_length, split_key, split_body, first_record, records_in, records_of, four_bytes, eight_bytes, encoded, encoded_all}
+use Rattle.flush_journal.proofs.RecordLemmas.{split_found, records_of_first, records_of_nothing}
 use Rattle.flush_journal.proofs.BatchLemmas.{first_record-encoded}
 
 -- bytes, one by one
@@ -40,12 +40,12 @@ pub record IsSpelled (spelled : ℕ → List ℕ) (least : ℕ) (bytes : List �
   pub small : n.0 < least
   pub rest : Bytes n.1
 
-pub number_4_spelled : (bytes : List ℕ) (n : ℕ × List ℕ) → Bytes bytes → cut_number_4 bytes ≡ Some n → IsSpelled four_bytes (2 ^ 32) bytes n
-unfolding cut_number_4 four_bytes
+pub number_4_spelled : (bytes : List ℕ) (n : ℕ × List ℕ) → Bytes bytes → split_number_4 bytes ≡ Some n → IsSpelled four_bytes (2 ^ 32) bytes n
+unfolding split_number_4 four_bytes
 number_4_spelled bytes n h e =
-    option_and_then_some (λ (p : List ℕ × List ℕ). Some (from_be_bytes w32 p.0, p.1)) (cut 4 bytes) n e
+    option_and_then_some (λ (p : List ℕ × List ℕ). Some (from_be_bytes w32 p.0, p.1)) (split_front 4 bytes) n e
     (λ p pe fe.
-    let found = cut_found 4 bytes p pe in
+    let found = split_found 4 bytes p pe in
     let parts = bytes_parts p.0 p.1 (subst Bytes found.whole h) in
     let same : ◌≡◌ {A = ℕ × List ℕ} (from_be_bytes w32 p.0, p.1) n = cc in
     subst (IsSpelled four_bytes (2 ^ 32) bytes) same (record {
@@ -54,12 +54,12 @@ number_4_spelled bytes n h e =
       rest = parts.1;
     }))
 
-pub number_8_spelled : (bytes : List ℕ) (n : ℕ × List ℕ) → Bytes bytes → cut_number_8 bytes ≡ Some n → IsSpelled eight_bytes (2 ^ 64) bytes n
-unfolding cut_number_8 eight_bytes
+pub number_8_spelled : (bytes : List ℕ) (n : ℕ × List ℕ) → Bytes bytes → split_number_8 bytes ≡ Some n → IsSpelled eight_bytes (2 ^ 64) bytes n
+unfolding split_number_8 eight_bytes
 number_8_spelled bytes n h e =
-    option_and_then_some (λ (p : List ℕ × List ℕ). Some (from_be_bytes w64 p.0, p.1)) (cut 8 bytes) n e
+    option_and_then_some (λ (p : List ℕ × List ℕ). Some (from_be_bytes w64 p.0, p.1)) (split_front 8 bytes) n e
     (λ p pe fe.
-    let found = cut_found 8 bytes p pe in
+    let found = split_found 8 bytes p pe in
     let parts = bytes_parts p.0 p.1 (subst Bytes found.whole h) in
     let same : ◌≡◌ {A = ℕ × List ℕ} (from_be_bytes w64 p.0, p.1) n = cc in
     subst (IsSpelled eight_bytes (2 ^ 64) bytes) same (record {
@@ -74,34 +74,34 @@ pub record IsFramed (spelled : ℕ → List ℕ) (least : ℕ) (bytes : List ℕ
   pub small : length y.0 < least
   pub rest : Bytes y.1
 
-pub framed_by : (spelled : ℕ → List ℕ) (least : ℕ) (bytes : List ℕ) (n : ℕ × List ℕ) (y : List ℕ × List ℕ) → IsSpelled spelled least bytes n → cut n.0 n.1 ≡ Some y → IsFramed spelled least bytes y
+pub framed_by : (spelled : ℕ → List ℕ) (least : ℕ) (bytes : List ℕ) (n : ℕ × List ℕ) (y : List ℕ × List ℕ) → IsSpelled spelled least bytes n → split_front n.0 n.1 ≡ Some y → IsFramed spelled least bytes y
 framed_by spelled least bytes n y number e =
-    let found = cut_found n.0 n.1 y e in
+    let found = split_found n.0 n.1 y e in
     record {
       whole = number.whole ∙ (λ i. spelled (sym found.size i) ++ found.whole i);
       small = omega (arith, found.size, number.small);
       rest = (bytes_parts y.0 y.1 (subst Bytes found.whole number.rest)).1;
     }
 
-body_framed : (bytes : List ℕ) (y : List ℕ × List ℕ) → Bytes bytes → cut_body bytes ≡ Some y → IsFramed four_bytes (2 ^ 32) bytes y
-unfolding cut_body
+body_framed : (bytes : List ℕ) (y : List ℕ × List ℕ) → Bytes bytes → split_body bytes ≡ Some y → IsFramed four_bytes (2 ^ 32) bytes y
+unfolding split_body
 body_framed bytes y h e =
-    option_and_then_some (λ (n : ℕ × List ℕ). cut n.0 n.1) (cut_number_4 bytes) y e
+    option_and_then_some (λ (n : ℕ × List ℕ). split_front n.0 n.1) (split_number_4 bytes) y e
     (λ n ne fe. framed_by four_bytes (2 ^ 32) bytes n y (number_4_spelled bytes n h ne) fe)
 
 key_lengths : (n : ℕ) → is_key_length n ≡ true → (0 < n) × (n < 65536)
 key_lengths n is = (grind (arith, nat_tests), grind (arith, nat_tests))
 
-key_framed : (bytes : List ℕ) (y : List ℕ × List ℕ) → Bytes bytes → cut_key bytes ≡ Some y → IsFramed four_bytes (2 ^ 32) bytes y × (0 < length y.0) × (length y.0 < 65536)
-unfolding cut_key
+key_framed : (bytes : List ℕ) (y : List ℕ × List ℕ) → Bytes bytes → split_key bytes ≡ Some y → IsFramed four_bytes (2 ^ 32) bytes y × (0 < length y.0) × (length y.0 < 65536)
+unfolding split_key
 key_framed bytes y h e =
-    option_and_then_some (λ (n : ℕ × List ℕ). if is_key_length n.0 then cut n.0 n.1 else None) (cut_number_4 bytes) y e
+    option_and_then_some (λ (n : ℕ × List ℕ). if is_key_length n.0 then split_front n.0 n.1 else None) (split_number_4 bytes) y e
     (λ n ne fe. allowed n (number_4_spelled bytes n h ne) (is_key_length n.0) refl fe)
   where
-    allowed : (n : ℕ × List ℕ) → IsSpelled four_bytes (2 ^ 32) bytes n → (b : Bool) → is_key_length n.0 ≡ b → (if b then cut n.0 n.1 else None) ≡ Some y
+    allowed : (n : ℕ × List ℕ) → IsSpelled four_bytes (2 ^ 32) bytes n → (b : Bool) → is_key_length n.0 ≡ b → (if b then split_front n.0 n.1 else None) ≡ Some y
         → IsFramed four_bytes (2 ^ 32) bytes y × (0 < length y.0) × (length y.0 < 65536)
     allowed n number true is fe =
-        let found = cut_found n.0 n.1 y fe in
+        let found = split_found n.0 n.1 y fe in
         let sizes = key_lengths n.0 is in
         (framed_by four_bytes (2 ^ 32) bytes n y number fe, omega (arith, found.size, sizes.0), omega (arith, found.size, sizes.1))
     allowed n number false is fe = absurd (cc)
@@ -124,10 +124,10 @@ joined bytes k b key sizes body = record {
 record_encoded : (bytes : List ℕ) (r : Record × List ℕ) → Bytes bytes → first_record bytes ≡ Some r → IsEncoded bytes r
 unfolding first_record
 record_encoded bytes r h e =
-    option_and_then_some (λ (k : List ℕ × List ℕ). option_and_then (λ (b : List ℕ × List ℕ). Some ((k.0, b.0), b.1)) (cut_body k.1)) (cut_key bytes) r e
+    option_and_then_some (λ (k : List ℕ × List ℕ). option_and_then (λ (b : List ℕ × List ℕ). Some ((k.0, b.0), b.1)) (split_body k.1)) (split_key bytes) r e
     (λ k ke fe.
     let key = key_framed bytes k h ke in
-    option_and_then_some (λ (b : List ℕ × List ℕ). Some ((k.0, b.0), b.1)) (cut_body k.1) r fe
+    option_and_then_some (λ (b : List ℕ × List ℕ). Some ((k.0, b.0), b.1)) (split_body k.1) r fe
     (λ b be ge.
     let same : ◌≡◌ {A = Record × List ℕ} ((k.0, b.0), b.1) r = cc in
     subst (IsEncoded bytes) same (joined bytes k b key.0 (key.1, key.2) (body_framed k.1 b key.0.rest be))))

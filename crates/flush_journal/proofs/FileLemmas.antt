@@ -1,35 +1,35 @@
--- What a journal's file stands for, cut at its end.
+-- What a journal's file stands for, divided at its end.
 use Rattle.std.proofs.Common.{◌≡◌, ◌≢◌, ℕ, zero, suc, ◌+◌, ◌≤◌, ◌<◌, ◌^◌, List, [], ◌∷◌, ◌++◌, length, Option, Some, None, Result, Ok, Err, refl, sym, ◌∙◌, ap, subst, arith, append_assoc, length-append, inl, inr, eqb}
 use Rattle.std.specs.Prelude.{option_and_then, ◌==◌, if◌then◌else◌}
 use Rattle.std.proofs.lemmas.Bool.{cases_eq, cond-true, cond-false}
 use Rattle.std.proofs.lemmas.Bool.Decides.{nat_tests}
 use Rattle.std.proofs.lemmas.Option.{option_and_then_some}
 use Rattle.std.specs.Int.{w64, from_be_bytes}
-use Rattle.flush_journal.specs.Records.{Record, cut, cut_number_8, records_of, eight_bytes}
+use Rattle.flush_journal.specs.Records.{Record, split_front, split_number_8, records_of, eight_bytes}
 use Rattle.flush_journal.specs.Files.{Content, Framed, first_batch, grown, read_on}
 use Rattle.flush_journal.specs.Frames.{framed}
-use Rattle.flush_journal.proofs.RecordLemmas.{cut-append, cut_found, cut_number_8-append}
+use Rattle.flush_journal.proofs.RecordLemmas.{split-append, split_found, split_number_8-append}
 
 -- the bytes that a number took, and that it is read from them whatever follows
 pub record IsNumber (bytes : List ℕ) (n : ℕ × List ℕ) : Type 0 where
   pub front : List ℕ
   pub whole : bytes ≡ front ++ n.1
   pub size : length front ≡ 8
-  pub on : (tail : List ℕ) → cut_number_8 (front ++ tail) ≡ Some (n.0, tail)
+  pub on : (tail : List ℕ) → split_number_8 (front ++ tail) ≡ Some (n.0, tail)
 
-pub cut_number_8_found : (bytes : List ℕ) (n : ℕ × List ℕ) → cut_number_8 bytes ≡ Some n → IsNumber bytes n
-unfolding cut_number_8
-cut_number_8_found bytes n e =
-    option_and_then_some (λ (p : List ℕ × List ℕ). Some (from_be_bytes w64 p.0, p.1)) (cut 8 bytes) n e
+pub split_number_8_found : (bytes : List ℕ) (n : ℕ × List ℕ) → split_number_8 bytes ≡ Some n → IsNumber bytes n
+unfolding split_number_8
+split_number_8_found bytes n e =
+    option_and_then_some (λ (p : List ℕ × List ℕ). Some (from_be_bytes w64 p.0, p.1)) (split_front 8 bytes) n e
     (λ p pe fe.
-    let found = cut_found 8 bytes p pe in
+    let found = split_found 8 bytes p pe in
     let value : from_be_bytes w64 p.0 ≡ n.0 = cc in
     let rest : p.1 ≡ n.1 = cc in
     record {
       front = p.0;
       whole = found.whole ∙ ap (λ (l : List ℕ). p.0 ++ l) rest;
       size = found.size;
-      on = λ tail. ap (option_and_then (λ (p : List ℕ × List ℕ). Some (from_be_bytes w64 p.0, p.1))) (cut-append 8 p.0 tail found.size) ∙ ap (λ (k : ℕ). Some (k, tail)) value;
+      on = λ tail. ap (option_and_then (λ (p : List ℕ × List ℕ). Some (from_be_bytes w64 p.0, p.1))) (split-append 8 p.0 tail found.size) ∙ ap (λ (k : ℕ). Some (k, tail)) value;
     })
 
 -- the bytes that a batch took, and that it is read from them whatever follows
@@ -41,27 +41,27 @@ pub record IsBatch (bytes : List ℕ) (b : Framed) : Type 0 where
 
 -- a batch after its length
 unfoldable pub behind_number : ℕ × List ℕ → Option Framed
-behind_number n = option_and_then (λ (p : List ℕ × List ℕ). option_and_then (λ (rs : List Record). Some (record { size = n.0; records = rs; rest = p.1 })) (records_of p.0)) (cut n.0 n.1)
+behind_number n = option_and_then (λ (p : List ℕ × List ℕ). option_and_then (λ (rs : List Record). Some (record { size = n.0; records = rs; rest = p.1 })) (records_of p.0)) (split_front n.0 n.1)
 
-pub first_batch-is : (bytes : List ℕ) → first_batch bytes ≡ option_and_then behind_number (cut_number_8 bytes)
+pub first_batch-is : (bytes : List ℕ) → first_batch bytes ≡ option_and_then behind_number (split_number_8 bytes)
 unfolding first_batch behind_number
 first_batch-is bytes = refl
 
-pub behind_number-cut : (n : ℕ) (p tail : List ℕ) (rs : List Record) → length p ≡ n → records_of p ≡ Some rs → behind_number (n, p ++ tail) ≡ Some (record { size = n; records = rs; rest = tail })
+pub behind_number-split : (n : ℕ) (p tail : List ℕ) (rs : List Record) → length p ≡ n → records_of p ≡ Some rs → behind_number (n, p ++ tail) ≡ Some (record { size = n; records = rs; rest = tail })
 unfolding behind_number
-behind_number-cut n p tail rs size are =
-    ap (option_and_then (λ (p : List ℕ × List ℕ). option_and_then (λ (rs : List Record). Some (record { size = n; records = rs; rest = p.1 })) (records_of p.0))) (cut-append n p tail size)
+behind_number-split n p tail rs size are =
+    ap (option_and_then (λ (p : List ℕ × List ℕ). option_and_then (λ (rs : List Record). Some (record { size = n; records = rs; rest = p.1 })) (records_of p.0))) (split-append n p tail size)
     ∙ ap (option_and_then (λ (rs : List Record). Some (record { size = n; records = rs; rest = tail }))) are
 
 pub first_batch_found : (bytes : List ℕ) (b : Framed) → first_batch bytes ≡ Some b → IsBatch bytes b
 unfolding behind_number
 first_batch_found bytes b e =
-    option_and_then_some behind_number (cut_number_8 bytes) b (sym (first_batch-is bytes) ∙ e)
+    option_and_then_some behind_number (split_number_8 bytes) b (sym (first_batch-is bytes) ∙ e)
     (λ n ne fe.
-    let number = cut_number_8_found bytes n ne in
-    option_and_then_some (λ (p : List ℕ × List ℕ). option_and_then (λ (rs : List Record). Some (record { size = n.0; records = rs; rest = p.1 })) (records_of p.0)) (cut n.0 n.1) b fe
+    let number = split_number_8_found bytes n ne in
+    option_and_then_some (λ (p : List ℕ × List ℕ). option_and_then (λ (rs : List Record). Some (record { size = n.0; records = rs; rest = p.1 })) (records_of p.0)) (split_front n.0 n.1) b fe
     (λ p pe ge.
-    let found = cut_found n.0 n.1 p pe in
+    let found = split_found n.0 n.1 p pe in
     option_and_then_some (λ (rs : List Record). Some (record { size = n.0; records = rs; rest = p.1 })) (records_of p.0) b ge
     (λ rs are he.
     let same : ◌≡◌ {A = Framed} (record { size = n.0; records = rs; rest = p.1 }) b = cc in
@@ -72,7 +72,7 @@ first_batch_found bytes b e =
       on = λ tail.
           ap first_batch (append_assoc number.front p.0 tail) ∙ first_batch-is (number.front ++ (p.0 ++ tail))
           ∙ ap (option_and_then behind_number) (number.on (p.0 ++ tail))
-          ∙ behind_number-cut n.0 p.0 tail rs found.size are;
+          ∙ behind_number-split n.0 p.0 tail rs found.size are;
     }))))
 
 -- a framed payload is read back
@@ -82,8 +82,8 @@ unfolding framed
 first_batch-framed p tail rs small are =
     ap first_batch (append_assoc (eight_bytes (length p) ++ p) (0 ∷ []) tail ∙ append_assoc (eight_bytes (length p)) p (0 ∷ tail))
     ∙ first_batch-is (eight_bytes (length p) ++ (p ++ 0 ∷ tail))
-    ∙ ap (option_and_then behind_number) (cut_number_8-append (length p) (p ++ 0 ∷ tail) small)
-    ∙ behind_number-cut (length p) p (0 ∷ tail) rs refl are
+    ∙ ap (option_and_then behind_number) (split_number_8-append (length p) (p ++ 0 ∷ tail) small)
+    ∙ behind_number-split (length p) p (0 ∷ tail) rs refl are
 
 -- what is read behind an open marker
 abbrev pub after_batch : ℕ → Content → Option Framed → Result Content ℕ

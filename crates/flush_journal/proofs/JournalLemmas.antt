@@ -9,7 +9,7 @@ use Rattle.flush_journal.specs.Standing.{with_batch, HasEither, HoldsEither}
 use Rattle.flush_journal.proofs.ContentLemmas.{content_found, IsFront, front_of, content-shut, content-opened, held-content}
 use Rattle.flush_journal.proofs.BatchLemmas.{length-framed, ends_shut}
 
--- a settled file, cut at its end
+-- a settled file, divided at its end
 pub record Start (reads : List ℕ) (images : List ℕ → Type 0) (c : Content) : Type 0 where
   pub front : List ℕ
   pub is_front : IsFront front c

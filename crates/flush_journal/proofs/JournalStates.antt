@@ -33,7 +33,7 @@ module _ {D : Type 0} {met : Ghosts D} (j : Journal D met) (c : Content) (rs : L
     numbers = numbers;
     now = either_content front c is rs are (met.reads j.disk) has.now;
     each = λ i left. either_content front c is rs are i (has.each i left);
-    cut = record { front = front; closed = content-shut front c is 0 [] (omega arith); place = is.place; now = has.now; each = has.each };
+    resumable = record { front = front; closed = content-shut front c is 0 [] (omega arith); place = is.place; now = has.now; each = has.each };
   }
 
   pub settled_by : pending_of j ≡ None → j.numbers.version ≡ c.version → j.numbers.lanes ≡ c.lanes → j.numbers.batches ≡ c.batches + 1 → j.numbers.end ≡ c.end + length (frame_of rs)

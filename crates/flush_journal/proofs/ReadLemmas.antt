@@ -6,11 +6,11 @@ use Rattle.std.specs.Bool.{then_some}
 use Rattle.std.proofs.lemmas.Bool.{cond-true, cond-false}
 use Rattle.std.proofs.lemmas.Bool.Decides.{nat_tests}
 use Rattle.std.proofs.lemmas.List.{drop_more, drop_all, drop-drop, take_all, length-take-le}
-use Rattle.flush_journal.specs.Records.{Record, Held, cut_number_8, records_of, put_all}
+use Rattle.flush_journal.specs.Records.{Record, Held, split_number_8, records_of, put_all}
 use Rattle.flush_journal.specs.Files.{first_outside, header_ranges, Content, Framed, first_batch, grown, read_on}
 use Rattle.flush_journal.specs.Reading.{read_from, PayloadIs}
-use Rattle.flush_journal.proofs.RecordLemmas.{cut_enough, cut_short}
-use Rattle.flush_journal.proofs.NumberLemmas.{cut_number_8-short, cut_number_8-is, front_8}
+use Rattle.flush_journal.proofs.RecordLemmas.{split_enough, split_short}
+use Rattle.flush_journal.proofs.NumberLemmas.{split_number_8-short, split_number_8-is, front_8}
 use Rattle.flush_journal.proofs.FileLemmas.{behind_number, first_batch-is, after_batch, read_on_open, read_on_shut, read_on_steps, batch_shorter}
 
 -- the header, byte after byte
@@ -35,8 +35,8 @@ test_fails a b c (inr high) = both (nat_le a b) (nat_le b c) (grind (arith, nat_
     both true q e = e
     both false q e = refl
 
-test_held : (a b c : ℕ) → (nat_le a b && nat_le b c) ≡ true → (a ≤ b) × (b ≤ c)
-test_held a b c e = (grind (arith, nat_tests, both (nat_le a b) (nat_le b c) e), grind (arith, nat_tests, both (nat_le a b) (nat_le b c) e))
+tests_hold : (a b c : ℕ) → (nat_le a b && nat_le b c) ≡ true → (a ≤ b) × (b ≤ c)
+tests_hold a b c e = (grind (arith, nat_tests, both (nat_le a b) (nat_le b c) e), grind (arith, nat_tests, both (nat_le a b) (nat_le b c) e))
   where
     both : (p q : Bool) → (p && q) ≡ true → (p ≡ true) × (q ≡ true)
     both true q e = (refl, e)
@@ -70,7 +70,7 @@ pub each_inside : (i at : ℕ) (ranges : List (ℕ × ℕ)) (bytes : List ℕ) �
 unfolding first_outside
 each_inside i at [] bytes lt e = absurd (omega (arith, lt))
 each_inside i at (r ∷ ranges) [] lt e = absurd (cc)
-each_inside zero at (r ∷ ranges) (b ∷ bytes) lt e = test_held r.0 b r.1 (inside (nat_le r.0 b && nat_le b r.1) (first_outside (at + 1) ranges bytes) e).0
+each_inside zero at (r ∷ ranges) (b ∷ bytes) lt e = tests_hold r.0 b r.1 (inside (nat_le r.0 b && nat_le b r.1) (first_outside (at + 1) ranges bytes) e).0
   where
     inside : (t : Bool) (o : Option ℕ) → (if t then o else Some at) ≡ None → (t ≡ true) × (o ≡ None)
     inside true o e = (refl, e)
@@ -95,64 +95,64 @@ outside_front at (r ∷ ranges) (b ∷ bytes) = ap (λ (o : Option ℕ). if nat_
 
 pub no_length_field : (bytes : List ℕ) → length bytes < 8 → first_batch bytes ≡ None
 unfolding behind_number
-no_length_field bytes short = first_batch-is bytes ∙ ap (option_and_then behind_number) (cut_number_8-short bytes short)
+no_length_field bytes short = first_batch-is bytes ∙ ap (option_and_then behind_number) (split_number_8-short bytes short)
 
 -- the number in the first eight bytes is the payload's length
-pub length_field : (bytes rest : List ℕ) (n : ℕ) → 8 ≤ length bytes → Some (n, rest) ≡ cut_number_8 (take 8 bytes) → cut_number_8 bytes ≡ Some (n, drop 8 bytes)
+pub length_field : (bytes rest : List ℕ) (n : ℕ) → 8 ≤ length bytes → Some (n, rest) ≡ split_number_8 (take 8 bytes) → split_number_8 bytes ≡ Some (n, drop 8 bytes)
 length_field bytes rest n long is =
     let front : 8 ≤ length (take 8 bytes) = omega (arith, length-take-le 8 bytes long) in
-    let both : ◌≡◌ {A = Option (ℕ × List ℕ)} (Some (n, rest)) (Some (from_be_bytes w64 (take 8 bytes), drop 8 (take 8 bytes))) = is ∙ cut_number_8-is (take 8 bytes) front in
+    let both : ◌≡◌ {A = Option (ℕ × List ℕ)} (Some (n, rest)) (Some (from_be_bytes w64 (take 8 bytes), drop 8 (take 8 bytes))) = is ∙ split_number_8-is (take 8 bytes) front in
     let pair : ◌≡◌ {A = ℕ × List ℕ} (n, rest) (from_be_bytes w64 (take 8 bytes), drop 8 (take 8 bytes)) = cc in
     let same : n ≡ from_be_bytes w64 (take 8 bytes) = ap (λ (p : ℕ × List ℕ). p.0) pair in
-    cut_number_8-is bytes long ∙ ap (λ (k : ℕ). Some (k, drop 8 bytes)) (sym (same ∙ front_8 bytes))
+    split_number_8-is bytes long ∙ ap (λ (k : ℕ). Some (k, drop 8 bytes)) (sym (same ∙ front_8 bytes))
 
 -- eight bytes are a number
-pub some_number : (bytes : List ℕ) → 8 ≤ length bytes → None ≡ cut_number_8 (take 8 bytes) → ⊥
-some_number bytes long none = let is = cut_number_8-is (take 8 bytes) (omega (arith, length-take-le 8 bytes long)) in cc
+pub some_number : (bytes : List ℕ) → 8 ≤ length bytes → None ≡ split_number_8 (take 8 bytes) → ⊥
+some_number bytes long none = let is = split_number_8-is (take 8 bytes) (omega (arith, length-take-le 8 bytes long)) in cc
 
-payload_of_batch : (bytes : List ℕ) (n : ℕ) → cut_number_8 bytes ≡ Some (n, drop 8 bytes) → first_batch bytes ≡ behind_number (n, drop 8 bytes)
+payload_of_batch : (bytes : List ℕ) (n : ℕ) → split_number_8 bytes ≡ Some (n, drop 8 bytes) → first_batch bytes ≡ behind_number (n, drop 8 bytes)
 payload_of_batch bytes n is = first_batch-is bytes ∙ ap (option_and_then behind_number) is
 
-pub payload_short : (bytes : List ℕ) (n : ℕ) → cut_number_8 bytes ≡ Some (n, drop 8 bytes) → length (drop 8 bytes) < n → first_batch bytes ≡ None
+pub payload_short : (bytes : List ℕ) (n : ℕ) → split_number_8 bytes ≡ Some (n, drop 8 bytes) → length (drop 8 bytes) < n → first_batch bytes ≡ None
 unfolding behind_number
 payload_short bytes n is short =
     payload_of_batch bytes n is
-    ∙ ap (option_and_then (λ (p : List ℕ × List ℕ). option_and_then (λ (rs : List Record). Some (record { size = n; records = rs; rest = p.1 })) (records_of p.0))) (cut_short n (drop 8 bytes) short)
+    ∙ ap (option_and_then (λ (p : List ℕ × List ℕ). option_and_then (λ (rs : List Record). Some (record { size = n; records = rs; rest = p.1 })) (records_of p.0))) (split_short n (drop 8 bytes) short)
 
-payload_cut : (bytes : List ℕ) (n : ℕ) → cut_number_8 bytes ≡ Some (n, drop 8 bytes) → n ≤ length (drop 8 bytes)
+payload_split : (bytes : List ℕ) (n : ℕ) → split_number_8 bytes ≡ Some (n, drop 8 bytes) → n ≤ length (drop 8 bytes)
     → first_batch bytes ≡ option_and_then (λ (rs : List Record). Some (record { size = n; records = rs; rest = drop n (drop 8 bytes) })) (records_of (take n (drop 8 bytes)))
 unfolding behind_number
-payload_cut bytes n is long =
+payload_split bytes n is long =
     payload_of_batch bytes n is
-    ∙ ap (option_and_then (λ (p : List ℕ × List ℕ). option_and_then (λ (rs : List Record). Some (record { size = n; records = rs; rest = p.1 })) (records_of p.0))) (cut_enough n (drop 8 bytes) long)
+    ∙ ap (option_and_then (λ (p : List ℕ × List ℕ). option_and_then (λ (rs : List Record). Some (record { size = n; records = rs; rest = p.1 })) (records_of p.0))) (split_enough n (drop 8 bytes) long)
 
 behind_marker : (file : List ℕ) (at : ℕ) → at + 1 + 8 ≤ length file → 8 ≤ length (drop (at + 1) file)
 behind_marker file at long = omega (arith, length-drop (at + 1) file)
 
-pub number_found : (file slice rest : List ℕ) (at n : ℕ) → slice ≡ take 8 (drop (at + 1) file) → at + 1 + 8 ≤ length file → Some (n, rest) ≡ cut_number_8 slice
-    → cut_number_8 (drop (at + 1) file) ≡ Some (n, drop 8 (drop (at + 1) file))
-number_found file slice rest at n is long read = length_field (drop (at + 1) file) rest n (behind_marker file at long) (read ∙ ap cut_number_8 is)
+pub number_found : (file slice rest : List ℕ) (at n : ℕ) → slice ≡ take 8 (drop (at + 1) file) → at + 1 + 8 ≤ length file → Some (n, rest) ≡ split_number_8 slice
+    → split_number_8 (drop (at + 1) file) ≡ Some (n, drop 8 (drop (at + 1) file))
+number_found file slice rest at n is long read = length_field (drop (at + 1) file) rest n (behind_marker file at long) (read ∙ ap split_number_8 is)
 
-pub number_missing : (file slice : List ℕ) (at : ℕ) → slice ≡ take 8 (drop (at + 1) file) → at + 1 + 8 ≤ length file → None ≡ cut_number_8 slice → ⊥
-number_missing file slice at is long none = some_number (drop (at + 1) file) (behind_marker file at long) (none ∙ ap cut_number_8 is)
+pub number_missing : (file slice : List ℕ) (at : ℕ) → slice ≡ take 8 (drop (at + 1) file) → at + 1 + 8 ≤ length file → None ≡ split_number_8 slice → ⊥
+number_missing file slice at is long none = some_number (drop (at + 1) file) (behind_marker file at long) (none ∙ ap split_number_8 is)
 
 -- what the payload's records say, where it is whole
-pub payload_is : (file : List ℕ) (at n : ℕ) (old new : Held) (whole : Bool) → cut_number_8 (drop (at + 1) file) ≡ Some (n, drop 8 (drop (at + 1) file)) → at + 9 + n ≤ length file
+pub payload_is : (file : List ℕ) (at n : ℕ) (old new : Held) (whole : Bool) → split_number_8 (drop (at + 1) file) ≡ Some (n, drop 8 (drop (at + 1) file)) → at + 9 + n ≤ length file
     → MatchOption (records_of (take n (drop (at + 9) file))) (whole ≡ false) (λ rs. (whole ≡ true) × (new ≡ put_all rs old))
     → PayloadIs file at old new (if whole then Some n else None)
 payload_is file at n old new whole is long read =
     let behind : drop 8 (drop (at + 1) file) ≡ drop (at + 9) file = drop-drop 8 (at + 1) file ∙ ap (λ (k : ℕ). drop k file) (let e : at + 1 + 8 ≡ at + 9 = omega arith in e) in
     let rest : drop n (drop 8 (drop (at + 1) file)) ≡ drop (at + 9 + n) file = ap (drop n) behind ∙ drop-drop n (at + 9) file in
-    let cut_ = payload_cut (drop (at + 1) file) n is (omega (arith, ap length behind, length-drop (at + 9) file)) in
+    let front_is = payload_split (drop (at + 1) file) n is (omega (arith, ap length behind, length-drop (at + 9) file)) in
     elim (records_of (take n (drop (at + 9) file))) as (λ o. records_of (take n (drop (at + 9) file)) ≡ o → MatchOption o (whole ≡ false) (λ rs. (whole ≡ true) × (new ≡ put_all rs old)) → PayloadIs file at old new (if whole then Some n else None)) [
       | None ↦ λ none r.
           subst (λ (b : Bool). PayloadIs file at old new (if b then Some n else None)) (sym r)
-          (cut_ ∙ ap (λ (l : List ℕ). option_and_then (λ (rs : List Record). Some (record { size = n; records = rs; rest = drop n (drop 8 (drop (at + 1) file)) })) (records_of (take n l))) behind
+          (front_is ∙ ap (λ (l : List ℕ). option_and_then (λ (rs : List Record). Some (record { size = n; records = rs; rest = drop n (drop 8 (drop (at + 1) file)) })) (records_of (take n l))) behind
           ∙ ap (option_and_then (λ (rs : List Record). Some (record { size = n; records = rs; rest = drop n (drop 8 (drop (at + 1) file)) }))) none)
       | Some rs ↦ λ some r.
           subst (λ (b : Bool). PayloadIs file at old new (if b then Some n else None)) (sym r.0) (
             rs,
-            cut_ ∙ ap (λ (l : List ℕ). option_and_then (λ (rs : List Record). Some (record { size = n; records = rs; rest = drop n (drop 8 (drop (at + 1) file)) })) (records_of (take n l))) behind
+            front_is ∙ ap (λ (l : List ℕ). option_and_then (λ (rs : List Record). Some (record { size = n; records = rs; rest = drop n (drop 8 (drop (at + 1) file)) })) (records_of (take n l))) behind
                 ∙ ap (option_and_then (λ (rs : List Record). Some (record { size = n; records = rs; rest = drop n (drop 8 (drop (at + 1) file)) }))) some
                 ∙ ap (λ (l : List ℕ). Some (record { size = n; records = rs; rest = l })) rest,
             r.1,

@@ -5,7 +5,7 @@
 use Rattle.std.specs.Prelude.{ℕ, zero, suc, ◌+◌, List, [], ◌∷◌, ◌++◌, length, drop, slice_index, Option, Some, None, Result, Ok, Err, option_map, nat_le, ◌&&◌, ◌==◌, if◌then◌else◌}
 use Rattle.std.specs.Result.{result_ok}
 use Rattle.std.specs.FinMap as map
-use Rattle.flush_journal.specs.Records.{◌>>=◌, Record, Held, cut, cut_number_8, records_of, put_all}
+use Rattle.flush_journal.specs.Records.{◌>>=◌, Record, Held, split_front, split_number_8, records_of, put_all}
 
 -- the first bytes of a journal of version 1
 abbrev pub magic : List ℕ
@@ -43,8 +43,8 @@ pub record Framed : Type 0 where
 -- None where the payload isn't whole or is no list of records
 unfoldable pub first_batch : List ℕ → Option Framed
 first_batch bytes = do
-  n ← cut_number_8 bytes
-  p ← cut n.0 n.1
+  n ← split_number_8 bytes
+  p ← split_front n.0 n.1
   rs ← records_of p.0
   Some (record { size = n.0; records = rs; rest = p.1 })
 

@@ -19,21 +19,21 @@ abbrev pub Held : Type 0
 Held = map.FinMap text_order (List ℕ)
 
 -- the first n elements, and the others; None where there are fewer
-unfoldable pub cut : ℕ → List ℕ → Option (List ℕ × List ℕ)
-cut zero bytes = Some ([], bytes)
-cut (suc n) [] = None
-cut (suc n) (b ∷ bytes) = option_map (λ p. (b ∷ p.0, p.1)) (cut n bytes)
+unfoldable pub split_front : ℕ → List ℕ → Option (List ℕ × List ℕ)
+split_front zero bytes = Some ([], bytes)
+split_front (suc n) [] = None
+split_front (suc n) (b ∷ bytes) = option_map (λ p. (b ∷ p.0, p.1)) (split_front n bytes)
 
 -- the number that four bytes spell, and what follows
-unfoldable pub cut_number_4 : List ℕ → Option (ℕ × List ℕ)
-cut_number_4 bytes = do
-  p ← cut 4 bytes
+unfoldable pub split_number_4 : List ℕ → Option (ℕ × List ℕ)
+split_number_4 bytes = do
+  p ← split_front 4 bytes
   Some (from_be_bytes w32 p.0, p.1)
 
 -- the number that eight bytes spell, and what follows
-unfoldable pub cut_number_8 : List ℕ → Option (ℕ × List ℕ)
-cut_number_8 bytes = do
-  p ← cut 8 bytes
+unfoldable pub split_number_8 : List ℕ → Option (ℕ × List ℕ)
+split_number_8 bytes = do
+  p ← split_front 8 bytes
   Some (from_be_bytes w64 p.0, p.1)
 
 -- whether a key may have this many bytes
@@ -41,22 +41,22 @@ abbrev pub is_key_length : ℕ → Bool
 is_key_length n = nat_lt 0 n && nat_lt n 65536
 
 -- a key, and what follows
-unfoldable pub cut_key : List ℕ → Option (List ℕ × List ℕ)
-cut_key bytes = do
-  n ← cut_number_4 bytes
-  if is_key_length n.0 then cut n.0 n.1 else None
+unfoldable pub split_key : List ℕ → Option (List ℕ × List ℕ)
+split_key bytes = do
+  n ← split_number_4 bytes
+  if is_key_length n.0 then split_front n.0 n.1 else None
 
 -- a body, and what follows
-unfoldable pub cut_body : List ℕ → Option (List ℕ × List ℕ)
-cut_body bytes = do
-  n ← cut_number_4 bytes
-  cut n.0 n.1
+unfoldable pub split_body : List ℕ → Option (List ℕ × List ℕ)
+split_body bytes = do
+  n ← split_number_4 bytes
+  split_front n.0 n.1
 
 -- the record at the front, and what follows; None where none stands there
 unfoldable pub first_record : List ℕ → Option (Record × List ℕ)
 first_record bytes = do
-  k ← cut_key bytes
-  b ← cut_body k.1
+  k ← split_key bytes
+  b ← split_body k.1
   Some ((k.0, b.0), b.1)
 
 -- the records that bytes are, of which there are at most as many as steps; None where they are no list of records

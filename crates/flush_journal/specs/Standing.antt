@@ -53,14 +53,14 @@ abbrev pub HoldsEither : Held → Held → List ℕ → Type 0
 HoldsEither m n bytes = (held bytes ≡ Some m) ⊎ (held bytes ≡ Some n)
 
 -- what reads give, and each image, goes on behind one front: with a closed marker, or with the whole batch
-pub record IsCut (reads : List ℕ) (images : List ℕ → Type 0) (c : Content) (rs : List Record) : Type 0 where
+pub record IsResumable (reads : List ℕ) (images : List ℕ → Type 0) (c : Content) (rs : List Record) : Type 0 where
   pub front : List ℕ
   pub closed : content (front ++ 0 ∷ []) ≡ Ok c
   pub place : length front ≡ c.end
   pub now : Either front (frame_of rs) reads
   pub each : (i : List ℕ) → images i → Either front (frame_of rs) i
 
--- These records are pending. What reads give, and each image, has the content of before, or that with the batch of the records; `cut`
+-- These records are pending. What reads give, and each image, has the content of before, or that with the batch of the records; `resumable`
 -- is what the next try goes on from.
 pub record IsOwed {D : Type 0} {met : Ghosts D} (j : Journal D met) (c : Content) (rs : List Record) : Type 0 where
   pub pending : pending_of j ≡ Some rs
@@ -68,4 +68,4 @@ pub record IsOwed {D : Type 0} {met : Ghosts D} (j : Journal D met) (c : Content
   pub numbers : Numbers j c
   pub now : HasEither c (with_batch c rs) (met.reads (disk_of j))
   pub each : (i : List ℕ) → met.images (disk_of j) i → HasEither c (with_batch c rs) i
-  pub cut : IsCut (met.reads (disk_of j)) (met.images (disk_of j)) c rs
+  pub resumable : IsResumable (met.reads (disk_of j)) (met.images (disk_of j)) c rs

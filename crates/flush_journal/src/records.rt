@@ -1,12 +1,13 @@
 // The bytes of records, read from the front.
 ghost use Rattle.std.specs.Prelude.{◌≡◌, option_map, IfSome};
-ghost use Rattle.flush_journal.specs.Records.{cut, cut_number_4, cut_number_8, cut_key, cut_body, first_record, IsRecord};
+ghost use Rattle.flush_journal.specs.Records.{split_front, split_number_4, split_number_8};
+ghost use Rattle.flush_journal.specs.Records.{split_key, split_body, first_record, IsRecord};
 
 const MAX_KEY: usize = 65_535;
 
 // The first bytes and the others, where there are enough.
-fn cut_at(bytes: &[u8], n: usize) -> Option<(&[u8], &[u8])>
-    ensures { option_map (λ p. (p.0.now, p.1.now)) result ≡ cut n bytes.now }
+fn split_front(bytes: &[u8], n: usize) -> Option<(&[u8], &[u8])>
+    ensures { option_map (λ p. (p.0.now, p.1.now)) result ≡ split_front n bytes.now }
 {
     if n > bytes.len() {
         return None;
@@ -16,7 +17,7 @@ fn cut_at(bytes: &[u8], n: usize) -> Option<(&[u8], &[u8])>
 
 // The number that four bytes spell, and what follows.
 fn number_4(bytes: &[u8]) -> Option<(u32, &[u8])>
-    ensures { option_map (λ p. (p.0, p.1.now)) result ≡ cut_number_4 bytes.now }
+    ensures { option_map (λ p. (p.0, p.1.now)) result ≡ split_number_4 bytes.now }
 {
     match bytes {
         [a, b, c, d, rest @ ..] => Some((u32::from_be_bytes([*a, *b, *c, *d]), rest)),
@@ -26,7 +27,7 @@ fn number_4(bytes: &[u8]) -> Option<(u32, &[u8])>
 
 // The number that eight bytes spell, and what follows.
 pub fn number_8(bytes: &[u8]) -> Option<(u64, &[u8])>
-    ensures { option_map (λ p. (p.0, p.1.now)) result ≡ cut_number_8 bytes.now }
+    ensures { option_map (λ p. (p.0, p.1.now)) result ≡ split_number_8 bytes.now }
 {
     match bytes {
         [a, b, c, d, e, f, g, h, rest @ ..] => Some((
@@ -39,22 +40,22 @@ pub fn number_8(bytes: &[u8]) -> Option<(u64, &[u8])>
 
 // A key, and what follows.
 fn key_at_front(bytes: &[u8]) -> Option<(&[u8], &[u8])>
-    ensures { option_map (λ p. (p.0.now, p.1.now)) result ≡ cut_key bytes.now }
+    ensures { option_map (λ p. (p.0.now, p.1.now)) result ≡ split_key bytes.now }
 {
     let (size, rest) = number_4(bytes)?;
     let size = size as usize;
     if size < 1 || size > MAX_KEY {
         return None;
     }
-    cut_at(rest, size)
+    split_front(rest, size)
 }
 
 // A body, and what follows.
 fn body_at_front(bytes: &[u8]) -> Option<(&[u8], &[u8])>
-    ensures { option_map (λ p. (p.0.now, p.1.now)) result ≡ cut_body bytes.now }
+    ensures { option_map (λ p. (p.0.now, p.1.now)) result ≡ split_body bytes.now }
 {
     let (size, rest) = number_4(bytes)?;
-    cut_at(rest, size as usize)
+    split_front(rest, size as usize)
 }
 
 // The record at the front, and what follows.

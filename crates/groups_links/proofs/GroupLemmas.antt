@@ -29,15 +29,15 @@ shorter_name most text name short =
 
 -- ---- no links
 
-none_held : (k : List ℕ) (link : LinkTo) → get (empty {X = LinkTo} {R = text_order}) k ≡ Some link → ⊥
-none_held k link e = let both : None ≡ Some link = sym (get-empty text_order k) ∙ e in absurd (cc)
+none_linked : (k : List ℕ) (link : LinkTo) → get (empty {X = LinkTo} {R = text_order}) k ≡ Some link → ⊥
+none_linked k link e = let both : None ≡ Some link = sym (get-empty text_order k) ∙ e in absurd (cc)
 
 pub no_links : AreLinks empty
 no_links = record {
   few = rw (len-empty text_order LinkTo) (omega arith);
-  titled = λ k link e. absurd (none_held k link e);
-  named = λ k link e. absurd (none_held k link e);
-  sound = λ k link e. absurd (none_held k link e);
+  titled = λ k link e. absurd (none_linked k link e);
+  named = λ k link e. absurd (none_linked k link e);
+  sound = λ k link e. absurd (none_linked k link e);
 }
 
 -- ---- one link more

@@ -82,8 +82,8 @@ pub again_next : (fs : List Field) (i : ℕ) (f : Field) → i < length fs → f
     → first_again i (field_names (take i fs)) (field_names (drop i fs)) ≡ first_again (i + 1) (field_names (take (i + 1) fs)) (field_names (drop (i + 1) fs))
 again_next fs i f h is e =
     let more = drop_more fs i f h ∙ ap (λ (g : Field). g ∷ drop (i + 1) fs) (sym is) in
-    let seen = take_more fs i f h ∙ ap (λ (g : Field). take i fs ++ g ∷ []) (sym is) in
-    let names : field_names (take (i + 1) fs) ≡ field_names (take i fs) ++ f.name ∷ [] = ap field_names seen ∙ names-push (take i fs) f in
+    let earlier = take_more fs i f h ∙ ap (λ (g : Field). take i fs ++ g ∷ []) (sym is) in
+    let names : field_names (take (i + 1) fs) ≡ field_names (take i fs) ++ f.name ∷ [] = ap field_names earlier ∙ names-push (take i fs) f in
     ap (λ (gs : List Field). first_again i (field_names (take i fs)) (field_names gs)) more ∙ rw (e, names, add-one)
 
 pub distinct_some : (path : List ℕ) (fs gs : List Field) (k : ℕ) → gs ≡ fs → Some k ≡ first_again 0 [] (field_names gs) → distinct_at path (field_list fs) ≡ Err (fault path (DupField k))

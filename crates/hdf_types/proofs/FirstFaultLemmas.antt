@@ -108,13 +108,13 @@ outside l p d fails none = record {
 
 -- ---- a name that stands again
 
-again_at : (j : ℕ) (seen ns : List (List ℕ)) (k : ℕ) → first_again j seen ns ≡ Some k
-    → (i : ℕ) × (k ≡ j + i) × (i < length ns) × (first_again j seen (take i ns) ≡ None) × (first_again j seen (take (suc i) ns) ≡ Some k)
-again_at j seen [] k h = cc
-again_at j seen (n ∷ ns) k h = elim (chosen (list_any (λ m. bytes_eq m n) seen) (Some j) (first_again (suc j) (seen ++ n ∷ []) ns) (Some k) h) [
+again_at : (j : ℕ) (earlier ns : List (List ℕ)) (k : ℕ) → first_again j earlier ns ≡ Some k
+    → (i : ℕ) × (k ≡ j + i) × (i < length ns) × (first_again j earlier (take i ns) ≡ None) × (first_again j earlier (take (suc i) ns) ≡ Some k)
+again_at j earlier [] k h = cc
+again_at j earlier (n ∷ ns) k h = elim (chosen (list_any (λ m. bytes_eq m n) earlier) (Some j) (first_again (suc j) (earlier ++ n ∷ []) ns) (Some k) h) [
   | inl e ↦ let same = same_Some j k e.1 in (zero, omega (arith, same), omega arith, refl, rw e.0 e.1)
   | inr e ↦
-      let rest = again_at (suc j) (seen ++ n ∷ []) ns k e.1 in
+      let rest = again_at (suc j) (earlier ++ n ∷ []) ns k e.1 in
       let place = rest.1 in
       let low = rest.2 in
       (suc rest.0, omega (arith, place), omega (arith, low), rw e.0 rest.3, rw e.0 rest.4)

@@ -11,61 +11,61 @@ use Rattle.hdf_types.specs.Views.{field_names}
 use Rattle.hdf_types.specs.Reading.{first_again}
 use Rattle.hdf_types.specs.Types.{IsDistinct}
 
--- no name of `seen` is this one
+-- no name of `earlier` is this one
 abbrev Apart : List (List ℕ) → List ℕ → Type 0
-Apart seen n = AllByRecursion (λ m. m ≢ n) seen
+Apart earlier n = AllByRecursion (λ m. m ≢ n) earlier
 
--- no name of `seen` is among those that follow
+-- no name of `earlier` is among those that follow
 abbrev Fresh : List (List ℕ) → List (List ℕ) → Type 0
-Fresh seen ns = AllByRecursion (λ n. AllByRecursion (λ m. m ≢ n) seen) ns
+Fresh earlier ns = AllByRecursion (λ n. AllByRecursion (λ m. m ≢ n) earlier) ns
 
 not_equal : (m n : List ℕ) → bytes_eq m n ≡ false → m ≢ n
 not_equal m n e same = cc (sym (ap (λ x. bytes_eq x n) same) ∙ e, equal_bytes n)
 
-apart_told : (seen : List (List ℕ)) (n : List ℕ) → list_any (λ m. bytes_eq m n) seen ≡ false → Apart seen n
+apart_told : (earlier : List (List ℕ)) (n : List ℕ) → list_any (λ m. bytes_eq m n) earlier ≡ false → Apart earlier n
 apart_told [] n e = tt
-apart_told (m ∷ seen) n e =
-    let parts = or_parts (bytes_eq m n) (list_any (λ m. bytes_eq m n) seen) e in
-    (not_equal m n parts.0, apart_told seen n parts.1)
+apart_told (m ∷ earlier) n e =
+    let parts = or_parts (bytes_eq m n) (list_any (λ m. bytes_eq m n) earlier) e in
+    (not_equal m n parts.0, apart_told earlier n parts.1)
 
-apart_read : (seen : List (List ℕ)) (n : List ℕ) → Apart seen n → list_any (λ m. bytes_eq m n) seen ≡ false
+apart_read : (earlier : List (List ℕ)) (n : List ℕ) → Apart earlier n → list_any (λ m. bytes_eq m n) earlier ≡ false
 apart_read [] n h = refl
-apart_read (m ∷ seen) n h = rw (differs m n h.0) (apart_read seen n h.1)
+apart_read (m ∷ earlier) n h = rw (differs m n h.0) (apart_read earlier n h.1)
 
-apart_last : (seen : List (List ℕ)) (m n : List ℕ) → Apart (seen ++ m ∷ []) n → Apart seen n × (m ≢ n)
+apart_last : (earlier : List (List ℕ)) (m n : List ℕ) → Apart (earlier ++ m ∷ []) n → Apart earlier n × (m ≢ n)
 apart_last [] m n h = (tt, h.0)
-apart_last (s ∷ seen) m n h =
-    let rest = apart_last seen m n h.1 in
+apart_last (s ∷ earlier) m n h =
+    let rest = apart_last earlier m n h.1 in
     ((h.0, rest.0), rest.1)
 
-apart_push : (seen : List (List ℕ)) (m n : List ℕ) → Apart seen n → m ≢ n → Apart (seen ++ m ∷ []) n
+apart_push : (earlier : List (List ℕ)) (m n : List ℕ) → Apart earlier n → m ≢ n → Apart (earlier ++ m ∷ []) n
 apart_push [] m n h k = (k, tt)
-apart_push (s ∷ seen) m n h k = (h.0, apart_push seen m n h.1 k)
+apart_push (s ∷ earlier) m n h k = (h.0, apart_push earlier m n h.1 k)
 
-fresh_last : (seen : List (List ℕ)) (m : List ℕ) (ns : List (List ℕ)) → Fresh (seen ++ m ∷ []) ns → Fresh seen ns × Apart ns m
-fresh_last seen m [] h = (tt, tt)
-fresh_last seen m (n ∷ ns) h =
-    let here = apart_last seen m n h.0 in
-    let rest = fresh_last seen m ns h.1 in
+fresh_last : (earlier : List (List ℕ)) (m : List ℕ) (ns : List (List ℕ)) → Fresh (earlier ++ m ∷ []) ns → Fresh earlier ns × Apart ns m
+fresh_last earlier m [] h = (tt, tt)
+fresh_last earlier m (n ∷ ns) h =
+    let here = apart_last earlier m n h.0 in
+    let rest = fresh_last earlier m ns h.1 in
     ((here.0, rest.0), (λ same. here.1 (sym same), rest.1))
 
-fresh_push : (seen : List (List ℕ)) (m : List ℕ) (ns : List (List ℕ)) → Fresh seen ns → Apart ns m → Fresh (seen ++ m ∷ []) ns
-fresh_push seen m [] h k = tt
-fresh_push seen m (n ∷ ns) h k = (apart_push seen m n h.0 (λ same. k.0 (sym same)), fresh_push seen m ns h.1 k.1)
+fresh_push : (earlier : List (List ℕ)) (m : List ℕ) (ns : List (List ℕ)) → Fresh earlier ns → Apart ns m → Fresh (earlier ++ m ∷ []) ns
+fresh_push earlier m [] h k = tt
+fresh_push earlier m (n ∷ ns) h k = (apart_push earlier m n h.0 (λ same. k.0 (sym same)), fresh_push earlier m ns h.1 k.1)
 
-none_again : (k : ℕ) (seen ns : List (List ℕ)) → first_again k seen ns ≡ None → Fresh seen ns × IsDistinct ns
-none_again k seen [] e = (tt, tt)
-none_again k seen (n ∷ ns) e = elim (chosen (list_any (λ m. bytes_eq m n) seen) (Some k) (first_again (suc k) (seen ++ n ∷ []) ns) None e) [
+none_again : (k : ℕ) (earlier ns : List (List ℕ)) → first_again k earlier ns ≡ None → Fresh earlier ns × IsDistinct ns
+none_again k earlier [] e = (tt, tt)
+none_again k earlier (n ∷ ns) e = elim (chosen (list_any (λ m. bytes_eq m n) earlier) (Some k) (first_again (suc k) (earlier ++ n ∷ []) ns) None e) [
   | inl p ↦ cc
   | inr p ↦
-      let rest = none_again (suc k) (seen ++ n ∷ []) ns p.1 in
-      let parts = fresh_last seen n ns rest.0 in
-      ((apart_told seen n p.0, parts.0), (parts.1, rest.1))
+      let rest = none_again (suc k) (earlier ++ n ∷ []) ns p.1 in
+      let parts = fresh_last earlier n ns rest.0 in
+      ((apart_told earlier n p.0, parts.0), (parts.1, rest.1))
 ]
 
-again_none : (k : ℕ) (seen ns : List (List ℕ)) → Fresh seen ns → IsDistinct ns → first_again k seen ns ≡ None
-again_none k seen [] h d = refl
-again_none k seen (n ∷ ns) h d = rw (apart_read seen n h.0) (again_none (suc k) (seen ++ n ∷ []) ns (fresh_push seen n ns h.1 d.0) d.1)
+again_none : (k : ℕ) (earlier ns : List (List ℕ)) → Fresh earlier ns → IsDistinct ns → first_again k earlier ns ≡ None
+again_none k earlier [] h d = refl
+again_none k earlier (n ∷ ns) h d = rw (apart_read earlier n h.0) (again_none (suc k) (earlier ++ n ∷ []) ns (fresh_push earlier n ns h.1 d.0) d.1)
 
 fresh_none : (ns : List (List ℕ)) → Fresh [] ns
 fresh_none [] = tt

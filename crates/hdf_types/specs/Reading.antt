@@ -118,8 +118,8 @@ names_of (field n e rest) = n ∷ names_of rest
 
 -- the first name, from `k` on, that stands among those before it
 abbrev pub first_again : ℕ → List (List ℕ) → List (List ℕ) → Option ℕ
-first_again k seen [] = None
-first_again k seen (n ∷ ns) = if list_any (λ m. bytes_eq m n) seen then Some k else first_again (suc k) (seen ++ n ∷ []) ns
+first_again k earlier [] = None
+first_again k earlier (n ∷ ns) = if list_any (λ m. bytes_eq m n) earlier then Some k else first_again (suc k) (earlier ++ n ∷ []) ns
 
 abbrev pub again_or : Option ℕ → List ℕ → FieldList → Result FieldList Fault
 again_or (Some k) path fs = Err (fault path (DupField k))

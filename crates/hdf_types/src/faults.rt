@@ -35,7 +35,7 @@ pub enum Class {
 pub enum Cause {
     /// The node is outside the grammar.
     NotAType,
-    /// A class that is not held.
+    /// A class that is not supported.
     Unsupported {
         /// The class.
         class: Class,

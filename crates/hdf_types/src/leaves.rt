@@ -145,7 +145,7 @@ pub fn string(tree: &Value, path: &FieldPath) -> Result<ElemType, TypeFault>
     sized(utf8, pad, len, path)
 }
 
-/// Why a class is not read: one that is not held, or no class of types.
+/// Why a class is not read: one that is not supported, or no class of types.
 #[tactic(auto, unfolding(crate::specs::Reading::class_cause))]
 pub fn class_cause(name: &str) -> Cause
     ensures { result ≡ class_cause name.now }

@@ -140,8 +140,8 @@ utf8_front f (suc n) s front l e h =
     let whole = front ++ replicate (suc n) f in
     let here : get_or whole (length front) 0 ≡ f = get_or_at front f (replicate n f) 0 (length front) refl in
     let more = length_filled front (suc n) f in
-    let cut = IsCharBoundary-before_ascii whole (length front) (omega arith) (omega arith) in
-    subst IsUtf8 (take_at front (replicate (suc n) f) (length front) refl) (IsUtf8-take whole (length front) (subst IsUtf8 e h) cut)
+    let boundary = IsCharBoundary-before_ascii whole (length front) (omega arith) (omega arith) in
+    subst IsUtf8 (take_at front (replicate (suc n) f) (length front) refl) (IsUtf8-take whole (length front) (subst IsUtf8 e h) boundary)
 
 pub utf8_kept : (p : Pad) (s : List ℕ) → IsUtf8 s → IsUtf8 (without_end (fill p) s)
 utf8_kept p s h =

@@ -8,7 +8,7 @@ use Rattle.std.specs.Prelude.{◌≡◌, ◌⊎◌, ◌^◌, ◌≤◌, ⊤, ℕ
 use Rattle.std.specs.Io.KnownBytes.{Appends, Keeps}
 use Rattle.serde_json.specs.Data.{Data}
 use Rattle.serde_json.specs.Written.{compact_text}
-use Rattle.json_import.specs.RoundTrips.Held.{held_in}
+use Rattle.json_import.specs.RoundTrips.Loaded.{loaded_from}
 use Rattle.documents.specs.Domains.Printed.{ReadsAs}
 use Rattle.documents.specs.declared.domains.home.Home.{Home}
 use Rattle.edge_traits.specs.Causes.{Rose}
@@ -38,8 +38,8 @@ pub record IsGiven (found : Option Data) (tree : Data) : Type 0 where
 abbrev pub AreLoaded : World → List ℕ → Data → Type 0
 AreLoaded world path tree =
     (home : Home) → home_at world path ≡ Some home
-    → LoadsText (compact_text tree) (held_in world.objects home)
-    × (length (document_line tree) ≤ 2 ^ 27 → LoadsText (document_line tree) (held_in world.objects home))
+    → LoadsText (compact_text tree) (loaded_from world.objects home)
+    × (length (document_line tree) ≤ 2 ^ 27 → LoadsText (document_line tree) (loaded_from world.objects home))
 
 -- there is no document, or its text is too long
 abbrev pub IsWithheld : Option Data → Type 0

@@ -1,4 +1,4 @@
-//! Journals whose bytes are cut or changed, disks that are full, and how a link left the world.
+//! Journals whose bytes are truncated or changed, disks that are full, and how a link left the world.
 
 use crate::exchanges::exchange_of;
 use crate::trials::{

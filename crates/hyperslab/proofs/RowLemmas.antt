@@ -170,14 +170,14 @@ tail_next r i m p o e w h some l tail em few ee ew =
     let parts = runs_sided r h in
     let box = filled r h some in
     let long : i < length (sides_of r) = omega (arith, l, ap length h.counts, length-map (sides_of r) count_of) in
-    let cut = drop_more_at ss i no_side long in
+    let opened = drop_more_at ss i no_side long in
     let one : count_of (get_or ss i no_side) ≡ 1 = omega (arith, em ∙ got count_of ss r.counts i h.counts long, few, factor_some count_of ss i long box.some_cells) in
     let len : r.len ≡ cell_count (counts (drop i (sides_of r))) =
-    tail.len ∙ omega arith ∙ ap (λ n. n * cell_count (counts (drop (suc i) ss))) (sym one) ∙ ap (λ ts. cell_count (counts ts)) (sym cut) in
+    tail.len ∙ omega arith ∙ ap (λ n. n * cell_count (counts (drop (suc i) ss))) (sym one) ∙ ap (λ ts. cell_count (counts ts)) (sym opened) in
     let indices : p * e ≡ cell_count (extents_to (drop i (sides_of r))) =
-    ap (λ n. n * e) tail.indices ∙ ap (λ n. cell_count (extents_to (drop (suc i) ss)) * n) (ee ∙ got extent_of ss r.extents i (h.extents ∙ parts.extents) long) ∙ omega arith ∙ ap (λ ts. cell_count (extents_to ts)) (sym cut) in
+    ap (λ n. n * e) tail.indices ∙ ap (λ n. cell_count (extents_to (drop (suc i) ss)) * n) (ee ∙ got extent_of ss r.extents i (h.extents ∙ parts.extents) long) ∙ omega arith ∙ ap (λ ts. cell_count (extents_to ts)) (sym opened) in
     let offsets : o * w ≡ cell_count (wides (drop i (sides_of r))) =
-    ap (λ n. n * w) tail.offsets ∙ ap (λ n. cell_count (wides (drop (suc i) ss)) * n) (ew ∙ got wide_of ss r.chunk i parts.side long) ∙ omega arith ∙ ap (λ ts. cell_count (wides ts)) (sym cut) in
+    ap (λ n. n * w) tail.offsets ∙ ap (λ n. cell_count (wides (drop (suc i) ss)) * n) (ew ∙ got wide_of ss r.chunk i parts.side long) ∙ omega arith ∙ ap (λ ts. cell_count (wides ts)) (sym opened) in
     record {
       indices_fit = omega (arith, indices, factors_most extent_of ss i box.some_indices, box.indices_most);
       offsets_fit = omega (arith, offsets, factors_most wide_of ss i box.some_offsets, box.offsets_most);

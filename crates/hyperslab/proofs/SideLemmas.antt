@@ -203,12 +203,12 @@ pub walk_step : (ss : List Side) (i step st rest p o all off m f e w a by lo : â
 walk_step ss i step st rest p o all off m f e w a by lo h sound wide es l ep eo em ef ee ew ea ec el est =
     let s = get_or ss i no_side in
     let tail = drop (i + 1) ss in
-    let cut = drop_more ss i no_side h in
+    let opened = drop_more ss i no_side h in
     let axis = sound_at ss i sound h in
     let more = sound_from ss (i + 1) sound in
-    let es_here = rw cut at es in
-    let ep_here = rw cut at ep in
-    let eo_here = rw cut at eo in
+    let es_here = rw opened at es in
+    let ep_here = rw opened at ep in
+    let eo_here = rw opened at eo in
     let k = step_here s tail step rest p o all off axis more es_here l ep_here eo_here wide in
     let d = rest / cell_count (counts tail) in
     let lies = axis_in s.axis.lo s.axis.hi s.axis.by s.low s.wide (first_of s + d) axis.2 (omega arith) (omega (arith, k.3)) in

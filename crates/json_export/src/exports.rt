@@ -10,7 +10,7 @@ ghost use Rattle.json_export.specs.Documents.{Answers, IsReadAs, IsTextOf, IsToo
 ghost use Rattle.json_export.specs.Documents.{home_at, home_of};
 
 use crate::faults::ExportFault;
-use crate::worlds::Held;
+use crate::worlds::WorldObjects;
 use documents::domains::{Home, Printed, print_domain};
 use domains::NodeClass;
 use object_ids::DomainPath;
@@ -86,5 +86,5 @@ fn domain_printed(alloc: Global, world: &World, home: &Home) -> Result<Printed, 
     ensures { Answers (λ p tree. IsPrinted tree p) result
         (Some (document_tree (seen world.now).objects home.now)) }
 {
-    Ok(print_domain(alloc, &Held { world }, home)?)
+    Ok(print_domain(alloc, &WorldObjects { world }, home)?)
 }

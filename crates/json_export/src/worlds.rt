@@ -7,14 +7,14 @@ use service_core::World;
 
 /// The objects of a world, as requests see them.
 #[derive(Clone, Copy)]
-pub(crate) struct Held<'a> {
+pub(crate) struct WorldObjects<'a> {
     pub world: &'a World,
 }
 
-impl ObjectStore for Held<'_> {
+impl ObjectStore for WorldObjects<'_> {
     ghost use Rattle.service_core.specs.Worlds.{seen};
 
-    ghost objects = { λ held. (seen held.world.now).objects };
+    ghost objects = { λ store. (seen store.world.now).objects };
 
     fn object(&self, id: &ObjectId) -> Option<&Object> {
         self.world.object(id)

@@ -5,5 +5,5 @@ pub mod EntryLemmas
 pub mod OrderLemmas
 pub mod HomeLemmas
 pub mod DocumentLemmas
-pub mod HeldLemmas
+pub mod LoadedLemmas
 pub mod DepthLemmas

@@ -1,3 +1,3 @@
 pub mod Renamed
-pub mod Held
+pub mod Loaded
 pub mod Laws

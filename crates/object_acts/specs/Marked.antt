@@ -4,7 +4,7 @@ use Rattle.chunk_store.specs.Grids.{Grid}
 use Rattle.chunk_store.specs.Marks.{is_dirty}
 use Rattle.object_ops.specs.declared.ops.Op.{Op}
 use Rattle.object_ops.specs.declared.ops.Op.TheVariants.{PutShape, PutValue}
-use Rattle.object_acts.specs.Arrays.Marked.{is_cut, is_written}
+use Rattle.object_acts.specs.Arrays.Marked.{is_truncated, is_written}
 use Rattle.object_acts.specs.declared.objects.Body.{Body}
 use Rattle.object_acts.specs.declared.objects.Body.TheVariants.{Group, Dataset, Datatype}
 
@@ -14,10 +14,10 @@ in_array f (Group links) = false
 in_array f (Dataset array) = f array.grid
 in_array f (Datatype type) = false
 
--- the operation writes to the chunk, or cuts it
+-- the operation writes to the chunk, or truncates it
 abbrev pub is_changed_by : Op → Body → List ℕ → Bool
 is_changed_by (PutValue id part value) b i = in_array (λ g. is_written part g i) b
-is_changed_by (PutShape id dims) b i = in_array (λ g. is_cut dims g i) b
+is_changed_by (PutShape id dims) b i = in_array (λ g. is_truncated dims g i) b
 is_changed_by op b i = false
 
 -- the chunk is marked as changed

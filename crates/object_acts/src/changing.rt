@@ -8,7 +8,7 @@ ghost use Rattle.object_ids.specs.declared.ids.Kind.{Kind};
 ghost use Rattle.object_ops.specs.Answers.{Follows, was_done};
 ghost use Rattle.object_ops.specs.Conditions.{IsSoundOp, AreDims};
 ghost use Rattle.object_acts.specs.Arrays.Arrays.{shape_changed, value_written};
-ghost use Rattle.object_acts.specs.Arrays.Marked.{IsDone, is_cut, is_written};
+ghost use Rattle.object_acts.specs.Arrays.Marked.{IsDone, is_truncated, is_written};
 ghost use Rattle.object_acts.specs.Objects.{unmarked, IsOfKind, KeepsTrack};
 ghost use Rattle.object_acts.specs.Acts.{change_of, changes_object, drop_from, link_put};
 ghost use Rattle.object_acts.specs.Acts.{on_array, on_links};
@@ -129,7 +129,7 @@ fn shape_put(alloc: Global, object: &mut Object, id: &ObjectId, dims: &Dims) -> 
     ensures kind { (k : Kind) → IsOfKind k object.old → IsOfKind k object.new }
     ensures tracked { KeepsTrack object.old.body object.new.body }
     ensures alone { MarksAloneIn (λ i. (was_done result ≡ true)
-        × (in_array (λ g. is_cut dims.now g i) object.old.body ≡ true))
+        × (in_array (λ g. is_truncated dims.now g i) object.old.body ≡ true))
         object.old.body object.new.body }
 {
     match &mut object.body {

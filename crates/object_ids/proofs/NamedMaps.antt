@@ -7,7 +7,7 @@ use Rattle.std.specs.Ordering.{eq_by_cmp}
 use Rattle.containers.specs.TextMaps.Keyed.{text_order, keyed, with_values}
 use Rattle.containers.specs.TextMaps.Nexts.{IsNext, IsStep, IsKeyStep}
 use Rattle.containers.proofs.TextMaps.KeyedMaps.{exact_texts}
-use Rattle.containers.proofs.TextMaps.ValueMaps.{entries-values, keys_held, map-keyed, next-values, step-values}
+use Rattle.containers.proofs.TextMaps.ValueMaps.{entries-values, own_keys, map-keyed, next-values, step-values}
 use Rattle.object_ids.specs.NamedEntries.{AreNamed, named_entries}
 use Rattle.object_ids.specs.declared.name_map.Named.{Named}
 
@@ -60,7 +60,7 @@ module _ {X : Type 0} where
     pub entries_named : {K : Type 0} (bytes : K → List ℕ) (es : List (K × Named X)) → entries m ≡ keyed bytes es → entries now ≡ named_entries es
     entries_named bytes es shown =
         ap entries (sym view) ∙ entries-values nat_list_cmp_total value_of m
-        ∙ keys_held nat_list_cmp_total name_of value_of (entries m) (entries_sorted m) (λ k n f. held k n (get-entries m k ∙ f))
+        ∙ own_keys nat_list_cmp_total name_of value_of (entries m) (entries_sorted m) (λ k n f. held k n (get-entries m k ∙ f))
         ∙ ap (map named_entry) shown ∙ map-keyed bytes named_entry es
 
     -- the next name

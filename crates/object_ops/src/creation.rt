@@ -1,5 +1,5 @@
 //! The creation properties of a dataset (HDF REST API, "creationProperties"; HDF5/JSON,
-//! "Dataset"): how its cells are cut into chunks, and the fill of cells that were never written.
+//! "Dataset"): how its cells are split into chunks, and the fill of cells that were never written.
 
 mod faults;
 mod laws;

@@ -38,7 +38,7 @@ pub enum Refusal {
         /// The part.
         field: FieldWord,
     },
-    /// The class of types is not held.
+    /// The class of types is not supported.
     UnsupportedType {
         /// The class.
         class: Class,

@@ -70,8 +70,8 @@ module _ {X Y : Type 0} (h : X → Y) (most : ℕ) (read : Data → Option (List
   put_refused NoMemory is why = tt
 
 -- a map without entries
-pub none_seen : {X Y : Type 0} (h : X → Y) → with_values h (empty {X = X} {R = text_order}) ≡ empty
-none_seen h = empty-values nat_list_cmp_total exact_texts h
+pub none_valued : {X Y : Type 0} (h : X → Y) → with_values h (empty {X = X} {R = text_order}) ≡ empty
+none_valued h = empty-values nat_list_cmp_total exact_texts h
 
 -- a tree with a name and an attribute
 pub attribute_read : (d : Data) (name : List ℕ) (c : Content) → name_at (codes "name") longest_name d ≡ Some name → attribute_of d ≡ Ok c → attribute_in d ≡ Some (name, c)

@@ -62,8 +62,8 @@ attribute_back name c short sound =
     attribute_read (attribute_tree name c Document true) name c (ap (λ (b : Bool). if b then Some name else None) short)
     (printed_back (attribute_tree name c Document true) c Document sound refl refl refl)
 
-abbrev seen : List ℕ × Attribute → List ℕ × Content
-seen e = (e.0, content e.1)
+abbrev with_content : List ℕ × Attribute → List ℕ × Content
+with_content e = (e.0, content e.1)
 
 pub attributes_back : (m : FinMap text_order Attribute) → AreAttributes m → attributes_in (Some (attributes_list m Document true)) ≡ Some (with_values content m)
 attributes_back m held =
@@ -71,7 +71,7 @@ attributes_back m held =
     let each = each_entry (λ name a. attribute_in (attribute_tree name (content a) Document true) ≡ Some (name, content a)) m
     (λ name a e. attribute_back name (content a) (held.named name a e) (held.sound name a e)) in
     let zip = subst (λ (es : List (List ℕ × Content)). AllZip (λ d e. attribute_in d ≡ Some e) trees es) (sym (entries-values nat_list_cmp_total content m))
-    (zip_of (entry_tree Document true) seen attribute_in (entries m) each) in
+    (zip_of (entry_tree Document true) with_content attribute_in (entries m) each) in
     ap (listed most_attributes attribute_in empty) (list_of-items_of trees)
     ∙ list_back most_attributes attribute_in (with_values content m) trees zip (omega (arith, held.few, len-values nat_list_cmp_total content m))
 

@@ -10,7 +10,7 @@ use Rattle.domains.specs.declared.classes.NodeClass.TheVariants.{Folder, Domain}
 use Rattle.object_ops.specs.Needs.{decided_at, on_for, path_on}
 use Rattle.object_ops.specs.declared.ops.Op.TheVariants.{ListNodes}
 use Rattle.object_ops.specs.declared.ops.Request.{Request}
-use Rattle.register.specs.declared.looking.Looked.TheVariants as seen
+use Rattle.register.specs.declared.looking.Looked.TheVariants as looks
 use Rattle.register.specs.Decided.{RegisterState, fits, is_folder}
 use Rattle.register.specs.Looks.{looked}
 use Rattle.register.proofs.Settling.{allowed}
@@ -27,7 +27,7 @@ listed c request class op at fit =
     ap (class_at c) (sym path) ∙ at ∙ ap Some (folder_of class (sym (ap (λ o. fits o class) op) ∙ fit))
 
 -- the class that was met is that of the node
-pub met : (d : RegisterState) (caller : Caller) (request : Request) (class : NodeClass) → looked caller request.op (get d.catalogue.nodes (decided_at request)) ≡ seen.Allowed class
+pub met : (d : RegisterState) (caller : Caller) (request : Request) (class : NodeClass) → looked caller request.op (get d.catalogue.nodes (decided_at request)) ≡ looks.Allowed class
     → class_at d.catalogue (decided_at request) ≡ Some class
 met d caller request class e =
     let a = allowed d caller request.path request.op (get d.catalogue.nodes (decided_at request)) class e in

@@ -29,7 +29,7 @@ use Rattle.object_ops.specs.declared.refusals.Refusal.{Refusal}
 use Rattle.object_ops.specs.declared.refusals.Refusal.TheVariants.{Limit, NoDomain}
 use Rattle.register.specs.declared.verdicts.Verdict.{Verdict}
 use Rattle.register.specs.declared.verdicts.Verdict.TheVariants.{Granted, Answered, Denied, Refused, NoMemory}
-use Rattle.register.specs.declared.looking.Looked.TheVariants as seen
+use Rattle.register.specs.declared.looking.Looked.TheVariants as looks
 use Rattle.register.specs.Decided.{Decides, IsDenial, RegisterState, answered, at_maybe, cat_refusal, changed_at, decided, domain_added, domain_made, entry_put, entry_read, fits, folder_made, forgotten, granted, is_of_nodes, most_of, node_made, node_removed, passed, refused, serial_limit}
 use Rattle.register.specs.Looks.{Answers, Leaves, MayBlame, MaySettle, Reads, Refuses, RefusesFault, Settles, SettlesOp, looked}
 
@@ -207,7 +207,7 @@ granted_given d caller path op node of h = absurd (false≢true of)
 
 -- ---- what is met
 
-tested : {A : Type 0} (f h : Bool) (class other : NodeClass) (allowed denied missing : A) → (if f then (if h then seen.Allowed class else seen.Denied) else seen.Missing) ≡ seen.Allowed other
+tested : {A : Type 0} (f h : Bool) (class other : NodeClass) (allowed denied missing : A) → (if f then (if h then looks.Allowed class else looks.Denied) else looks.Missing) ≡ looks.Allowed other
     → (class ≡ other) × ((if f then (if h then allowed else denied) else missing) ≡ allowed)
 tested true true class other allowed denied missing e = (cc, refl)
 tested true false class other allowed denied missing e = absurd (cc)
@@ -220,7 +220,7 @@ pub record IsAllowed (d : RegisterState) (caller : Caller) (path : List ℕ) (op
   pub same : node.class ≡ class
   pub decides : at_maybe d caller path op m ≡ granted d caller path op node
 
-pub allowed : (d : RegisterState) (caller : Caller) (path : List ℕ) (op : Op) (m : Option Node) (class : NodeClass) → looked caller op m ≡ seen.Allowed class → IsAllowed d caller path op m class
+pub allowed : (d : RegisterState) (caller : Caller) (path : List ℕ) (op : Op) (m : Option Node) (class : NodeClass) → looked caller op m ≡ looks.Allowed class → IsAllowed d caller path op m class
 allowed d caller path op None class e = absurd (cc)
 allowed d caller path op (Some node) class e =
     let t = tested (fits op node.class) (has node.list caller (right_for op)) node.class class (granted d caller path op node) (Denied (right_for op), passed d) (refused NoDomain d) e in
@@ -229,7 +229,7 @@ allowed d caller path op (Some node) class e =
 -- ---- the whole
 
 pub settled : (d : RegisterState) (caller : Caller) (request : Request) (class : NodeClass) (v : Verdict) (new : RegisterState)
-    → looked caller request.op (get d.catalogue.nodes (decided_at request)) ≡ seen.Allowed class
+    → looked caller request.op (get d.catalogue.nodes (decided_at request)) ≡ looks.Allowed class
     → ((node : Node) → get d.catalogue.nodes (decided_at request) ≡ Some node → node.class ≡ class
     → SettlesOp request.op (granted d caller request.path request.op node) d v new)
     → Leaves d caller request v new
@@ -246,31 +246,31 @@ settled d caller request class v new e h =
     leaves d caller request node NoMemory new e h =
         (h.0, (λ denial. granted_given d caller request.path request.op node h.0 (let Den : Verdict × RegisterState → Type 0 = λ p. IsDenial p.0 in subst Den e denial)), h.1)
 
-missing_is : {A : Type 0} (f h : Bool) (class : NodeClass) (allowed denied missing : A) → (if f then (if h then seen.Allowed class else seen.Denied) else seen.Missing) ≡ seen.Missing
+missing_is : {A : Type 0} (f h : Bool) (class : NodeClass) (allowed denied missing : A) → (if f then (if h then looks.Allowed class else looks.Denied) else looks.Missing) ≡ looks.Missing
     → (if f then (if h then allowed else denied) else missing) ≡ missing
 missing_is true true class allowed denied missing e = absurd (cc)
 missing_is true false class allowed denied missing e = absurd (cc)
 missing_is false h class allowed denied missing e = refl
 
-denied_is : {A : Type 0} (f h : Bool) (class : NodeClass) (allowed denied missing : A) → (if f then (if h then seen.Allowed class else seen.Denied) else seen.Missing) ≡ seen.Denied
+denied_is : {A : Type 0} (f h : Bool) (class : NodeClass) (allowed denied missing : A) → (if f then (if h then looks.Allowed class else looks.Denied) else looks.Missing) ≡ looks.Denied
     → (if f then (if h then allowed else denied) else missing) ≡ denied
 denied_is true true class allowed denied missing e = absurd (cc)
 denied_is true false class allowed denied missing e = refl
 denied_is false h class allowed denied missing e = absurd (cc)
 
-missed : (d : RegisterState) (caller : Caller) (path : List ℕ) (op : Op) (m : Option Node) → looked caller op m ≡ seen.Missing → at_maybe d caller path op m ≡ refused NoDomain d
+missed : (d : RegisterState) (caller : Caller) (path : List ℕ) (op : Op) (m : Option Node) → looked caller op m ≡ looks.Missing → at_maybe d caller path op m ≡ refused NoDomain d
 missed d caller path op None e = refl
 missed d caller path op (Some node) e = missing_is (fits op node.class) (has node.list caller (right_for op)) node.class _ _ _ e
 
-refused_right : (d : RegisterState) (caller : Caller) (path : List ℕ) (op : Op) (m : Option Node) → looked caller op m ≡ seen.Denied → at_maybe d caller path op m ≡ (Denied (right_for op), passed d)
+refused_right : (d : RegisterState) (caller : Caller) (path : List ℕ) (op : Op) (m : Option Node) → looked caller op m ≡ looks.Denied → at_maybe d caller path op m ≡ (Denied (right_for op), passed d)
 refused_right d caller path op None e = absurd (cc)
 refused_right d caller path op (Some node) e = denied_is (fits op node.class) (has node.list caller (right_for op)) node.class _ _ _ e
 
-pub unmet : (d : RegisterState) (caller : Caller) (request : Request) → looked caller request.op (get d.catalogue.nodes (decided_at request)) ≡ seen.Missing
+pub unmet : (d : RegisterState) (caller : Caller) (request : Request) → looked caller request.op (get d.catalogue.nodes (decided_at request)) ≡ looks.Missing
     → Leaves d caller request (Refused NoDomain) d
 unmet d caller request e = sym (missed d caller request.path request.op _ e)
 
-pub refused_access : (d : RegisterState) (caller : Caller) (request : Request) → looked caller request.op (get d.catalogue.nodes (decided_at request)) ≡ seen.Denied
+pub refused_access : (d : RegisterState) (caller : Caller) (request : Request) → looked caller request.op (get d.catalogue.nodes (decided_at request)) ≡ looks.Denied
     → Leaves d caller request (Denied (right_for request.op)) d
 refused_access d caller request e = sym (refused_right d caller request.path request.op _ e)
 

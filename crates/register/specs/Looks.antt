@@ -18,19 +18,19 @@ use Rattle.object_ops.specs.declared.refusals.Refusal.TheVariants.{NoName}
 use Rattle.register.specs.declared.verdicts.Verdict.{Verdict}
 use Rattle.register.specs.declared.verdicts.Verdict.TheVariants.{Answered, Refused, NoMemory}
 use Rattle.register.specs.declared.looking.Looked.{Looked}
-use Rattle.register.specs.declared.looking.Looked.TheVariants as seen
+use Rattle.register.specs.declared.looking.Looked.TheVariants as looks
 use Rattle.register.specs.Decided.{IsDenial, RegisterState, acl_body, cat_refusal, decided, fits, is_of_nodes, passed}
 
 abbrev pub looked : Caller → Op → Option Node → Looked
-looked caller op None = seen.Missing
+looked caller op None = looks.Missing
 looked caller op (Some node) =
-    if fits op node.class then (if has node.list caller (right_for op) then seen.Allowed node.class else seen.Denied) else seen.Missing
+    if fits op node.class then (if has node.list caller (right_for op) then looks.Allowed node.class else looks.Denied) else looks.Missing
 
 -- what is met fits what is asked
 abbrev pub IsFitting : Op → Looked → Type 0
-IsFitting op seen.Missing = Unit {0}
-IsFitting op seen.Denied = Unit {0}
-IsFitting op (seen.Allowed class) = (fits op class ≡ true) × NumberFits class
+IsFitting op looks.Missing = Unit {0}
+IsFitting op looks.Denied = Unit {0}
+IsFitting op (looks.Allowed class) = (fits op class ≡ true) × NumberFits class
 
 -- answered so, or there was no memory
 abbrev pub Answers : Reply → Verdict → Type 0

@@ -65,7 +65,7 @@ rights_in d = or_refuse (BadField field.Acl) (entry_in d)
 
 -- ---- faults of types and shapes
 
--- a type that is none is a field of the wrong form; a class that isn't held is named
+-- a type that is none is a field of the wrong form; a class that isn't supported is named
 abbrev pub type_refusal : Cause → Refusal
 type_refusal (Unsupported class) = UnsupportedType class
 type_refusal cause = BadField field.Type

@@ -34,7 +34,7 @@ use Rattle.request_bodies.specs.declared.properties.Properties.{Properties}
 
 -- What is refused only behind a bad link, a class or a shape, is kept: an `Ok` that holds an `Err`.
 
--- the type at a key; a class that isn't held is refused behind a bad link
+-- the type at a key; a class that isn't supported is refused behind a bad link
 abbrev pub class_or : Cause → Result (Result ElemType Refusal) Refusal
 class_or (Unsupported class) = Ok (Err (UnsupportedType class))
 class_or cause = Err (BadField field.Type)

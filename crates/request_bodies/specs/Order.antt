@@ -32,11 +32,11 @@ first_of (Some refusal ∷ rest) = Some refusal
 
 -- ---- the type and the shape
 
--- the type, if it is one; inside, if its class is held
+-- the type, if it is one; inside, if its class is supported
 abbrev pub type_at : Data → Result (Result ElemType Refusal) Refusal
 type_at d = type_in (get (codes "type") d)
 
--- the class of a type, where it isn't held
+-- the class of a type, where it isn't supported
 abbrev pub class_of : Result (Result ElemType Refusal) Refusal → Option Refusal
 class_of (Ok kind) = fault kind
 class_of (Err refusal) = None

@@ -96,7 +96,7 @@ fn grid_of(elem: Result<ElemType, Refusal>, body: &Value) -> Result<(ElemType, S
     Ok((elem, shape))
 }
 
-// The type at a key; inside, the refusal of a class that isn't held.
+// The type at a key; inside, the refusal of a class that isn't supported.
 fn type_of(alloc: Global, tree: Option<&Value>) -> Result<Result<ElemType, Refusal>, BodyFault>
     ensures exact { Answers result (type_in (shown tree.entry)) }
     ensures sound { IfOk result (λ kind. IfOk kind (λ e. IsSoundType (elem_of e))) }

@@ -19,7 +19,7 @@ use Rattle.object_acts.specs.declared.objects.Object.{Object}
 use Rattle.object_acts.specs.Objects.{empty_group, Objects}
 use Rattle.object_acts.specs.Acts.{change_of, reads_object, reply_of}
 use Rattle.chunk_owner.specs.Lanes.{set_at}
-use Rattle.chunk_owner.specs.Acts.{act, changed_by, changing, group_of, linking, link_to, make_act, missing, on_touched, reading, removed, seen, touched, touched_by_make}
+use Rattle.chunk_owner.specs.Acts.{act, changed_by, changing, group_of, linking, link_to, make_act, missing, on_touched, reading, removed, object_here, touched, touched_by_make}
 use Rattle.chunk_owner.proofs.Eaches.{each_insert, each_remove, stays}
 use Rattle.register.specs.Decided.{RegisterState, fresh_given, serial_limit}
 use Rattle.register.specs.Tickets.{Issue}
@@ -85,7 +85,7 @@ module _ (d : RegisterState) (g : Grant) (root : IsGiven d g.root) (fresh : (id 
 
   act_none : (op : Op) (s : Step) (id : Id) → touched g op s ≡ Some id → (o : Object) → (act g op s id None).1 ≡ Some o → IsGiven d id
   act_none (MakeObject make place) s id at o e = make_none make place s id at o e
-  act_none (DropObject own) s id at o e = removing_none (id_eq id g.root) id (seen g id None) o e
+  act_none (DropObject own) s id at o e = removing_none (id_eq id g.root) id (object_here g id None) o e
   act_none op s id at o e = on_none (reads_object op) op id o e
 
   -- ---- a step, and many

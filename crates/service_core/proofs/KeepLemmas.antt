@@ -60,12 +60,12 @@ stays g op q (t ∷ ts) e = ap (λ b. cond b (run_on g op (step_taken g op t.ste
 refused_done : (r : Reply) (refusal : Refusal) → r ≡ Refused refusal → was_done r ≡ true → ⊥
 refused_done r refusal e done = let no : false ≡ true = sym (ap was_done e) ∙ done in absurd (cc)
 
-module _ (kept : RefusalsLeaveAll) (m : Objects) (seen : AreShown m) where
+module _ (kept : RefusalsLeaveAll) (m : Objects) (shown : AreShown m) where
   first_kept : (g : Grant) (op : Op) (o : Option Step) (refusal : Refusal) → (step_taken g op o m).0 ≡ Refused refusal → (step_taken g op o m).1 ≡ m
   first_kept g op None refusal e = refl
   first_kept g op (Some s) refusal e =
       let Keeps : Objects → Type 0 = λ x. (acted g op s x).0 ≡ Refused refusal → (acted g op s x).1 ≡ x in
-      subst Keeps seen (kept g op s m refusal) e
+      subst Keeps shown (kept g op s m refusal) e
 
   after_first : (g : Grant) (op : Op) (q : Reply × Objects) (ts : List Turn) → Succeed g op ts → ((refusal : Refusal) → q.0 ≡ Refused refusal → q.1 ≡ m)
       → (done : Bool) → was_done q.0 ≡ done → (refusal : Refusal) → (run_on g op q ts).0 ≡ Refused refusal → (run_on g op q ts).1 ≡ m
@@ -207,10 +207,10 @@ denials_kept w caller request right e =
 answer_in : (r : Reply) (refusal : Refusal) → Replied r ≡ Replied (Refused refusal) → r ≡ Refused refusal
 answer_in r refusal e = cc
 
-module _ (kept : RefusalsLeaveAll) (d : RegisterState) (m : Objects) (seen : AreShown m) where
+module _ (kept : RefusalsLeaveAll) (d : RegisterState) (m : Objects) (shown : AreShown m) where
   served_left : (op : Op) (issue : Issue) (new : RegisterState) (refusal : Refusal) → Granting d op issue new → (served op issue m).0 ≡ Refused refusal → KeepsAll op d new × ((served op issue m).1 ≡ m)
   served_left DropNode issue new refusal left e = absurd (cc)
-  served_left op issue new refusal left e = (left.0, run_kept kept m seen issue.grant op issue.left left.1 refusal e)
+  served_left op issue new refusal left e = (left.0, run_kept kept m shown issue.grant op issue.left left.1 refusal e)
 
   same_register : (op : Op) (new : RegisterState) → new ≡ passed d → KeepsAll op d new
   same_register op new e = subst (KeepsAll op d) (sym e) (record { catalogue = refl; run = refl; places = refl; serial = inl refl })
@@ -224,5 +224,5 @@ module _ (kept : RefusalsLeaveAll) (d : RegisterState) (m : Objects) (seen : Are
   refused_left op (verdict.NoMemory, new) refusal left e = absurd (cc)
 
 pub refusals_kept : RefusalsLeaveAll → RefusalsKeep
-refusals_kept kept w caller request refusal seen e =
-    refused_left kept w.register w.objects seen request.op (decided w.register caller request) refusal (decided_left w.register caller request) e
+refusals_kept kept w caller request refusal shown e =
+    refused_left kept w.register w.objects shown request.op (decided w.register caller request) refusal (decided_left w.register caller request) e

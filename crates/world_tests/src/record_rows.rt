@@ -1,6 +1,6 @@
 //! Records beside a good world's: which of them are at fault, and what is made of the others.
 
-use crate::worlds::{bytes_of, held, installed, keep, new_journal, push, push_words, recovered};
+use crate::worlds::{bytes_of, installed, keep, new_journal, push, push_words, read_back, recovered};
 use flush_journal::{Batch, Recovered};
 use register::InstallFault;
 use service_core::World;
@@ -243,7 +243,7 @@ fn ending_of(rt: &(impl Abort + AllocGlobal), changes: &str) -> Vec<u8> {
     let mut batch = Batch::new(rt.alloc());
     push_words(rt, &mut batch, GOOD);
     push_words(rt, &mut batch, changes);
-    ending(rt, installed(rt, held(rt, batch)))
+    ending(rt, installed(rt, read_back(rt, batch)))
 }
 
 /// That an installation ends so, where some of the good records are changed.
@@ -349,7 +349,7 @@ fn ending_with(rt: &(impl Abort + AllocGlobal), list: &Full, members: u32) -> Ve
         bytes_of(rt, list.1).as_slice(),
         body_with(rt, list, members).as_bytes(),
     );
-    ending(rt, installed(rt, held(rt, batch)))
+    ending(rt, installed(rt, read_back(rt, batch)))
 }
 
 fn try_list(rt: &(impl Abort + AllocGlobal), list: &Full) {
@@ -407,7 +407,7 @@ fn damaged(rt: &(impl Abort + AllocGlobal), number: usize) -> Recovered {
         };
         push_damaged(rt, &mut batch, line, change);
     }
-    held(rt, batch)
+    read_back(rt, batch)
 }
 
 /// Of an installed world the next cut writes the record of the run, and no other.

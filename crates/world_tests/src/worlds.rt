@@ -84,7 +84,7 @@ pub(crate) fn recovered(
 }
 
 /// What a journal holds behind one batch.
-pub(crate) fn held(rt: &(impl Abort + AllocGlobal), batch: Batch) -> Recovered {
+pub(crate) fn read_back(rt: &(impl Abort + AllocGlobal), batch: Batch) -> Recovered {
     let mut journal = new_journal(rt, Vec::new(rt.alloc()));
     append(rt, &mut journal, batch);
     recovered(rt, journal.into_disk()).1
@@ -93,9 +93,9 @@ pub(crate) fn held(rt: &(impl Abort + AllocGlobal), batch: Batch) -> Recovered {
 /// The world of two lanes that is made of these records, or why there is none.
 pub(crate) fn installed(
     rt: &(impl Abort + AllocGlobal),
-    held: Recovered,
+    found: Recovered,
 ) -> Result<World, InstallFault> {
-    World::install(rt.alloc(), 2, held)
+    World::install(rt.alloc(), 2, found)
 }
 
 /// The first records as a batch.
@@ -107,7 +107,7 @@ pub(crate) fn first_batch(rt: &(impl Abort + AllocGlobal)) -> Batch {
 
 /// The world of the first records, in run 1.
 pub(crate) fn opened(rt: &(impl Abort + AllocGlobal)) -> World {
-    match installed(rt, held(rt, first_batch(rt))) {
+    match installed(rt, read_back(rt, first_batch(rt))) {
         Ok(world) => world,
         Err(_) => panic!(rt; "a world"),
     }

@@ -106,7 +106,7 @@ module _ (n k : ℕ) (old now after : List Lane) (first mid new : List Record) (
   in_whole : (id : Id) (s : Slot) → get d.was.slots id ≡ Some s → get (whole old) id ≡ object_of (Some s)
   in_whole id s here =
       at_home n 0 k old d.was lanes id (ap (λ j. lane_of j id) (sym is_lane.lanes) ∙ was_whole.slots.home id s here ∙ is_lane.lane ∙ (let e : k ≡ 0 + k = omega arith in e)) few_old here_old
-      ∙ ap (λ (m : Objects). get m id) was_whole.seen ∙ get-objects_of d.was.slots id ∙ ap object_of here
+      ∙ ap (λ (m : Objects). get m id) was_whole.objects ∙ get-objects_of d.was.slots id ∙ ap object_of here
 
   pub front_bodies : AppendsEach (IsObjectRecord (whole old)) first new
   front_bodies = appends_more (IsObjectRecord (whole old)) first mid new c.bodies

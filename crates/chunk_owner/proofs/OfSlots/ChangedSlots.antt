@@ -23,12 +23,12 @@ live_object Kept o live = refl
 live_object Changed o live = refl
 live_object Dropped o live = absurd (live refl)
 
-held_live : (m : Mark) (o : Object) → is_some (object_by m o) ≡ true → m ≢ Dropped
-held_live m o held gone = let none : is_some (object_by m o) ≡ false = ap (λ (x : Mark). is_some (object_by x o)) gone in contrary (is_some (object_by m o)) ⊥ held none
+object_live : (m : Mark) (o : Object) → is_some (object_by m o) ≡ true → m ≢ Dropped
+object_live m o held gone = let none : is_some (object_by m o) ≡ false = ap (λ (x : Mark). is_some (object_by x o)) gone in contrary (is_some (object_by m o)) ⊥ held none
 
 -- a slot that is held has an object
 pub there_live : (m : Slots) (id : Id) (s : Slot) → get m id ≡ Some s → is_some (object_of (get m id)) ≡ true → s.mark ≢ Dropped
-there_live m id s here held = held_live s.mark s.object (sym (ap (λ (o : Option Slot). is_some (object_of o)) here) ∙ held)
+there_live m id s here held = object_live s.mark s.object (sym (ap (λ (o : Option Slot). is_some (object_of o)) here) ∙ held)
 
 pub never_none : {P : Type 0} (m : Slots) (id : Id) → get m id ≡ None → is_some (object_of (get m id)) ≡ true → P
 never_none {P} m id here held = contrary false P (sym (ap (λ (o : Option Slot). is_some (object_of o)) here) ∙ held) refl

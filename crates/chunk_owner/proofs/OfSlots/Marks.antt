@@ -8,7 +8,7 @@ use Rattle.object_ops.specs.declared.ops.Op.{Op}
 use Rattle.object_ops.specs.declared.ops.Op.TheVariants.{PutShape, PutValue}
 use Rattle.object_ops.specs.declared.replies.Reply.{Reply}
 use Rattle.chunk_store.specs.Grids.{Grid}
-use Rattle.object_acts.specs.Arrays.Marked.{IsDone, is_cut, is_written}
+use Rattle.object_acts.specs.Arrays.Marked.{IsDone, is_truncated, is_written}
 use Rattle.object_acts.specs.declared.objects.Object.{Object}
 use Rattle.object_acts.specs.declared.objects.Body.{Body}
 use Rattle.object_acts.specs.declared.objects.Body.TheVariants as body
@@ -122,16 +122,16 @@ mark_by true true old new is = inl is
 mark_by true false old new is = inr (refl, refl)
 mark_by false cells old new is = inl is
 
-in_seen : (f : Grid → Bool) (b : Body) → in_array f (unmarked_body b) ≡ in_array f b
-in_seen f (body.Group links) = refl
-in_seen f (body.Dataset array) = refl
-in_seen f (body.Datatype type) = refl
+in_unmarked : (f : Grid → Bool) (b : Body) → in_array f (unmarked_body b) ≡ in_array f b
+in_unmarked f (body.Group links) = refl
+in_unmarked f (body.Dataset array) = refl
+in_unmarked f (body.Datatype type) = refl
 
 -- marks don't matter for what an operation changes
-changed_seen : (op : Op) (b : Body) (i : List ℕ) → is_changed_by op (unmarked_body b) i ≡ is_changed_by op b i
-changed_seen (PutValue id part value) b i = in_seen (λ g. is_written part g i) b
-changed_seen (PutShape id dims) b i = in_seen (λ g. is_cut dims g i) b
-changed_seen op b i = refl
+changed_unmarked : (op : Op) (b : Body) (i : List ℕ) → is_changed_by op (unmarked_body b) i ≡ is_changed_by op b i
+changed_unmarked (PutValue id part value) b i = in_unmarked (λ g. is_written part g i) b
+changed_unmarked (PutShape id dims) b i = in_unmarked (λ g. is_truncated dims g i) b
+changed_unmarked op b i = refl
 
 module _ (m : Slots) (id : Id) (s t : Slot) (here : get m id ≡ Some s) (live : s.mark ≢ Dropped) (alive : t.mark ≢ Dropped) where
   module _ (op : Op) where
@@ -152,7 +152,7 @@ module _ (m : Slots) (id : Id) (s t : Slot) (here : get m id ≡ Some s) (live :
         → MarksAloneIn (λ i. IsDone r × (is_changed_by op s.object.body i ≡ true)) s.object.body t.object.body → AddsMarks (λ key. IsDone r × IsOutdatedAt id op (object_of (get m id)) key) m (insert m id t)
     change_alone r after same chunks = slot_adds (Outdates r) m id s t here
         (slot_alone (Outdates r) id s t live alive (λ i. IsDone r × (is_changed_by op s.object.body i ≡ true)) chunks (own_mark r after same)
-        (λ i index new. (new.0, at_object (chunk_key id i) (inr (i, refl, index, changed_seen op s.object.body i ∙ new.1)))))
+        (λ i index new. (new.0, at_object (chunk_key id i) (inr (i, refl, index, changed_unmarked op s.object.body i ∙ new.1)))))
 
   abbrev Links : {E : Type 0} → Result Reply E → List ℕ → Type 0
   Links r key = IsDone r × (key ≡ object_key id)

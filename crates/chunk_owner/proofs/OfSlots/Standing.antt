@@ -14,7 +14,7 @@ use Rattle.object_acts.specs.declared.objects.Object.{Object}
 use Rattle.flush_journal.specs.Records.{Held}
 use Rattle.chunk_owner.specs.declared.slots.slot.Slot.{Slot}
 use Rattle.chunk_owner.specs.Slots.Marking.{AddsMarks, IsToDrop, IsToForget}
-use Rattle.chunk_owner.specs.Slots.Slots.{AreOfKind, HasSameIds, IsMarked, IsNextHeld, Says, Slots, object_of, objects_of, standing, with_standing}
+use Rattle.chunk_owner.specs.Slots.Slots.{AreOfKind, HasSameIds, IsMarked, IsNextObject, Says, Slots, object_of, objects_of, standing, with_standing}
 use Rattle.containers.proofs.Passing.{by_bool, contrary, fewer_there, found_find}
 use Rattle.chunk_owner.proofs.OfSlots.LaneCuts.{by_place, itself_not, weaker_behind}
 use Rattle.containers.proofs.Plain.{halves}
@@ -70,14 +70,14 @@ module _ (m : Slots) (after at : Option Id) (p : IsPassed m after at) where
     no_object None e = refl
     no_object (Some x) e = contrary true (Some x ≡ None) refl e
 
-  pub passed_found : (id : Id) → IsNext m at (Some id) → is_some (object_of (get m id)) ≡ true → IsNextHeld m after (Some id)
+  pub passed_found : (id : Id) → IsNext m at (Some id) → is_some (object_of (get m id)) ≡ true → IsNextObject m after (Some id)
   passed_found id next there = (
     p.behind id next.0,
     subst (λ (o : Option Object). IsSome o) (sym (get-objects_of m id)) there,
     λ q is_so less. get-objects_of m q ∙ by_bool (is_behind id_order at q) (object_of (get m q) ≡ None) (λ b. ap object_of (next.2 q b less)) (λ b. p.none q is_so b),
   )
 
-  pub passed_all : IsNext m at None → IsNextHeld m after None
+  pub passed_all : IsNext m at None → IsNextObject m after None
   passed_all next q is_so = get-objects_of m q ∙ by_bool (is_behind id_order at q) (object_of (get m q) ≡ None) (λ b. ap object_of (next q b)) (λ b. p.none q is_so b)
 
 -- ---- fewer ids are left

@@ -64,8 +64,8 @@ record Alike (a b : Object) : Type 0 where
   entry : entry_of b ≡ entry_of a
   kind : kind_of_body b.body ≡ kind_of_body a.body
 
-seen_alike : (a b : Object) → unmarked b ≡ unmarked a → Alike a b
-seen_alike a b same = record {
+unmarked_alike : (a b : Object) → unmarked b ≡ unmarked a → Alike a b
+unmarked_alike a b same = record {
   entry = sym (entry_unmarked b) ∙ ap entry_of same ∙ entry_unmarked a;
   kind = sym (kind-unmarked b.body) ∙ ap (λ (o : Object). kind_of_body o.body) same ∙ kind-unmarked a.body;
 }
@@ -141,7 +141,7 @@ either_false false b P e f g = f refl
 
 told_after : (f : Object → Reply × Object) (o new : Object) (reply : Reply) → ((refusal : Refusal) → (f (unmarked o)).0 ≡ Refused refusal → (f (unmarked o)).1 ≡ unmarked o)
     → reply ≡ (f (unmarked o)).0 → unmarked new ≡ (f (unmarked o)).1 → was_done reply ≡ false → Alike o new
-told_after f o new reply stays is left refused = refused_by reply (Alike o new) refused (λ refusal e. seen_alike o new (left ∙ stays refusal (sym is ∙ e)))
+told_after f o new reply stays is left refused = refused_by reply (Alike o new) refused (λ refusal e. unmarked_alike o new (left ∙ stays refusal (sym is ∙ e)))
 
 -- ---- what records say of the slot
 
@@ -161,7 +161,7 @@ said_by_mark false s new m id held is live keeps alike said =
 -- memory ran out
 pub unchanged_said : (s : Slot) (new : Object) (id : Id) (held : Held) → s.mark ≢ Dropped → KeepsTrack s.object.body new.body → unmarked new ≡ unmarked s.object
     → Says (Some s) id held → Says (Some (record { object = new; mark = s.mark })) id held
-unchanged_said s new id held live keeps same said = said_by_mark false s new s.mark id held refl live keeps (λ e. seen_alike s.object new same) said
+unchanged_said s new id held live keeps same said = said_by_mark false s new s.mark id held refl live keeps (λ e. unmarked_alike s.object new same) said
 
 pub change_said : (op : Op) (s : Slot) (new : Object) (reply : Reply) (m : Mark) (id : Id) (held : Held)
     → ((o : Op) (x : Object) (refusal : Refusal) → (change_of o (unmarked x)).0 ≡ Refused refusal → (change_of o (unmarked x)).1 ≡ unmarked x)

@@ -54,8 +54,8 @@ abbrev pub objects_of : Slots → FinMap id_order Object
 objects_of slots = from_entries (standing (entries slots))
 
 -- the least id behind another that has an object; none where no later one has
-abbrev pub IsNextHeld : Slots → Option Id → Option Id → Type 0
-IsNextHeld slots after next = IsNext (objects_of slots) after next
+abbrev pub IsNextObject : Slots → Option Id → Option Id → Type 0
+IsNextObject slots after next = IsNext (objects_of slots) after next
 
 -- ---- what records say
 

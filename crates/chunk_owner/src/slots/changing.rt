@@ -100,7 +100,7 @@ pub fn change_at(
 ) -> Result<Reply, AllocError>
     requires changes { changes_object op.now ≡ true }
     requires sound { IsSoundOp op.now }
-    requires held { is_some (object_of (get slots.old id.now)) ≡ true }
+    requires there { is_some (object_of (get slots.old id.now)) ≡ true }
     requires kinds { AreOfKind slots.old }
     ensures acts { ChangesAt id.now (change_of op.now) (objects_of slots.old) result
         (objects_of slots.new) }
@@ -130,7 +130,7 @@ pub fn link_at(
     fresh: ObjectId,
 ) -> Result<Reply, AllocError>
     requires title { IsGoodTitle title.now }
-    requires held { is_some (object_of (get slots.old id.now)) ≡ true }
+    requires there { is_some (object_of (get slots.old id.now)) ≡ true }
     requires kinds { AreOfKind slots.old }
     ensures acts { ChangesAt id.now
         (λ o. on_links id.now (link_put title.now (Hard fresh)) o.attributes o.body)

@@ -18,7 +18,7 @@ pub record IsNext (runs rest : List Run) (x : Run) (n : ℕ) : Type 0 where
 pub next_run : (runs rest : List Run) (x : Run) (n : ℕ) → drop n runs ≡ x ∷ rest → IsNext runs rest x n
 next_run runs rest x n e =
     let there : n < length runs = omega (arith, length-drop n runs, ap length e) in
-    let cut : run_at runs n ∷ drop (n + 1) runs ≡ x ∷ rest = sym (drop_more runs n _ there) ∙ e in
+    let opened : run_at runs n ∷ drop (n + 1) runs ≡ x ∷ rest = sym (drop_more runs n _ there) ∙ e in
     record { there = there; is = cc; left = cc }
 
 pub moved_first : (to at : Run → Strided) (runs : List Run) (size : ℕ) (from old : List ℕ) → AreMovedTo to at 0 runs size from old old

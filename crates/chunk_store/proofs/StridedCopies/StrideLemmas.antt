@@ -11,8 +11,8 @@ use Rattle.chunk_store.specs.declared.strided_copies.copies.Strided.{Strided}
 -- ---- elements that follow one another
 
 -- one of `n` elements from the number `a` on
-pub piece_of_cut : (size a n i : ℕ) (bs : List ℕ) → i < n → piece_at size i (pieces_at size a n bs) ≡ piece_at size (a + i) bs
-piece_of_cut size a n i bs h =
+pub piece_of_subslice : (size a n i : ℕ) (bs : List ℕ) → i < n → piece_at size i (pieces_at size a n bs) ≡ piece_at size (a + i) bs
+piece_of_subslice size a n i bs h =
     let room = mul-le (suc i) size n size (omega (arith, h)) (omega arith) in
     let split : n * size ≡ i * size + (n * size - i * size) = omega (arith, room) in
     let far : a * size + i * size ≡ (a + i) * size = omega arith in
@@ -22,8 +22,8 @@ piece_of_cut size a n i bs h =
     ∙ ap (take size) (drop-drop (i * size) (a * size) bs)
     ∙ ap (λ m. take size (drop m bs)) far
 
-pub length-cut : (size a n : ℕ) (bs : List ℕ) → (a + n) * size ≤ length bs → length (pieces_at size a n bs) ≡ n * size
-length-cut size a n bs h = length-take-le (n * size) (drop (a * size) bs) (omega (arith, length-drop (a * size) bs, h))
+pub length-subslice : (size a n : ℕ) (bs : List ℕ) → (a + n) * size ≤ length bs → length (pieces_at size a n bs) ≡ n * size
+length-subslice size a n bs h = length-take-le (n * size) (drop (a * size) bs) (omega (arith, length-drop (a * size) bs, h))
 
 pub fit_together : (s : Strided) (many size bytes : ℕ) → s.stride ≡ 1 → 0 < many → Fit s many size bytes → (s.first + many) * size ≤ bytes
 fit_together s many size bytes e some fit =
@@ -39,8 +39,8 @@ pub together_copied : (to at : Strided) (many size : ℕ) (from old : List ℕ) 
 together_copied to at many size from old e f inside room i h =
     let put = with_pieces size to.first (pieces_at size at.first many from) old in
     ap (λ n. piece_at size n put) (next_one to i e)
-    ∙ replaced_piece size to.first many i (pieces_at size at.first many from) old (length-cut size at.first many from inside) (omega (arith, room)) h
-    ∙ piece_of_cut size at.first many i from h
+    ∙ replaced_piece size to.first many i (pieces_at size at.first many from) old (length-subslice size at.first many from inside) (omega (arith, room)) h
+    ∙ piece_of_subslice size at.first many i from h
     ∙ ap (λ n. piece_at size n from) (sym (next_one at i f))
 
 beside : (j k n : ℕ) → ((i : ℕ) → i < n → j ≡ k + i → ⊥) → (j < k) ⊎ (k + n ≤ j)
@@ -69,14 +69,14 @@ apart s j i h k e = absurd (omega (arith, e, mul-le (suc j) s.stride i s.stride 
 pub put_copied : (to at : Strided) (i size : ℕ) (from old xs : List ℕ) → 1 ≤ to.stride → AreCopied to at i size from old → xs ≡ pieces_at size (nth at i) 1 from
     → (nth at i + 1) * size ≤ length from → (nth to i + 1) * size ≤ length old → AreCopied to at (i + 1) size from (with_pieces size (nth to i) xs old)
 put_copied to at i size from old xs h done e inside room j less =
-    let len : length xs ≡ 1 * size = ap length e ∙ length-cut size (nth at i) 1 from inside in
+    let len : length xs ≡ 1 * size = ap length e ∙ length-subslice size (nth at i) 1 from inside in
     let put = with_pieces size (nth to i) xs old in
     elim (cases_lt j i) [
       | inl low ↦ kept_piece size (nth to i) 1 (nth to j) xs old len (omega (arith, room)) (beside (nth to j) (nth to i) 1 (λ k few same. apart to j i h low (same ∙ omega (arith, few)))) ∙ done j low
       | inr high ↦
           let same : j ≡ i = omega (arith, less) in
           let here : piece_at size (nth to i + 0) put ≡ piece_at size 0 xs = replaced_piece size (nth to i) 1 0 xs old len (omega (arith, room)) (omega arith) in
-          let there : piece_at size 0 (pieces_at size (nth at i) 1 from) ≡ piece_at size (nth at i + 0) from = piece_of_cut size (nth at i) 1 0 from (omega arith) in
+          let there : piece_at size 0 (pieces_at size (nth at i) 1 from) ≡ piece_at size (nth at i + 0) from = piece_of_subslice size (nth at i) 1 0 from (omega arith) in
           let to_none : nth to i ≡ nth to i + 0 = omega arith in
           let at_none : nth at i + 0 ≡ nth at i = omega arith in
           ap (λ n. piece_at size (nth to n) put) same ∙ ap (λ n. piece_at size n put) to_none ∙ here

@@ -25,7 +25,7 @@ pub fn copy_strided(out: &mut [u8], to: Strided, from: &[u8], at: Strided, many:
     ensures len { length out.new ≡ length out.old }
 {
     if many > 1 && to.stride == 1 && at.stride == 1 {
-        put(out, to.first, cut(from, at.first, many, size), size);
+        put(out, to.first, subslice(from, at.first, many, size), size);
     } else {
         copy_sized(out, to, from, at, many, size);
     }
@@ -62,14 +62,14 @@ fn copy_each(out: &mut [u8], to: Strided, from: &[u8], at: Strided, many: usize,
     ensures len { length out.new ≡ length out.old }
 {
     for i in 0..many {
-        let element = cut(from, at.first + i * at.stride, 1, size);
+        let element = subslice(from, at.first + i * at.stride, 1, size);
         put(out, to.first + i * to.stride, element, size);
     }
 }
 
 /// The bytes of elements that follow one another.
 #[inline(always)]
-fn cut(bytes: &[u8], first: usize, many: usize, size: usize) -> &[u8]
+fn subslice(bytes: &[u8], first: usize, many: usize, size: usize) -> &[u8]
     requires { (first + many) * size ≤ length bytes.now }
     ensures { result.now ≡ pieces_at size first many bytes.now }
 {

@@ -108,14 +108,14 @@ module _ {K X Y : Type 0} {R : K → K → Ordering} (o : IsTotalOrder R) (key :
   abbrev at_key : K × X → K × Y
   at_key e = (e.0, h e.1)
 
-  abbrev at_held : K × X → K × Y
-  at_held e = (key e.1, h e.1)
+  abbrev at_own_key : K × X → K × Y
+  at_own_key e = (key e.1, h e.1)
 
-  pub keys_held : (es : List (K × X)) → T (is_sorted R es) → ((k : K) (x : X) → find R k es ≡ Some x → key x ≡ k) → map at_key es ≡ map at_held es
-  keys_held [] rising held = refl
-  keys_held (e ∷ es) rising held =
+  pub own_keys : (es : List (K × X)) → T (is_sorted R es) → ((k : K) (x : X) → find R k es ≡ Some x → key x ≡ k) → map at_key es ≡ map at_own_key es
+  own_keys [] rising held = refl
+  own_keys (e ∷ es) rising held =
       let here : key e.1 ≡ e.0 = held e.0 e.1 (ap (λ r. cond (is_eq r) (Some e.1) (find R e.0 es)) (tied_itself o e.0)) in
-      let later = keys_held es (halves _ _ rising).1 (λ k x f. held k x (ap (λ b. cond b (Some e.1) (find R k es)) (apart e.0 k (found_above o e.0 k es x (halves _ _ rising).0 f)) ∙ f)) in
+      let later = own_keys es (halves _ _ rising).1 (λ k x f. held k x (ap (λ b. cond b (Some e.1) (find R k es)) (apart e.0 k (found_above o e.0 k es x (halves _ _ rising).0 f)) ∙ f)) in
       λ i. (sym here i, h e.1) ∷ later i
 
 module _ {K L X Y : Type 0} (bytes : K → List ℕ) (f : List ℕ × X → L × Y) where

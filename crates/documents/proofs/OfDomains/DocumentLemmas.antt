@@ -19,7 +19,7 @@ use Rattle.object_ids.proofs.IdOrders.{same_itself}
 use Rattle.object_acts.specs.Objects.{empty_group, Objects}
 use Rattle.object_acts.specs.declared.objects.Object.{Object}
 use Rattle.object_acts.proofs.OfExact.Floats.{neither}
-use Rattle.documents.specs.Domains.Domains.{held_or_root, object_at}
+use Rattle.documents.specs.Domains.Domains.{object_or_root, object_at}
 use Rattle.documents.specs.Domains.Documents.{collection_tree, is_of, put_each, put_one}
 use Rattle.documents.specs.Domains.Entries.{entry_tree}
 use Rattle.documents.specs.Domains.Laws.{AreInRange, EachAtItsText, HasNoFloats, KeysAreTexts, KeysInOrder, member_at}
@@ -38,7 +38,7 @@ module _ (m : Objects) (h : Home) (k : Kind) where
   in_range : AreInRange m h → (es : List (Id × Object)) → AllByRecursion (λ e. find id_order e.0 (entries m) ≡ Some e.1) es → AllByRecursion (λ e. is_of k h e.0 ≡ true → InRange e.0) es
   in_range r [] within = tt
   in_range r (e ∷ es) within = (
-    (λ is. r.held e.0 e.1 (get-entries m e.0 ∙ within.0) (eqb-true e.0.domain h.number (and_parts (kind_rank e.0.kind == kind_rank k) (e.0.domain == h.number) is).1)),
+    (λ is. r.objects e.0 e.1 (get-entries m e.0 ∙ within.0) (eqb-true e.0.domain h.number (and_parts (kind_rank e.0.kind == kind_rank k) (e.0.domain == h.number) is).1)),
     in_range r es within.1,
   )
 
@@ -64,21 +64,21 @@ module _ (m : Objects) (h : Home) (k : Kind) where
 
   told_at : (id : Id) (o : Option Object)
       → by_found (is_of k h) (entry_tree m h) id o (told (is_of k h) (entry_tree m h) id (h.root, empty_group) None)
-      ≡ option_map (entry_tree m h) (cond (is_of k h id) (cond (id.domain == h.number) (held_or_root h id o) None) None)
+      ≡ option_map (entry_tree m h) (cond (is_of k h id) (cond (id.domain == h.number) (object_or_root h id o) None) None)
   told_at id None =
       ap (λ b. cond (b && is_of k h id) (Some (entry_tree m h empty_group)) None) (ids_alike id h.root)
       ∙ none_at (id_eq id h.root) (kind_rank id.kind == kind_rank k) (id.domain == h.number)
   told_at id (Some o) = some_at o (eq_by_cmp id_order id h.root) (kind_rank id.kind == kind_rank k) (id.domain == h.number)
 
   -- what is held or the root is a member of its collection
-  member_found : (id : Id) (o : Object) → is_of k h id ≡ true → held_or_root h id (get m id) ≡ Some o → member_at m h k id ≡ Some o
+  member_found : (id : Id) (o : Object) → is_of k h id ≡ true → object_or_root h id (get m id) ≡ Some o → member_at m h k id ≡ Some o
   member_found id o is there =
       ap (λ b. cond b (object_at m h id) None) is
-      ∙ ap (λ b. cond b (held_or_root h id (get m id)) None) (and_parts (kind_rank id.kind == kind_rank k) (id.domain == h.number) is).1
+      ∙ ap (λ b. cond b (object_or_root h id (get m id)) None) (and_parts (kind_rank id.kind == kind_rank k) (id.domain == h.number) is).1
       ∙ there
 
   -- the root, as it is held or as an empty group
-  root_found : (o : Option Object) → (x : Object) × (held_or_root h h.root o ≡ Some x)
+  root_found : (o : Option Object) → (x : Object) × (object_or_root h h.root o ≡ Some x)
   root_found None = (empty_group, ap (λ b. cond b (Some empty_group) None) (same_itself h.root))
   root_found (Some x) = (x, refl)
 
@@ -105,14 +105,14 @@ keys_are_texts m h k key d there = at (entries_keys (is_of k h) (entry_tree m h)
   root_at : is_of k h h.root ≡ true → key ≡ text_of_id h.root → IsMember m h k key
   root_at is same = let found = root_found m h k (get m h.root) in (h.root, found.0, same, member_found m h k h.root found.0 is found.1)
 
-  held_at : IsPut (is_of k h) (entry_tree m h) (entries m) key → IsMember m h k key
-  held_at put =
+  put_is_member : IsPut (is_of k h) (entry_tree m h) (entries m) key → IsMember m h k key
+  put_is_member put =
       let found = put_found (is_of k h) (entry_tree m h) (entries m) (entries m) key (all_within (is_of k h) (entry_tree m h) (entries m) (entries_sorted m)) put in
-      (found.0, found.1, found.3, member_found m h k found.0 found.1 found.2 (ap (held_or_root h found.0) (get-entries m found.0 ∙ found.4)))
+      (found.0, found.1, found.3, member_found m h k found.0 found.1 found.2 (ap (object_or_root h found.0) (get-entries m found.0 ∙ found.4)))
 
   at : IsPut (is_of k h) (entry_tree m h) ((h.root, empty_group) ∷ entries m) key ⊎ (get_member key no_members ≡ Some d) → IsMember m h k key
   at (inl (inl own)) = root_at own.0 own.1
-  at (inl (inr put)) = held_at put
+  at (inl (inr put)) = put_is_member put
   at (inr none) = let e : None ≡ Some d = none in absurd (cc)
 
 -- ---- their order

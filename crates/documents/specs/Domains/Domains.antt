@@ -8,13 +8,13 @@ use Rattle.object_acts.specs.declared.objects.Object.{Object}
 use Rattle.documents.specs.declared.domains.home.Home.{Home}
 
 -- a root that isn't held is the empty group
-abbrev pub held_or_root : Home → Id → Option Object → Option Object
-held_or_root h id None = if id_eq id h.root then Some empty_group else None
-held_or_root h id (Some o) = Some o
+abbrev pub object_or_root : Home → Id → Option Object → Option Object
+object_or_root h id None = if id_eq id h.root then Some empty_group else None
+object_or_root h id (Some o) = Some o
 
 -- what a domain has at an id: an object of another domain is none of it
 abbrev pub object_at : Objects → Home → Id → Option Object
-object_at m h id = if id.domain == h.number then held_or_root h id (get m id) else None
+object_at m h id = if id.domain == h.number then object_or_root h id (get m id) else None
 
 -- the domain has an object at an id
 abbrev pub is_there : Objects → Home → Id → Bool

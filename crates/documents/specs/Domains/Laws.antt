@@ -19,7 +19,7 @@ use Rattle.object_acts.specs.Objects.{Objects}
 -- each id of the domain is one that an `ObjectId` can be
 pub record AreInRange (m : Objects) (h : Home) : Type 0 where
   pub root : InRange h.root
-  pub held : (id : Id) (o : Object) → get m id ≡ Some o → id.domain ≡ h.number → InRange id
+  pub objects : (id : Id) (o : Object) → get m id ≡ Some o → id.domain ≡ h.number → InRange id
 
 -- what the collection of a kind has at an id: the domain's object there, where it is of this kind
 abbrev pub member_at : Objects → Home → Kind → Id → Option Object

@@ -13,6 +13,6 @@ pub record ReadsAs (text : List ℕ) (tree : Data) : Type 0 where
 
 -- these are the document and its compact text, which is read as the document
 pub record IsPrinted (tree : Data) (p : Printed) : Type 0 where
-  pub seen : view p.tree ≡ tree
+  pub tree_is : view p.tree ≡ tree
   pub told : string_bytes p.text ≡ compact_text tree
   pub reads : ReadsAs (string_bytes p.text) tree

@@ -85,13 +85,13 @@ fn put_objects<S: ObjectStore>(
 {
     let mut last: Option<ObjectId> = None;
     while let Some(id) = store.next_id(last.as_ref()) {
-        put_held(alloc, store, home, kind, &id, members)?;
+        put_at(alloc, store, home, kind, &id, members)?;
         last = Some(id);
     }
     Ok(())
 }
 
-fn put_held<S: ObjectStore>(
+fn put_at<S: ObjectStore>(
     alloc: Global,
     store: &S,
     home: &Home,

@@ -166,8 +166,8 @@ module _ {D W : Type 0} {met : Ghosts D} (tells : Held → W → Type 0) (old ne
     (idle : pending_of old ≡ None)
     (cut : (m : Held) → said (put_all building m) → says (put_all built m)) where
   -- memory ran out on the way
-  pub cut_short : {T : Type 0} → Keeps {T = T} tells old old building built said says now (Err NoMemory)
-  cut_short = record {
+  pub cut_failed : {T : Type 0} → Keeps {T = T} tells old old building built said says now (Err NoMemory)
+  cut_failed = record {
     backed = λ honest ws backed. more_worlds tells old built says ws now (recut tells old building said ws built says cut backed);
     crash = λ honest ws backed. still tells old building said (now ∷ ws) (λ c left. only_now (disk_of old) c honest left) (more_worlds tells old building said ws now backed);
     idle = tt;

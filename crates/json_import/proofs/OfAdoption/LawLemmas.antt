@@ -27,7 +27,7 @@ use Rattle.documents.specs.declared.domains.home.Home.{Home}
 use Rattle.json_export.specs.Documents.{doc, home_at, home_of}
 use Rattle.documents.specs.Reader.Loads.{Loads, LoadsText}
 use Rattle.documents.specs.declared.reader.loaded.Loaded.{Loaded}
-use Rattle.json_import.specs.RoundTrips.Held.{AreSound, DomainsAreLoaded, IsSoundAt, TextsAreLoaded, held_in}
+use Rattle.json_import.specs.RoundTrips.Loaded.{AreSound, DomainsAreLoaded, IsSoundAt, TextsAreLoaded, loaded_from}
 use Rattle.json_import.specs.RoundTrips.Renamed.{renamed}
 use Rattle.json_import.specs.Adoption.Adopted.{root_at}
 use Rattle.json_import.specs.Adoption.Laws.{DomainsAreSound, ExportsAreLoaded, ExportsComeBack, LinesAreLoaded}
@@ -101,7 +101,7 @@ module _ (texts : TextsAreLoaded) where
   module _ (loaded : DomainsAreLoaded) (one : (text : List ℕ) (l m : Loaded) → LoadsText text l → LoadsText text m → l ≡ m) where
     pub come_back : ExportsComeBack
     come_back held run w path h tree told whole there is reads short l d v other loads back =
-        let first = held_in w.objects h in
+        let first = loaded_from w.objects h in
         let same = one (compact_text tree ++ 10 ∷ []) l first loads
         (lines_loaded held run w path h tree (compact_text tree) told whole there is reads short) in
         let document = loaded w.objects h (domains_sound held run w path h told whole there) in

@@ -204,11 +204,11 @@ body_found k body = at (is_utf8 body) refl where
 are_attributes : (m : AttributeMap) → AreNames (with_values content m) → AreAttributes m
 are_attributes m are = record {
   few = let same = len-values nat_list_cmp_total content m in omega (arith, are.few, same);
-  named = λ name a is. are.named name (content a) (seen name a is);
-  sound = λ name a is. are.sound name (content a) (seen name a is);
+  named = λ name a is. are.named name (content a) (content_at name a is);
+  sound = λ name a is. are.sound name (content a) (content_at name a is);
 } where
-  seen : (name : List ℕ) (a : Attribute) → get m name ≡ Some a → get (with_values content m) name ≡ Some (content a)
-  seen name a is = get-values nat_list_cmp_total content m name ∙ ap (option_map content) is
+  content_at : (name : List ℕ) (a : Attribute) → get m name ≡ Some a → get (with_values content m) name ≡ Some (content a)
+  content_at name a is = get-values nat_list_cmp_total content m name ∙ ap (option_map content) is
 
 pub attributes_told : (o : Object) (found : Option (List ℕ)) → IsRecordOf (Some o) found → AreAttributes o.attributes
 attributes_told o None is = absurd (none-some _ is)

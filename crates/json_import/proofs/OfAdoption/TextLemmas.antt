@@ -29,8 +29,8 @@ use Rattle.json_import.proofs.OfAdoption.LineLemmas.{tokens_of_value}
 pub one_byte : (c : ℕ) → c < 128 → IsUtf8 (c ∷ [])
 one_byte c small = subst IsUtf8 (encode_ascii c small) (IsUtf8-encode c (low_scalar c (omega (arith, small))))
 
-cut : (front xs : List ℕ) (x : ℕ) → x < 128 → IsUtf8 (front ++ x ∷ xs) → IsUtf8 front × IsUtf8 xs
-cut front xs x small u =
+utf8_parts : (front xs : List ℕ) (x : ℕ) → x < 128 → IsUtf8 (front ++ x ∷ xs) → IsUtf8 front × IsUtf8 xs
+utf8_parts front xs x small u =
     let whole : List ℕ = front ++ x ∷ xs in
     let long = length-append front (x ∷ xs) in
     let here : get_or whole (length front) 0 ≡ x = get_or-append_seam front x xs 0 in
@@ -42,7 +42,7 @@ cut front xs x small u =
     )
 
 tail : (x : ℕ) (xs : List ℕ) → x < 128 → IsUtf8 (x ∷ xs) → IsUtf8 xs
-tail x xs small u = (cut [] xs x small u).1
+tail x xs small u = (utf8_parts [] xs x small u).1
 
 -- ---- the content of a string
 
@@ -190,8 +190,8 @@ content_utf8 : (w : Within) (xs front : List ℕ) → Starts w front xs → Ends
 unfolding content
 content_utf8 plain [] front u = tt
 content_utf8 plain (x ∷ xs) front u =
-    test front (x == 34) _ _ (λ e. subst IsUtf8 (sym (append-nil front)) (cut front xs x (omega (arith, eqb-true x 34 e)) u).0)
-    (λ _. test front (x == 92) _ _ (λ e. content_utf8 after_backslash xs front (cut front xs x (omega (arith, eqb-true x 92 e)) u))
+    test front (x == 34) _ _ (λ e. subst IsUtf8 (sym (append-nil front)) (utf8_parts front xs x (omega (arith, eqb-true x 34 e)) u).0)
+    (λ _. test front (x == 92) _ _ (λ e. content_utf8 after_backslash xs front (utf8_parts front xs x (omega (arith, eqb-true x 92 e)) u))
     (λ _. test front (nat_lt x 32) None _ (λ _. tt) (λ _. more front (x ∷ []) _ (content_utf8 plain xs (front ++ x ∷ []) (subst IsUtf8 (sym (append_assoc front (x ∷ []) xs)) u)))))
 content_utf8 after_backslash [] front u = tt
 content_utf8 after_backslash (x ∷ xs) front u =
@@ -308,7 +308,7 @@ lex_text : (xs front : List ℕ) (m : Mode) → IsUtf8 (front ++ xs) → AreText
 unfolding lex
 lex_text [] front m u = tt
 lex_text (x ∷ xs) front m u =
-    bytes_text m (class x) x xs (λ n. lex n xs) (λ is. (cut front xs x (omega (arith, quote_is x is)) u).1)
+    bytes_text m (class x) x xs (λ n. lex n xs) (λ is. (utf8_parts front xs x (omega (arith, quote_is x is)) u).1)
     (λ n. lex_text xs (front ++ x ∷ []) n (subst IsUtf8 (sym (append_assoc front (x ∷ []) xs)) u))
 
 abbrev AreTextTokens : List Token → Type 0

@@ -62,12 +62,12 @@ module _ {X : Type 0} (kind_of : X → Kind) where
       )
 
   -- what is held then was held before, or is a member at the id of its text
-  pub held_told : (P : List ℕ → X → Type 0) (es : List (List ℕ × X)) (n : Naming) (m : FinMap id_order X) (id : Id) (x : X) → AreOnce es
+  pub there_told : (P : List ℕ → X → Type 0) (es : List (List ℕ × X)) (n : Naming) (m : FinMap id_order X) (id : Id) (x : X) → AreOnce es
       → AllByRecursion (λ e. P e.0 e.1) es
       → get (with_each m (numbered_by kind_of n.last (map (λ e. e.1) es))) id ≡ Some x
       → (get m id ≡ Some x) ⊎ ((text : List ℕ) × (get (name_all kind_of n es).names text ≡ Some id) × P text x)
-  held_told P [] n m id x once all is = inl is
-  held_told P (e ∷ es) n m id x once all is = at (held_told P es next (insert m own e.1) id x once.1 all.1 is) where
+  there_told P [] n m id x once all is = inl is
+  there_told P (e ∷ es) n m id x once all is = at (there_told P es next (insert m own e.1) id x once.1 all.1 is) where
     next : Naming
     next = name_next (kind_of e.1) n e.0
 
@@ -87,27 +87,27 @@ module _ {X : Type 0} (kind_of : X → Kind) where
     at (inr later) = inr later
 
   -- an id of the domain at which a member is held
-  abbrev pub IsHeldIn : ℕ → FinMap id_order X → Id → Type 0
-  IsHeldIn number m id = (id.domain ≡ number) × IsSome (get m id)
+  abbrev pub IsThereIn : ℕ → FinMap id_order X → Id → Type 0
+  IsThereIn number m id = (id.domain ≡ number) × IsSome (get m id)
 
   -- a text stands for what it stood for, or for such an id
   pub name_told : (es : List (List ℕ × X)) (n : Naming) (m : FinMap id_order X) (text : List ℕ) (id : Id)
       → get (name_all kind_of n es).names text ≡ Some id
-      → (get n.names text ≡ Some id) ⊎ IsHeldIn n.last.domain (with_each m (numbered_by kind_of n.last (map (λ e. e.1) es))) id
+      → (get n.names text ≡ Some id) ⊎ IsThereIn n.last.domain (with_each m (numbered_by kind_of n.last (map (λ e. e.1) es))) id
   name_told [] n m text id is = inl is
   name_told (e ∷ es) n m text id is = at (name_told es (name_next (kind_of e.1) n e.0) (insert m own e.1) text id is) where
     own : Id
     own = behind n.last (kind_of e.1)
 
     here : (b : Bool) → eq_by_cmp text_order text e.0 ≡ b → cond b (Some own) (get n.names text) ≡ Some id
-        → (get n.names text ≡ Some id) ⊎ IsHeldIn n.last.domain (with_each (insert m own e.1) (numbered_by kind_of own (map (λ d. d.1) es))) id
+        → (get n.names text ≡ Some id) ⊎ IsThereIn n.last.domain (with_each (insert m own e.1) (numbered_by kind_of own (map (λ d. d.1) es))) id
     here true tie is = inr (
-        subst (IsHeldIn n.last.domain (with_each (insert m own e.1) (numbered_by kind_of own (map (λ d. d.1) es)))) (same_Some own id is)
+        subst (IsThereIn n.last.domain (with_each (insert m own e.1) (numbered_by kind_of own (map (λ d. d.1) es)))) (same_Some own id is)
         (refl, ap is_some (object_kept kind_of own (map (λ d. d.1) es) own (insert m own e.1) (omega arith) ∙ id_put m own e.1)))
     here false tie is = inl is
 
-    at : (get (insert n.names e.0 own) text ≡ Some id) ⊎ IsHeldIn n.last.domain (with_each (insert m own e.1) (numbered_by kind_of own (map (λ d. d.1) es))) id
-        → (get n.names text ≡ Some id) ⊎ IsHeldIn n.last.domain (with_each (insert m own e.1) (numbered_by kind_of own (map (λ d. d.1) es))) id
+    at : (get (insert n.names e.0 own) text ≡ Some id) ⊎ IsThereIn n.last.domain (with_each (insert m own e.1) (numbered_by kind_of own (map (λ d. d.1) es))) id
+        → (get n.names text ≡ Some id) ⊎ IsThereIn n.last.domain (with_each (insert m own e.1) (numbered_by kind_of own (map (λ d. d.1) es))) id
     at (inl before) = here (eq_by_cmp text_order text e.0) refl (sym (get-insert nat_list_cmp_total n.names e.0 own text) ∙ before)
     at (inr later) = inr later
 

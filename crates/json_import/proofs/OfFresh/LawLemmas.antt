@@ -27,7 +27,7 @@ use Rattle.json_import.specs.Fresh.Names.{Names, behind, id_in, name_each, named
 use Rattle.json_import.specs.Fresh.Renamed.{dataset_object, datatype_object, group_object, kind_of, objects_put, other_count, other_objects, root_object}
 use Rattle.json_import.specs.declared.fresh.names.Naming.{Naming}
 use Rattle.json_import.proofs.OfFresh.FreshLemmas.{rising as rising_serials}
-use Rattle.json_import.proofs.OfFresh.FreshLemmas.{IsBefore, IsHeldIn, IsNamedBehind, IsText, all_behind, apart, before_behind, before_front, before_sorted, before_texts, entry_text, held_told, name_told, serials_follow, text_above, text_behind, text_front, text_named}
+use Rattle.json_import.proofs.OfFresh.FreshLemmas.{IsBefore, IsThereIn, IsNamedBehind, IsText, all_behind, apart, before_behind, before_front, before_sorted, before_texts, entry_text, there_told, name_told, serials_follow, text_above, text_behind, text_front, text_named}
 use Rattle.json_import.proofs.OfFresh.ObjectLemmas.{under_count}
 use Rattle.json_import.proofs.OfFresh.StandingLemmas.{AreOnce, IsAbsent, Stands, absent_joined, all_stand, each_of, id_other, id_put, name_all, name_joined, name_kept, name_kind, object_kept, once_entries, once_joined, text_put}
 use Rattle.containers.proofs.Plain.{some_value}
@@ -40,17 +40,17 @@ module _ {X Y : Type 0} where
   some_of h None y e = let both : None ≡ Some y = e in absurd (cc)
   some_of h (Some x) y e = refl
 
-  seen_some : (h : X → Y) (m : FinMap text_order X) (k : List ℕ) (y : Y) → get (with_values h m) k ≡ Some y → IsSome (get m k)
-  seen_some h m k y e = some_of h (get m k) y (sym (get-values nat_list_cmp_total h m k) ∙ e)
+  mapped_some : (h : X → Y) (m : FinMap text_order X) (k : List ℕ) (y : Y) → get (with_values h m) k ≡ Some y → IsSome (get m k)
+  mapped_some h m k y e = some_of h (get m k) y (sym (get-values nat_list_cmp_total h m k) ∙ e)
 
-  seen_none : (h : X → Y) (m : FinMap text_order X) (k : List ℕ) → get m k ≡ None → get (with_values h m) k ≡ None
-  seen_none h m k none = get-values nat_list_cmp_total h m k ∙ ap (option_map h) none
+  mapped_none : (h : X → Y) (m : FinMap text_order X) (k : List ℕ) → get m k ≡ None → get (with_values h m) k ≡ None
+  mapped_none h m k none = get-values nat_list_cmp_total h m k ∙ ap (option_map h) none
 
-  seen_at : (h : X → Y) (m : FinMap text_order X) (k : List ℕ) (x : X) → get m k ≡ Some x → get (with_values h m) k ≡ Some (h x)
-  seen_at h m k x is = get-values nat_list_cmp_total h m k ∙ ap (option_map h) is
+  mapped_at : (h : X → Y) (m : FinMap text_order X) (k : List ℕ) (x : X) → get m k ≡ Some x → get (with_values h m) k ≡ Some (h x)
+  mapped_at h m k x is = get-values nat_list_cmp_total h m k ∙ ap (option_map h) is
 
-  seen_from : (h : X → Y) (m : FinMap text_order X) (k : List ℕ) (y : Y) → get (with_values h m) k ≡ Some y → (x : X) × (get m k ≡ Some x) × (y ≡ h x)
-  seen_from h m k y e = at (get m k) refl (sym (get-values nat_list_cmp_total h m k) ∙ e) where
+  mapped_from : (h : X → Y) (m : FinMap text_order X) (k : List ℕ) (y : Y) → get (with_values h m) k ≡ Some y → (x : X) × (get m k ≡ Some x) × (y ≡ h x)
+  mapped_from h m k y e = at (get m k) refl (sym (get-values nat_list_cmp_total h m k) ∙ e) where
     at : (found : Option X) → get m k ≡ found → option_map h found ≡ Some y → (x : X) × (get m k ≡ Some x) × (y ≡ h x)
     at None is none = let both : None ≡ Some y = none in absurd (cc)
     at (Some x) is some = (x, is, sym (same_Some (h x) y some))
@@ -59,11 +59,11 @@ module _ {X Y : Type 0} where
   values_listed h [] = refl
   values_listed h (e ∷ es) = ap (λ ys. h e.1 ∷ ys) (values_listed h es)
 
-  keys_seen : (h : X → Y) (m : FinMap text_order X) → map (λ e. e.0) (entries (with_values h m)) ≡ keys m
-  keys_seen h m = ap (map (λ (e : List ℕ × Y). e.0)) (entries-values nat_list_cmp_total h m) ∙ map-map (λ (e : List ℕ × Y). e.0) (λ (e : List ℕ × X). (e.0, h e.1)) (entries m)
+  mapped_keys : (h : X → Y) (m : FinMap text_order X) → map (λ e. e.0) (entries (with_values h m)) ≡ keys m
+  mapped_keys h m = ap (map (λ (e : List ℕ × Y). e.0)) (entries-values nat_list_cmp_total h m) ∙ map-map (λ (e : List ℕ × Y). e.0) (λ (e : List ℕ × X). (e.0, h e.1)) (entries m)
 
-  values_seen : (h : X → Y) (m : FinMap text_order X) → map (λ e. e.1) (entries (with_values h m)) ≡ map h (values m)
-  values_seen h m = ap (map (λ (e : List ℕ × Y). e.1)) (entries-values nat_list_cmp_total h m) ∙ values_listed h (entries m)
+  mapped_values : (h : X → Y) (m : FinMap text_order X) → map (λ e. e.1) (entries (with_values h m)) ≡ map h (values m)
+  mapped_values h m = ap (map (λ (e : List ℕ × Y). e.1)) (entries-values nat_list_cmp_total h m) ∙ values_listed h (entries m)
 
 module _ {X : Type 0} where
   not_there : (m : FinMap text_order X) (k q : List ℕ) (x : X) → get m k ≡ None → get m q ≡ Some x → k ≡ q → ⊥
@@ -120,13 +120,13 @@ module _ (l : Loaded) (root : Id) (m : FinMap id_order Object) where
   objects_listed =
       map-append (λ (e : List ℕ × Object). e.1) (entries groups) (entries datasets ++ entries datatypes)
       ∙ ap (λ os. map (λ (e : List ℕ × Object). e.1) (entries groups) ++ os) (map-append (λ (e : List ℕ × Object). e.1) (entries datasets) (entries datatypes))
-      ∙ (λ i. values_seen (group_object names root) (others l) i ++ (values_seen dataset_object l.datasets i ++ values_seen datatype_object l.datatypes i))
+      ∙ (λ i. mapped_values (group_object names root) (others l) i ++ (mapped_values dataset_object l.datasets i ++ mapped_values datatype_object l.datatypes i))
 
   texts_listed : map (λ e. e.0) listed ≡ other_texts l
   texts_listed =
       map-append (λ (e : List ℕ × Object). e.0) (entries groups) (entries datasets ++ entries datatypes)
       ∙ ap (λ ts. map (λ (e : List ℕ × Object). e.0) (entries groups) ++ ts) (map-append (λ (e : List ℕ × Object). e.0) (entries datasets) (entries datatypes))
-      ∙ (λ i. keys_seen (group_object names root) (others l) i ++ (keys_seen dataset_object l.datasets i ++ keys_seen datatype_object l.datatypes i))
+      ∙ (λ i. mapped_keys (group_object names root) (others l) i ++ (mapped_keys dataset_object l.datasets i ++ mapped_keys datatype_object l.datatypes i))
 
   -- ---- each text stands once
 
@@ -138,24 +138,24 @@ module _ (l : Loaded) (root : Id) (m : FinMap id_order Object) where
     group_there : (k : List ℕ) (o : Object) → get groups k ≡ Some o → IsSome (get l.groups k)
     group_there k o is =
         other_there k (eq_by_cmp text_order k l.root)
-        (subst IsSome (get-remove nat_list_cmp_total l.groups l.root k) (seen_some (group_object names root) (others l) k o is))
+        (subst IsSome (get-remove nat_list_cmp_total l.groups l.root k) (mapped_some (group_object names root) (others l) k o is))
 
     no_root : get groups l.root ≡ None
     no_root =
-        seen_none (group_object names root) (others l) l.root
+        mapped_none (group_object names root) (others l) l.root
         (get-remove nat_list_cmp_total l.groups l.root l.root ∙ ap (λ r. cond (is_eq r) None (get l.groups l.root)) (tied_itself nat_list_cmp_total l.root))
 
     outside : (k : List ℕ) → IsSome (get l.groups k) → IsAbsent k (entries datasets ++ entries datatypes)
     outside k there = absent_joined k (entries datasets) (entries datatypes)
-        (absent_of datasets k (seen_none dataset_object l.datasets k (one.datasets k there)))
-        (absent_of datatypes k (seen_none datatype_object l.datatypes k (one.datatypes k there)))
+        (absent_of datasets k (mapped_none dataset_object l.datasets k (one.datasets k there)))
+        (absent_of datatypes k (mapped_none datatype_object l.datatypes k (one.datatypes k there)))
 
     listed_once : AreOnce listed
     listed_once = once_joined (entries groups) (entries datasets ++ entries datatypes)
         (once_entries groups)
         (once_joined (entries datasets) (entries datatypes) (once_entries datasets) (once_entries datatypes)
         (each_entry (λ k o. IsAbsent k (entries datatypes)) datasets (λ k o is.
-        absent_of datatypes k (seen_none datatype_object l.datatypes k (one.types k (seen_some dataset_object l.datasets k o is))))))
+        absent_of datatypes k (mapped_none datatype_object l.datatypes k (one.types k (mapped_some dataset_object l.datasets k o is))))))
         (each_entry (λ k o. IsAbsent k (entries datasets ++ entries datatypes)) groups (λ k o is. outside k (group_there k o is)))
 
     root_absent : IsAbsent l.root listed
@@ -207,7 +207,7 @@ module _ (l : Loaded) (root : Id) (m : FinMap id_order Object) where
         subst (λ t. At t (group_object names root g)) (sym same) (root_at g (ap (get l.groups) (sym same) ∙ is))
     group_at text g false e is =
         each_of At groups at_parts.0 text (group_object names root g)
-        (seen_at (group_object names root) (others l) text g
+        (mapped_at (group_object names root) (others l) text g
         (get-remove nat_list_cmp_total l.groups l.root text ∙ ap (λ b. cond b None (get l.groups text)) e ∙ is))
 
     -- ---- which ids they have
@@ -218,11 +218,11 @@ module _ (l : Loaded) (root : Id) (m : FinMap id_order Object) where
     listed_have : AllByRecursion has_own listed
     listed_have = all_append has_own (entries groups) (entries datasets ++ entries datatypes)
         (each_entry (HasObject l root) groups (λ k o is.
-        let seen = seen_from (group_object names root) (others l) k o is in
-        inl (seen.0, other_is l.groups l.root k seen.0 seen.1, seen.2)))
+        let source = mapped_from (group_object names root) (others l) k o is in
+        inl (source.0, other_is l.groups l.root k source.0 source.1, source.2)))
         (all_append has_own (entries datasets) (entries datatypes)
-        (each_entry (HasObject l root) datasets (λ k o is. inr (inl (seen_from dataset_object l.datasets k o is))))
-        (each_entry (HasObject l root) datatypes (λ k o is. inr (inr (seen_from datatype_object l.datatypes k o is)))))
+        (each_entry (HasObject l root) datasets (λ k o is. inr (inl (mapped_from dataset_object l.datasets k o is))))
+        (each_entry (HasObject l root) datatypes (λ k o is. inr (inr (mapped_from datatype_object l.datatypes k o is)))))
 
     listed_count : length listed ≡ other_count l
     listed_count =
@@ -268,7 +268,7 @@ module _ (l : Loaded) (root : Id) (m : FinMap id_order Object) where
     other_group text g is = at (eq_by_cmp text_order text l.root) refl where
       at : (b : Bool) → eq_by_cmp text_order text l.root ≡ b → (text ≡ l.root) ⊎ (get groups text ≡ Some (group_object names root g))
       at true e = inl (exact_texts text l.root ((Equal-is (text_order text l.root)).0 e))
-      at false e = inr (seen_at (group_object names root) (others l) text g (get-remove nat_list_cmp_total l.groups l.root text ∙ ap (λ b. cond b None (get l.groups text)) e ∙ is))
+      at false e = inr (mapped_at (group_object names root) (others l) text g (get-remove nat_list_cmp_total l.groups l.root text ∙ ap (λ b. cond b None (get l.groups text)) e ∙ is))
 
     group_fresh : root.kind ≡ kind.Group → (text : List ℕ) (g : Group) → (text ≡ l.root) ⊎ (get groups text ≡ Some (group_object names root g))
         → IsFresh root (other_count l) (kind_of (group_object names root g)) (id_in names root text)
@@ -283,10 +283,10 @@ module _ (l : Loaded) (root : Id) (m : FinMap id_order Object) where
     fresh_at is_group text o (inl h) = subst (FreshAt text) (sym h.2) (group_fresh is_group text h.0 (other_group text h.0 h.1))
     fresh_at is_group text o (inr (inl h)) =
         subst (FreshAt text) (sym h.2)
-        (behind_fresh text (dataset_object h.0) (each_of IsBehindAt datasets rest_named.0 text (dataset_object h.0) (seen_at dataset_object l.datasets text h.0 h.1)))
+        (behind_fresh text (dataset_object h.0) (each_of IsBehindAt datasets rest_named.0 text (dataset_object h.0) (mapped_at dataset_object l.datasets text h.0 h.1)))
     fresh_at is_group text o (inr (inr h)) =
         subst (FreshAt text) (sym h.2)
-        (behind_fresh text (datatype_object h.0) (each_of IsBehindAt datatypes rest_named.1 text (datatype_object h.0) (seen_at datatype_object l.datatypes text h.0 h.1)))
+        (behind_fresh text (datatype_object h.0) (each_of IsBehindAt datatypes rest_named.1 text (datatype_object h.0) (mapped_at datatype_object l.datatypes text h.0 h.1)))
 
     -- ---- what is held
 
@@ -316,35 +316,35 @@ module _ (l : Loaded) (root : Id) (m : FinMap id_order Object) where
     begun_told id o is = root_told (get l.groups l.root) refl id o is
 
     only_these : (id : Id) (o : Object) → get put id ≡ Some o → IsToldBy id o
-    only_these id o is = at (held_told kind_of (HasObject l root) listed start begun id o listed_once listed_have (ap (λ (n : FinMap id_order Object). get n id) put_listed ∙ is)) where
+    only_these id o is = at (there_told kind_of (HasObject l root) listed start begun id o listed_once listed_have (ap (λ (n : FinMap id_order Object). get n id) put_listed ∙ is)) where
       at : (get begun id ≡ Some o) ⊎ ((text : List ℕ) × (get (name_all kind_of start listed).names text ≡ Some id) × HasObject l root text o) → IsToldBy id o
       at (inl before) = begun_told id o before
       at (inr h) =
           let named_so : get names h.0 ≡ Some id = ap (λ (n : Naming). get n.names h.0) (sym named_listed) ∙ h.1 in
           inr (h.0, ap (λ i. unwrap_or i root) named_so, h.2)
 
-    root_held : (found : Option Group) → get l.groups l.root ≡ found → IsSome found → IsSome (get put root)
+    root_has : (found : Option Group) → get l.groups l.root ≡ found → IsSome found → IsSome (get put root)
     unfolding root_at
-    root_held None there some = absurd (let both : false ≡ true = some in cc)
-    root_held (Some g) there some = ap is_some (root_at g there).2
+    root_has None there some = absurd (let both : false ≡ true = some in cc)
+    root_has (Some g) there some = ap is_some (root_at g there).2
 
-    abbrev IsHeld : Id → Type 0
-    IsHeld = IsHeldIn kind_of root.domain put
+    abbrev IsThere : Id → Type 0
+    IsThere = IsThereIn kind_of root.domain put
 
-    root_is_held : IsHeld root
-    root_is_held = (refl, root_held (get l.groups l.root) refl one.root)
+    root_is_there : IsThere root
+    root_is_there = (refl, root_has (get l.groups l.root) refl one.root)
 
-    held_at : (text : List ℕ) (found : Option Id) → get names text ≡ found → IsHeld (unwrap_or found root)
-    held_at text None is = root_is_held
-    held_at text (Some id) is = at (name_told kind_of listed start begun text id (ap (λ (n : Naming). get n.names text) named_listed ∙ is)) where
-      first : (b : Bool) → cond b (Some root) None ≡ Some id → IsHeld id
-      first true e = subst IsHeld (same_Some root id e) root_is_held
+    there_at : (text : List ℕ) (found : Option Id) → get names text ≡ found → IsThere (unwrap_or found root)
+    there_at text None is = root_is_there
+    there_at text (Some id) is = at (name_told kind_of listed start begun text id (ap (λ (n : Naming). get n.names text) named_listed ∙ is)) where
+      first : (b : Bool) → cond b (Some root) None ≡ Some id → IsThere id
+      first true e = subst IsThere (same_Some root id e) root_is_there
       first false e = let both : None ≡ Some id = e in absurd (cc)
 
-      at : (get (insert (empty {X = Id} {R = text_order}) l.root root) text ≡ Some id) ⊎ IsHeldIn kind_of root.domain numbered_by_text id → IsHeld id
+      at : (get (insert (empty {X = Id} {R = text_order}) l.root root) text ≡ Some id) ⊎ IsThereIn kind_of root.domain numbered_by_text id → IsThere id
       at (inl e) = first (eq_by_cmp text_order text l.root)
           (sym (ap (cond (eq_by_cmp text_order text l.root) (Some root)) (get-empty text_order text)) ∙ sym (get-insert nat_list_cmp_total empty l.root root text) ∙ e)
-      at (inr e) = subst (λ (n : FinMap id_order Object). IsHeldIn kind_of root.domain n id) put_listed e
+      at (inr e) = subst (λ (n : FinMap id_order Object). IsThereIn kind_of root.domain n id) put_listed e
 
     -- ---- no two texts stand for one id
 
@@ -355,10 +355,10 @@ module _ (l : Loaded) (root : Id) (m : FinMap id_order Object) where
       at (inr is) = inr (text_front kind_of (entries groups) (entries datasets ++ entries datatypes) text (entry_text kind_of groups text (group_object names root h.0) is))
     has_text text o (inr (inl h)) = inr (
         text_behind kind_of (entries groups) (entries datasets ++ entries datatypes) text
-        (text_front kind_of (entries datasets) (entries datatypes) text (entry_text kind_of datasets text (dataset_object h.0) (seen_at dataset_object l.datasets text h.0 h.1))))
+        (text_front kind_of (entries datasets) (entries datatypes) text (entry_text kind_of datasets text (dataset_object h.0) (mapped_at dataset_object l.datasets text h.0 h.1))))
     has_text text o (inr (inr h)) = inr (
         text_behind kind_of (entries groups) (entries datasets ++ entries datatypes) text
-        (text_behind kind_of (entries datasets) (entries datatypes) text (entry_text kind_of datatypes text (datatype_object h.0) (seen_at datatype_object l.datatypes text h.0 h.1))))
+        (text_behind kind_of (entries datasets) (entries datatypes) text (entry_text kind_of datatypes text (datatype_object h.0) (mapped_at datatype_object l.datatypes text h.0 h.1))))
 
     abbrev id_of_text : List ℕ → Id
     id_of_text text = id_in names root text
@@ -395,22 +395,22 @@ module _ (l : Loaded) (root : Id) (m : FinMap id_order Object) where
         ∙ serials_follow kind_of root listed start listed_once
         ∙ ap (range_with_len (root.serial + 1)) listed_count
 
-    seen_text : {X : Type 0} (h : X → Object) (c : FinMap text_order X) (text : List ℕ) → IsSome (get c text) → IsText kind_of text (entries (with_values h c))
-    seen_text h c text there = let x = some_value (get c text) there in entry_text kind_of (with_values h c) text (h x.0) (seen_at h c text x.0 x.1)
+    mapped_text : {X : Type 0} (h : X → Object) (c : FinMap text_order X) (text : List ℕ) → IsSome (get c text) → IsText kind_of text (entries (with_values h c))
+    mapped_text h c text there = let x = some_value (get c text) there in entry_text kind_of (with_values h c) text (h x.0) (mapped_at h c text x.0 x.1)
 
-    seen_before : {X : Type 0} (h : X → Object) (c : FinMap text_order X) (s t : List ℕ) → IsSome (get c s) → IsSome (get c t) → text_order s t ≡ Less → IsBefore kind_of s t (entries (with_values h c))
-    seen_before h c s t first second below =
-        before_sorted kind_of (entries (with_values h c)) s t (entries_sorted (with_values h c)) (seen_text h c s first) (seen_text h c t second) below
+    mapped_before : {X : Type 0} (h : X → Object) (c : FinMap text_order X) (s t : List ℕ) → IsSome (get c s) → IsSome (get c t) → text_order s t ≡ Less → IsBefore kind_of s t (entries (with_values h c))
+    mapped_before h c s t first second below =
+        before_sorted kind_of (entries (with_values h c)) s t (entries_sorted (with_values h c)) (mapped_text h c s first) (mapped_text h c t second) below
 
     listed_before : (s t : List ℕ) → AreOfOne l s t → text_order s t ≡ Less → IsBefore kind_of s t listed
     listed_before s t (inl h) below =
-        before_front kind_of (entries groups) (entries datasets ++ entries datatypes) s t (seen_before (group_object names root) (others l) s t h.0 h.1 below)
+        before_front kind_of (entries groups) (entries datasets ++ entries datatypes) s t (mapped_before (group_object names root) (others l) s t h.0 h.1 below)
     listed_before s t (inr (inl h)) below =
         before_behind kind_of (entries groups) (entries datasets ++ entries datatypes) s t
-        (before_front kind_of (entries datasets) (entries datatypes) s t (seen_before dataset_object l.datasets s t h.0 h.1 below))
+        (before_front kind_of (entries datasets) (entries datatypes) s t (mapped_before dataset_object l.datasets s t h.0 h.1 below))
     listed_before s t (inr (inr h)) below =
         before_behind kind_of (entries groups) (entries datasets ++ entries datatypes) s t
-        (before_behind kind_of (entries datasets) (entries datatypes) s t (seen_before datatype_object l.datatypes s t h.0 h.1 below))
+        (before_behind kind_of (entries datasets) (entries datatypes) s t (mapped_before datatype_object l.datatypes s t h.0 h.1 below))
 
     serials : (s t : List ℕ) → IsBefore kind_of s t listed → (id_of_text s).serial < (id_of_text t).serial
     serials s t before =
@@ -421,7 +421,7 @@ module _ (l : Loaded) (root : Id) (m : FinMap id_order Object) where
 
     behind_root : (text : List ℕ) → IsSome (get (others l) text) → root.serial < (id_of_text text).serial
     behind_root text there =
-        (text_id text (text_front kind_of (entries groups) (entries datasets ++ entries datatypes) text (seen_text (group_object names root) (others l) text there))).1
+        (text_id text (text_front kind_of (entries groups) (entries datasets ++ entries datatypes) text (mapped_text (group_object names root) (others l) text there))).1
 
 pub serials_run : SerialsRun
 serials_run l root one = serials_behind l root empty one
@@ -441,8 +441,8 @@ ids_distinct l root one s t o p first second same = distinct_ids l root empty on
 pub nothing_else : NothingElseStands
 nothing_else l root m one id o is = only_these l root m one id o is
 
-pub ids_held : IdsHaveObjects
-ids_held l root m one text = held_at l root m one text (get (names_of l root) text) refl
+pub ids_there : IdsHaveObjects
+ids_there l root m one text = there_at l root m one text (get (names_of l root) text) refl
 
 pub root_stands : RootStands
 root_stands l root one = ap (λ i. unwrap_or i root) (root_name l root empty one)
@@ -452,11 +452,11 @@ groups_stand l root m one text g is = stands l root m one text _ (group_at l roo
 
 pub datasets_stand : DatasetsStand
 datasets_stand l root m one text d is =
-    stands l root m one text _ (each_of (At l root m one) (datasets l root m) (at_rest l root m one).0 text (dataset_object d) (seen_at dataset_object l.datasets text d is))
+    stands l root m one text _ (each_of (At l root m one) (datasets l root m) (at_rest l root m one).0 text (dataset_object d) (mapped_at dataset_object l.datasets text d is))
 
 pub datatypes_stand : DatatypesStand
 datatypes_stand l root m one text t is =
-    stands l root m one text _ (each_of (At l root m one) (datatypes l root m) (at_rest l root m one).1 text (datatype_object t) (seen_at datatype_object l.datatypes text t is))
+    stands l root m one text _ (each_of (At l root m one) (datatypes l root m) (at_rest l root m one).1 text (datatype_object t) (mapped_at datatype_object l.datatypes text t is))
 
 -- ---- other domains
 

@@ -28,8 +28,8 @@ use Rattle.documents.specs.Domains.Documents.{collection_tree, document_tree, is
 use Rattle.documents.specs.Domains.Entries.{body_tree, entry_tree, is_shown, titled_tree}
 use Rattle.documents.specs.declared.domains.home.Home.{Home}
 use Rattle.documents.proofs.OfDomains.MemberLemmas.{all_within}
-use Rattle.json_import.specs.RoundTrips.Held.{AreSound}
-use Rattle.json_import.proofs.RoundTrips.HeldLemmas.{no_attributes, no_links}
+use Rattle.json_import.specs.RoundTrips.Loaded.{AreSound}
+use Rattle.json_import.proofs.RoundTrips.LoadedLemmas.{no_attributes, no_links}
 use Rattle.object_records.proofs.TreeLemmas.{names_depth, properties_depth}
 
 entry_deep : (m : Objects) (h : Home) (attributes : AttributeMap) (b : Body) → AreAttributes attributes → IsKeptBody b

@@ -28,7 +28,7 @@ use Rattle.documents.specs.Parts.Arrays.{with_bytes}
 use Rattle.containers.specs.TextMaps.Keyed.{text_order}
 use Rattle.documents.specs.Parts.Ids.{is_id}
 use Rattle.documents.specs.Domains.Documents.{collection_tree, document_tree, put_each}
-use Rattle.documents.specs.Domains.Domains.{held_or_root, is_there}
+use Rattle.documents.specs.Domains.Domains.{object_or_root, is_there}
 use Rattle.documents.specs.Domains.Entries.{entry_tree}
 use Rattle.documents.specs.Domains.Laws.{AreInRange}
 use Rattle.documents.specs.declared.domains.home.Home.{Home}
@@ -41,12 +41,12 @@ use Rattle.documents.specs.declared.reader.loaded.Loaded.{Loaded}
 use Rattle.json_import.specs.Fresh.Laws.{HasObject, StandForOne}
 use Rattle.json_import.specs.Fresh.Names.{Names, id_in, names_of}
 use Rattle.json_import.specs.Fresh.Renamed.{dataset_object, datatype_object, group_object, kind_of, objects_put, other_count}
-use Rattle.json_import.proofs.OfFresh.LawLemmas.{datasets_stand, datatypes_stand, groups_stand, ids_fresh, ids_held, nothing_else, root_stands}
+use Rattle.json_import.proofs.OfFresh.LawLemmas.{datasets_stand, datatypes_stand, groups_stand, ids_fresh, ids_there, nothing_else, root_stands}
 use Rattle.json_import.proofs.OfFresh.LoadedLemmas.{needed_found, part_found, stand_for_one}
 use Rattle.json_import.specs.RoundTrips.Laws.{HasRoom, IsAlone, home_of}
 use Rattle.json_import.specs.RoundTrips.Renamed.{at_texts, renamed, renamed_group, text_in}
 use Rattle.json_import.proofs.RoundTrips.EntryLemmas.{attributes_again, links_again}
-use Rattle.json_import.proofs.RoundTrips.HomeLemmas.{held_told, id_length, member_is, member_told, no_member, other_rank}
+use Rattle.json_import.proofs.RoundTrips.HomeLemmas.{there_told, id_length, member_is, member_told, no_member, other_rank}
 use Rattle.json_import.proofs.RoundTrips.ListLemmas.{are_members, moved_found, moved_there}
 use Rattle.json_import.proofs.RoundTrips.OrderLemmas.{fresh_range}
 use Rattle.json_import.proofs.RoundTrips.PartLemmas.{array_again, kind_again}
@@ -99,27 +99,27 @@ module _
       at (inl before) = absurd (alone id o before number)
       at (inr h) = h
 
-    held_range : (id : Id) (o : Object) → get objects id ≡ Some o → id.domain ≡ root.domain → InRange id
-    held_range id o is number = let told = object_told id o number is in subst InRange told.1 (has_range told.0 o told.2)
+    object_range : (id : Id) (o : Object) → get objects id ≡ Some o → id.domain ≡ root.domain → InRange id
+    object_range id o is number = let told = object_told id o number is in subst InRange told.1 (has_range told.0 o told.2)
 
     ranges : AreInRange objects home
-    ranges = record { root = room.range; held = held_range }
+    ranges = record { root = room.range; objects = object_range }
 
-    id_held : (text : List ℕ) → ((id_at text).domain ≡ root.domain) × IsSome (get objects (id_at text))
-    id_held text = ids_held l root m one text
+    id_there : (text : List ℕ) → ((id_at text).domain ≡ root.domain) × IsSome (get objects (id_at text))
+    id_there text = ids_there l root m one text
 
     root_is : id_at l.root ≡ root
     root_is = root_stands l root one
 
-    root_held : IsSome (get objects root)
-    root_held = subst (λ i. IsSome (get objects i)) root_is (id_held l.root).1
+    root_has : IsSome (get objects root)
+    root_has = subst (λ i. IsSome (get objects i)) root_is (id_there l.root).1
 
     -- ---- its members
 
     member_there : (k : Kind) (id : Id) (o : Object) → InRange id → id.kind ≡ k → id.domain ≡ root.domain → get objects id ≡ Some o
         → find (text_of_id id) (collection_tree objects home k) ≡ Some (entry_tree objects home o)
     member_there k id o range kinds number is =
-        each_at_its_text objects home k id ranges range ∙ ap (option_map (entry_tree objects home)) (member_is objects home k id o kinds number (ap (held_or_root home id) is))
+        each_at_its_text objects home k id ranges range ∙ ap (option_map (entry_tree objects home)) (member_is objects home k id o kinds number (ap (object_or_root home id) is))
 
     none_there : (k : Kind) (id : Id) → InRange id → kind_rank id.kind ≢ kind_rank k
         → find (text_of_id id) (collection_tree objects home k) ≡ None
@@ -131,13 +131,13 @@ module _
     key_told k key d is =
         let at = keys_are_texts objects home k key d is in
         let told = member_told objects home k at.0 at.1 at.3 in
-        let own = object_told at.0 at.1 told.number (held_told objects home at.0 at.1 root_held told.found) in
+        let own = object_told at.0 at.1 told.number (there_told objects home at.0 at.1 root_has told.found) in
         (own.0, at.1, at.2 ∙ ap text_of_id (sym own.1), sym (has_kind own.0 at.1 own.2) ∙ ap (λ (i : Id). i.kind) own.1 ∙ told.same_kind, own.2)
 
     -- ---- the links of its groups
 
     link_there : (text : List ℕ) → is_there objects home (id_at text) ≡ true
-    link_there text = let at = id_held text in and_from _ _ (eq-eqb (id_at text).domain root.domain at.0) (or_left _ _ at.1)
+    link_there text = let at = id_there text in and_from _ _ (eq-eqb (id_at text).domain root.domain at.0) (or_left _ _ at.1)
 
     known_id : (id : Id) (o : Object) → InRange id → id.domain ≡ root.domain → get objects id ≡ Some o
         → is_id (text_of_id id) printed ≡ true
@@ -149,9 +149,9 @@ module _
 
     link_known : (text : List ℕ) → is_id (text_at_id text) printed ≡ true
     link_known text =
-        let at = id_held text in
+        let at = id_there text in
         let found = some_value (get objects (id_at text)) at.1 in
-        known_id (id_at text) found.0 (held_range (id_at text) found.0 found.1 at.0) at.0 found.1
+        known_id (id_at text) found.0 (object_range (id_at text) found.0 found.1 at.0) at.0 found.1
 
     -- ---- its collections
 
@@ -181,7 +181,7 @@ module _
     -- the tree of an object stands at the text of its id
     tree_there : (k : Kind) (text : List ℕ) (o : Object) → HasObject l root text o → kind_of o ≡ k → get objects (id_at text) ≡ Some o
         → find (text_at_id text) (collection_tree objects home k) ≡ Some (entry_tree objects home o)
-    tree_there k text o has kinds is = member_there k (id_at text) o (has_range text o has) (has_kind text o has ∙ kinds) (id_held text).0 is
+    tree_there k text o has kinds is = member_there k (id_at text) o (has_range text o has) (has_kind text o has ∙ kinds) (id_there text).0 is
 
     not_there : (k : Kind) (text : List ℕ) (o : Object) → HasObject l root text o → kind_rank (kind_of o) ≢ kind_rank k
         → find (text_at_id text) (collection_tree objects home k) ≡ None

@@ -12,7 +12,7 @@ use Rattle.object_ids.specs.declared.ids.Kind.{Kind}
 use Rattle.object_ids.specs.declared.ids.Kind.TheVariants as kind
 use Rattle.object_acts.specs.Objects.{empty_group, Objects}
 use Rattle.object_acts.specs.declared.objects.Object.{Object}
-use Rattle.documents.specs.Domains.Domains.{held_or_root, object_at}
+use Rattle.documents.specs.Domains.Domains.{object_or_root, object_at}
 use Rattle.documents.specs.Domains.Laws.{member_at}
 use Rattle.documents.specs.declared.domains.home.Home.{Home}
 use Rattle.documents.specs.Reader.Objects.{is_length}
@@ -41,12 +41,12 @@ other_rank a b other same = other (ap kind_rank same)
 -- ---- the members of a domain
 
 module _ (m : Objects) (h : Home) where
-  pub member_is : (k : Kind) (id : Id) (o : Object) → id.kind ≡ k → id.domain ≡ h.number → held_or_root h id (get m id) ≡ Some o
+  pub member_is : (k : Kind) (id : Id) (o : Object) → id.kind ≡ k → id.domain ≡ h.number → object_or_root h id (get m id) ≡ Some o
       → member_at m h k id ≡ Some o
   member_is k id o kinds numbers there =
       let number = eq-eqb id.domain h.number numbers in
       ap (λ b. cond b (object_at m h id) None) (and_from _ _ (eq-eqb (kind_rank id.kind) (kind_rank k) (ap kind_rank kinds)) number)
-      ∙ ap (λ b. cond b (held_or_root h id (get m id)) None) number ∙ there
+      ∙ ap (λ b. cond b (object_or_root h id (get m id)) None) number ∙ there
 
   pub no_member : (k : Kind) (id : Id) → kind_rank id.kind ≢ kind_rank k → member_at m h k id ≡ None
   no_member k id other = ap (λ b. cond (b && (id.domain == h.number)) (object_at m h id) None) (ne_eqb (kind_rank id.kind) (kind_rank k) other)
@@ -55,12 +55,12 @@ module _ (m : Objects) (h : Home) where
   pub record IsMemberOf (k : Kind) (id : Id) (o : Object) : Type 0 where
     pub same_kind : id.kind ≡ k
     pub number : id.domain ≡ h.number
-    pub found : held_or_root h id (get m id) ≡ Some o
+    pub found : object_or_root h id (get m id) ≡ Some o
 
   pub member_told : (k : Kind) (id : Id) (o : Object) → member_at m h k id ≡ Some o → IsMemberOf k id o
   member_told k id o is = at (kind_rank id.kind == kind_rank k) (id.domain == h.number) refl refl is where
     at : (a b : Bool) → (kind_rank id.kind == kind_rank k) ≡ a → (id.domain == h.number) ≡ b
-        → cond (a && b) (cond b (held_or_root h id (get m id)) None) None ≡ Some o → IsMemberOf k id o
+        → cond (a && b) (cond b (object_or_root h id (get m id)) None) None ≡ Some o → IsMemberOf k id o
     at true true p q e = record { same_kind = rank_once id.kind k (eqb-true _ _ p); number = eqb-true _ _ q; found = e }
     at true false p q e = let none : None ≡ Some o = e in absurd (cc)
     at false b p q e = let none : None ≡ Some o = e in absurd (cc)
@@ -76,8 +76,8 @@ module _ (m : Objects) (h : Home) where
       let serials = eqb-true x.serial y.serial c.1 in
       λ i. record { kind = kinds i; domain = domains i; run = runs i; serial = serials i }
 
-  pub held_told : (id : Id) (o : Object) → IsSome (get m h.root) → held_or_root h id (get m id) ≡ Some o → get m id ≡ Some o
-  held_told id o root is = at (get m id) refl is where
+  pub there_told : (id : Id) (o : Object) → IsSome (get m h.root) → object_or_root h id (get m id) ≡ Some o → get m id ≡ Some o
+  there_told id o root is = at (get m id) refl is where
     first : (b : Bool) → id_eq id h.root ≡ b → get m id ≡ None → cond b (Some empty_group) None ≡ Some o → get m id ≡ Some o
     first true tie none e =
         let there : IsSome (get m id) = subst (λ q. IsSome (get m q)) (sym (same_id id h.root tie)) root in
@@ -86,6 +86,6 @@ module _ (m : Objects) (h : Home) where
         absurd (cc)
     first false tie none e = let never : None ≡ Some o = e in absurd (cc)
 
-    at : (found : Option Object) → get m id ≡ found → held_or_root h id found ≡ Some o → get m id ≡ Some o
+    at : (found : Option Object) → get m id ≡ found → object_or_root h id found ≡ Some o → get m id ≡ Some o
     at None there e = first (id_eq id h.root) refl there e
     at (Some x) there e = there ∙ e

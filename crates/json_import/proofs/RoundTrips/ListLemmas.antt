@@ -152,8 +152,8 @@ zip_all h R tree [] all = tt
 zip_all h R tree (e ∷ es) all = (all.0, zip_all h R tree es all.1)
 
 module _ {X Y : Type 0} (h : X → Y) (most : ℕ) (R : Data → List ℕ × Y → Type 0) (tree : List ℕ × X → Data) where
-  abbrev seen_as : List ℕ × X → List ℕ × Y
-  seen_as e = (e.0, h e.1)
+  abbrev entry_as : List ℕ × X → List ℕ × Y
+  entry_as e = (e.0, h e.1)
 
   -- the trees of a map's entries spell the map, each value seen as something else
   pub listed_of : (m : FinMap text_order X) → len m ≤ most → ((k : List ℕ) (x : X) → get m k ≡ Some x → R (tree (k, x)) (k, h x))

@@ -39,7 +39,7 @@ use Rattle.chunk_store.specs.Listed.{IsOnce}
 use Rattle.chunk_store.specs.Picked.{cells_from}
 use Rattle.chunk_store.proofs.GridLemmas.{reads_same, value-tabulated}
 use Rattle.chunk_store.proofs.PickLemmas.{cells_inside as each_inside}
-use Rattle.chunk_store.proofs.SameLemmas.{same_held}
+use Rattle.chunk_store.proofs.SameLemmas.{same_grids}
 use Rattle.object_ops.specs.Creation.Creations.{creation_of}
 use Rattle.object_ops.specs.Creation.Spelled.{IsCreation, IsFill, IsNoFilter}
 use Rattle.object_acts.specs.Arrays.Creation.{creation_tree, layout_tree}
@@ -219,7 +219,7 @@ module _
     blank_written e s p one =
         let g = blank e s p in
         let bs = repeated (count_of s) (blank_of e p.1) in
-        same_held (with_bytes g bs) g refl refl refl refl (table (written (value_at g) (size_of e) (cells_from 0 (count_of s) s) bs)) (table (λ _. blank_of e p.1)) (λ at lies.
+        same_grids (with_bytes g bs) g refl refl refl refl (table (written (value_at g) (size_of e) (cells_from 0 (count_of s) s) bs)) (table (λ _. blank_of e p.1)) (λ at lies.
         value-tabulated e s p.0 p.1 (λ _. blank_of e p.1) at lies
         ∙ sym (elements g bs at lies ∙ piece_repeated (count_of s) (size_of e) (linear_index at (dims_of s)) (blank_of e p.1) one.whole (index_counted s at lies)))
       where
@@ -261,9 +261,9 @@ module _
     encoded_again : (e : Elem) (bs : List ℕ) → IsSoundType e → IsEncoded e bs → IsAgain e bs
     encoded_again e bs sound h = subst (IsAgain e) h.2 (fit_again e h.0 sound.formed h.1)
 
-    fill_held : (e : Elem) (fill : Option (List ℕ)) → IsSoundType e → IsEncoded e (blank_of e fill) → FillAgain e fill
-    fill_held e None sound h = tt
-    fill_held e (Some bs) sound h = encoded_again e bs sound h
+    fill_loaded : (e : Elem) (fill : Option (List ℕ)) → IsSoundType e → IsEncoded e (blank_of e fill) → FillAgain e fill
+    fill_loaded e None sound h = tt
+    fill_loaded e (Some bs) sound h = encoded_again e bs sound h
 
     module _
         (each : (g : Grid) (ats : List (List ℕ)) (k : ℕ) → IsWhole g → All (λ at. LiesIn at g.shape) ats → k < length ats → piece_at (size_of g.kind) k (reads g ats) ≡ value_at g (slice_index_or ats k []))
@@ -283,7 +283,7 @@ module _
 
         -- to write what is read into each cell makes the array
         cells_written : g ≡ with_bytes (start g) bytes
-        cells_written = same_held (with_bytes (start g) bytes) g refl refl refl refl
+        cells_written = same_grids (with_bytes (start g) bytes) g refl refl refl refl
             (length-map (cells_of g.shape) (written (value_at (start g)) (size_of g.kind) (cells_from 0 (count_of g.shape) g.shape) bytes) ∙ cells_length g.shape)
             whole.table (λ at lies.
             sym (elements (start g) bytes at lies
@@ -291,12 +291,12 @@ module _
             ∙ ap (value_at g) (cell-index g.shape at lies)))
 
         -- a tree that has the printed type, shape, creation properties and value at their keys
-        pub array_held : (new : Data) → Fits (size_of g.kind) (dims_of g.shape) g.chunk
+        pub array_loaded : (new : Data) → Fits (size_of g.kind) (dims_of g.shape) g.chunk
             → get (codes "type") new ≡ Some (type_tree g.kind) → get (codes "shape") new ≡ Some (shape_tree g.shape Document)
             → get (codes "creationProperties") new ≡ Some (creation_tree g)
             → get (codes "value") new ≡ Some (value_tree g.kind g.shape (reads g (cells_of g.shape))) → IsArray new g
-        array_held new fits t s c v =
-            let made : IsMade g.kind g.shape (g.chunk, g.fill) = record { fits = fits; fill = fill_held g.kind g.fill whole.kind whole.blank } in
+        array_loaded new fits t s c v =
+            let made : IsMade g.kind g.shape (g.chunk, g.fill) = record { fits = fits; fill = fill_loaded g.kind g.fill whole.kind whole.blank } in
             record {
               kind = subst (λ o. IsTypeAt o g.kind) (sym t) (type_told (type_tree g.kind) g.kind (type_back g.kind (type_tree g.kind) whole.kind refl));
               shape = subst (λ o. IsShape o None g.shape) (sym s) (shape_told (Some (shape_tree g.shape Document)) None g.shape (shape_back g.shape Document (shape_tree g.shape Document) whole.shape refl));

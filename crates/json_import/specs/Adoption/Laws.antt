@@ -12,7 +12,7 @@ use Rattle.documents.specs.declared.domains.home.Home.{Home}
 use Rattle.json_export.specs.Documents.{doc, home_at}
 use Rattle.documents.specs.Reader.Loads.{Loads, LoadsText}
 use Rattle.documents.specs.declared.reader.loaded.Loaded.{Loaded}
-use Rattle.json_import.specs.RoundTrips.Held.{AreSound, held_in}
+use Rattle.json_import.specs.RoundTrips.Loaded.{AreSound, loaded_from}
 use Rattle.json_import.specs.RoundTrips.Renamed.{renamed}
 use Rattle.json_import.specs.Adoption.Adopted.{IsReadBack, root_at}
 
@@ -25,14 +25,14 @@ DomainsAreSound = (held : Held) (run : ℕ) (w : World) (path : List ℕ) (h : H
 abbrev pub ExportsAreLoaded : Type 0
 ExportsAreLoaded = (held : Held) (run : ℕ) (w : World) (path : List ℕ) (h : Home) (tree : Data) (text : List ℕ)
     → DescribesWorld held run w → AreWhole w.objects → home_at w path ≡ Some h
-    → doc w path ≡ Some tree → ReadsAs text tree → length text ≤ 2 ^ 27 → LoadsText text (held_in w.objects h)
+    → doc w path ≡ Some tree → ReadsAs text tree → length text ≤ 2 ^ 27 → LoadsText text (loaded_from w.objects h)
 
 -- and so it is with a line feed behind it
 abbrev pub LinesAreLoaded : Type 0
 LinesAreLoaded = (held : Held) (run : ℕ) (w : World) (path : List ℕ) (h : Home) (tree : Data) (text : List ℕ)
     → DescribesWorld held run w → AreWhole w.objects → home_at w path ≡ Some h
     → doc w path ≡ Some tree → ReadsAs text tree → length (text ++ 10 ∷ []) ≤ 2 ^ 27
-    → LoadsText (text ++ 10 ∷ []) (held_in w.objects h)
+    → LoadsText (text ++ 10 ∷ []) (loaded_from w.objects h)
 
 -- so what was exported, adopted from that line and exported again is loaded as what the first domain held, under the fresh ids
 abbrev pub ExportsComeBack : Type 0
@@ -40,5 +40,5 @@ ExportsComeBack = (held : Held) (run : ℕ) (w : World) (path : List ℕ) (h : H
     → DescribesWorld held run w → AreWhole w.objects → home_at w path ≡ Some h
     → doc w path ≡ Some tree → ReadsAs (compact_text tree) tree → length (compact_text tree ++ 10 ∷ []) ≤ 2 ^ 27
     → (l : Loaded) (d : RegisterState) (v : World) (other : List ℕ) → LoadsText (compact_text tree ++ 10 ∷ []) l → IsReadBack d l v other
-    → (l ≡ held_in w.objects h)
-    × ((printed : Data) × (doc v other ≡ Some printed) × Loads printed (renamed (held_in w.objects h) (root_at d)))
+    → (l ≡ loaded_from w.objects h)
+    × ((printed : Data) × (doc v other ≡ Some printed) × Loads printed (renamed (loaded_from w.objects h) (root_at d)))

@@ -27,7 +27,7 @@ use Rattle.documents.specs.Domains.Entries.{cells_tree, dataset_tree}
 use Rattle.documents.specs.declared.domains.home.Home.{Home}
 use Rattle.json_import.specs.Fresh.Names.{names_of, others}
 use Rattle.json_import.specs.Fresh.Renamed.{objects_put, other_count}
-use Rattle.json_import.specs.RoundTrips.Held.{AreSound, held_in}
+use Rattle.json_import.specs.RoundTrips.Loaded.{AreSound, loaded_from}
 use Rattle.json_import.specs.RoundTrips.Renamed.{renamed, text_in}
 use Rattle.object_acts.specs.Objects.{Objects}
 
@@ -77,8 +77,8 @@ DocumentsReadBack = (tree : Data) (l : Loaded) (root : Id) (m : Objects) → Loa
 -- so what a domain holds, exported, adopted and exported again, is the same under fresh ids
 abbrev pub ExportsReadBack : Type 0
 ExportsReadBack = (old : Objects) (h : Home) (root : Id) (m : Objects) → AreSound old h
-    → HasRoom root (other_count (held_in old h)) → IsAlone root m
-    → Loads (document_tree (objects_put (held_in old h) root m) (home_of root)) (renamed (held_in old h) root)
+    → HasRoom root (other_count (loaded_from old h)) → IsAlone root m
+    → Loads (document_tree (objects_put (loaded_from old h) root m) (home_of root)) (renamed (loaded_from old h) root)
 
 -- the texts of the fresh ids in byte order: the root's, then those of the others in the order of their texts
 pub record AreInOrder (l : Loaded) (root : Id) : Type 0 where

@@ -24,7 +24,7 @@ pub fn ids_are_fresh()
     ensures order { SerialsRise }
     ensures root { RootIsFirst }
     ensures only { NothingElseStands }
-    ensures held { IdsHaveObjects }
+    ensures objects { IdsHaveObjects }
 {}
 
 /// What is read from a document has each text for one object, and a group for its root.

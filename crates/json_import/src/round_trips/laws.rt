@@ -1,6 +1,6 @@
 //! What holds of all documents. No program calls these functions; the contract of each is a law.
 
-ghost use Rattle.json_import.specs.RoundTrips.Held.{DomainsAreLoaded, DomainsAreShallow, TextsAreLoaded};
+ghost use Rattle.json_import.specs.RoundTrips.Loaded.{DomainsAreLoaded, DomainsAreShallow, TextsAreLoaded};
 ghost use Rattle.json_import.specs.RoundTrips.Laws.{ArraysReadBack, AttributesReadBack, DocumentsReadBack, ExportsReadBack};
 ghost use Rattle.json_import.specs.RoundTrips.Laws.{ShapesReadBack, TextsStayInOrder, TypesReadBack, ValuesReadBack};
 
@@ -35,7 +35,7 @@ pub fn documents_read_back()
 /// The document of a domain whose objects are sound is loaded as what the domain holds, and so is its text, where that isn't too
 /// long: an import finds no fault in it. Put at fresh ids it is exported again as the same under these.
 pub fn domains_are_loaded()
-    ensures held { DomainsAreLoaded }
+    ensures loaded { DomainsAreLoaded }
     ensures shallow { DomainsAreShallow }
     ensures texts { TextsAreLoaded }
     ensures again { ExportsReadBack }

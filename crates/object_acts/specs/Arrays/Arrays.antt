@@ -19,7 +19,7 @@ use Rattle.hyperslab.specs.Steps.{text_slab}
 use Rattle.hyperslab.specs.Selected.{extents, slab_cells}
 use Rattle.point_select.specs.declared.PointFault.{PointFault}
 use Rattle.point_select.specs.Faults.{points_of}
-use Rattle.chunk_store.specs.Grids.{Grid, reads, writes, cut_to}
+use Rattle.chunk_store.specs.Grids.{Grid, reads, writes, resized_to}
 use Rattle.object_ops.specs.declared.ops.Part.{Part}
 use Rattle.object_ops.specs.declared.ops.Part.TheVariants as part
 use Rattle.object_ops.specs.declared.replies.Reply.{Reply}
@@ -115,7 +115,7 @@ value_written (part.Points points) tree g = points_written g tree (points_of poi
 -- the shape's own limits decide whether it takes them
 abbrev pub dims_taken : List ℕ → Grid → Result Shape ShapeFault → Reply × Grid
 dims_taken dims g (Err f) = (Refused (dims_refusal f), g)
-dims_taken dims g (Ok shape) = (Done 201 nothing, cut_to g dims)
+dims_taken dims g (Ok shape) = (Done 201 nothing, resized_to g dims)
 
 abbrev pub shape_changed : List ℕ → Grid → Reply × Grid
 shape_changed dims g = dims_taken dims g (resized_of g.shape dims)

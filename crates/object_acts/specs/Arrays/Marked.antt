@@ -28,8 +28,8 @@ abbrev pub is_written : Part → Grid → List ℕ → Bool
 is_written p g i = touches g.chunk (selected p g.shape) i
 
 -- the chunk loses a cell to these dims, or has none left
-abbrev pub is_cut : List ℕ → Grid → List ℕ → Bool
-is_cut dims g i = not (keeps i g.chunk (dims_of g.shape) dims)
+abbrev pub is_truncated : List ℕ → Grid → List ℕ → Bool
+is_truncated dims g i = not (keeps i g.chunk (dims_of g.shape) dims)
 
 -- each chunk that is marked as changed afterwards was so before, or is one of these
 abbrev pub MarksAlone : (List ℕ → Type 0) → Stored → Stored → Type 0

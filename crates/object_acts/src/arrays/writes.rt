@@ -16,7 +16,7 @@ ghost use Rattle.object_ops.specs.Answers.{Follows, was_done};
 ghost use Rattle.object_acts.specs.Arrays.Stops.{Tells, settled};
 ghost use Rattle.object_acts.specs.Arrays.Arrays.{bytes_read, tree_written, slab_written, points_written};
 ghost use Rattle.object_acts.specs.Arrays.Arrays.{value_written, shape_changed};
-ghost use Rattle.object_acts.specs.Arrays.Marked.{IsDone, MarksAlone, cells_in, is_cut, is_written};
+ghost use Rattle.object_acts.specs.Arrays.Marked.{IsDone, MarksAlone, cells_in, is_truncated, is_written};
 ghost use Rattle.object_acts.specs.Arrays.Writes.{points_region, slab_region};
 
 use crate::arrays::MAX_BYTES;
@@ -80,7 +80,7 @@ pub fn change_shape(array: &mut Array, alloc: Global, dims: &Dims) -> Reply
     ensures tracked { (held : List ℕ → List ℕ) → IsTracked held array.old
         → IsTracked held array.new }
     ensures alone { MarksAlone (λ i. (was_done result ≡ true)
-        × (is_cut dims.now array.old.grid i ≡ true)) array.old array.new }
+        × (is_truncated dims.now array.old.grid i ≡ true)) array.old array.new }
 {
     match resized(array.shape(), dims) {
         Ok(_) => {

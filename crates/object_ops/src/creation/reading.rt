@@ -27,7 +27,7 @@ use std::alloc::Global;
 /// A layout, and a fill where one is given.
 #[derive(Drop)]
 pub struct Creation {
-    /// How the cells are cut into chunks.
+    /// How the cells are split into chunks.
     pub layout: Layout,
     /// The bytes of an element, for cells that were never written.
     pub fill: Option<Vec<u8>>,

@@ -213,28 +213,28 @@ own_fits ss k ((ps, route) ∷ rest) own (inl h) =
 own_fits ss k ((ps, route) ∷ rest) own (inr h) = own_fits ss k rest own.1 h
 
 -- each route has a row
-held : (route : Route) (ss : List Text) → fits (parts_of route) ss ≡ true → Fitting ss route table
-held Acl ss h = behind 0 ss _ table (inl (h, refl))
-held Acls ss h = behind 1 ss _ table (inl (h, refl))
-held (Attribute kind.Dataset) ss h = behind 2 ss _ table (inl (h, refl))
-held (Attributes kind.Dataset) ss h = behind 3 ss _ table (inl (h, refl))
-held Shape ss h = behind 4 ss _ table (inl (h, refl))
-held Elem ss h = behind 5 ss _ table (inl (h, refl))
-held Value ss h = behind 6 ss _ table (inl (h, refl))
-held (Object kind.Dataset) ss h = behind 7 ss _ table (inl (h, refl))
-held (Collection kind.Dataset) ss h = behind 8 ss _ table (inl (h, refl))
-held (Attribute kind.Datatype) ss h = behind 9 ss _ table (inl (h, refl))
-held (Attributes kind.Datatype) ss h = behind 10 ss _ table (inl (h, refl))
-held (Object kind.Datatype) ss h = behind 11 ss _ table (inl (h, refl))
-held (Collection kind.Datatype) ss h = behind 12 ss _ table (inl (h, refl))
-held Domains ss h = behind 13 ss _ table (inl (h, refl))
-held (Attribute kind.Group) ss h = behind 14 ss _ table (inl (h, refl))
-held (Attributes kind.Group) ss h = behind 15 ss _ table (inl (h, refl))
-held Link ss h = behind 16 ss _ table (inl (h, refl))
-held Links ss h = behind 17 ss _ table (inl (h, refl))
-held (Object kind.Group) ss h = behind 18 ss _ table (inl (h, refl))
-held (Collection kind.Group) ss h = behind 19 ss _ table (inl (h, refl))
-held Node ss h = behind 20 ss _ table (inl (h, refl))
+row_fits : (route : Route) (ss : List Text) → fits (parts_of route) ss ≡ true → Fitting ss route table
+row_fits Acl ss h = behind 0 ss _ table (inl (h, refl))
+row_fits Acls ss h = behind 1 ss _ table (inl (h, refl))
+row_fits (Attribute kind.Dataset) ss h = behind 2 ss _ table (inl (h, refl))
+row_fits (Attributes kind.Dataset) ss h = behind 3 ss _ table (inl (h, refl))
+row_fits Shape ss h = behind 4 ss _ table (inl (h, refl))
+row_fits Elem ss h = behind 5 ss _ table (inl (h, refl))
+row_fits Value ss h = behind 6 ss _ table (inl (h, refl))
+row_fits (Object kind.Dataset) ss h = behind 7 ss _ table (inl (h, refl))
+row_fits (Collection kind.Dataset) ss h = behind 8 ss _ table (inl (h, refl))
+row_fits (Attribute kind.Datatype) ss h = behind 9 ss _ table (inl (h, refl))
+row_fits (Attributes kind.Datatype) ss h = behind 10 ss _ table (inl (h, refl))
+row_fits (Object kind.Datatype) ss h = behind 11 ss _ table (inl (h, refl))
+row_fits (Collection kind.Datatype) ss h = behind 12 ss _ table (inl (h, refl))
+row_fits Domains ss h = behind 13 ss _ table (inl (h, refl))
+row_fits (Attribute kind.Group) ss h = behind 14 ss _ table (inl (h, refl))
+row_fits (Attributes kind.Group) ss h = behind 15 ss _ table (inl (h, refl))
+row_fits Link ss h = behind 16 ss _ table (inl (h, refl))
+row_fits Links ss h = behind 17 ss _ table (inl (h, refl))
+row_fits (Object kind.Group) ss h = behind 18 ss _ table (inl (h, refl))
+row_fits (Collection kind.Group) ss h = behind 19 ss _ table (inl (h, refl))
+row_fits Node ss h = behind 20 ss _ table (inl (h, refl))
 
 one_found : (ss : List Text) (route : Route) → Fitting ss route table → (o : Option Route) → found table ss ≡ o → found table ss ≡ Some route
 one_found ss route h None e = absurd (fitting_found ss table route h e)
@@ -244,7 +244,7 @@ by_segments : (o : Option (List Text)) (route : Route) → (option_and_then (fou
 by_segments None route = ((λ e. absurd (none_some e)), (λ e. absurd (false≢true e)))
 by_segments (Some ss) route = (
   (λ e. own_fits ss route table table_own (found_fits ss table route e)),
-  (λ h. one_found ss route (held route ss h) (found table ss) refl),
+  (λ h. one_found ss route (row_fits route ss h) (found table ss) refl),
 )
 
 -- a path names just the route whose parts it has

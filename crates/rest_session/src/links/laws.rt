@@ -17,7 +17,7 @@ pub fn one_reading()
         → (messages ≡ others) × (rest ≡ remainder) }
 {}
 
-/// The answers of a stream that is cut anywhere between messages are the answers of its parts, one behind the other.
+/// The answers of a stream that is split anywhere between messages are the answers of its parts, one behind the other.
 pub fn answers_of_parts<V: Service>()
     ensures joined { (u v w : V.World) (front back : List RequestMessage) (first second : List ℕ)
         → Replays V.step u front first v → Replays V.step v back second w
@@ -40,7 +40,7 @@ pub fn whole_messages_are_served<V: Service>()
         → (t : IsTranscript V.step u taken sent (Some left) v Closed) → t.messages ≡ messages }
 {}
 
-/// How the bytes were cut into pieces doesn't matter: two links that give the same bytes, and end neither by a fault
+/// How the bytes were divided into pieces doesn't matter: two links that give the same bytes, and end neither by a fault
 /// nor for want of memory, give the same messages.
 pub fn pieces_do_not_matter<V: Service>()
     ensures { (u v w x : V.World) (taken sent left others written remaining : List ℕ)

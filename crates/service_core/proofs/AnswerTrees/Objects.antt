@@ -37,7 +37,7 @@ use Rattle.object_acts.specs.declared.objects.Body.TheVariants.{Group, Dataset, 
 use Rattle.object_acts.specs.declared.objects.Object.{Object}
 use Rattle.object_acts.specs.Objects.{made, Objects}
 use Rattle.object_acts.specs.Acts.{attribute_put, change_of, drop_from, link_put, link_read, of_array, of_links, on_array, on_links, one_read, put_in, reads_object, reply_of}
-use Rattle.chunk_owner.specs.Acts.{act, acted, changed_by, held, left, link_to, linking, make_act, making, missing, on_object, on_touched, read_by, removed, seen, touched}
+use Rattle.chunk_owner.specs.Acts.{act, acted, changed_by, object_or_root, left, link_to, linking, make_act, making, missing, on_object, on_touched, read_by, removed, object_here, touched}
 use Rattle.chunk_owner.specs.Lanes.{Each, set_at}
 use Rattle.chunk_owner.proofs.Eaches.{each_insert, each_remove}
 use Rattle.service_core.specs.AnswerTrees.Bodies.{ReplyHas}
@@ -134,12 +134,12 @@ module _ {P : Data → Type 0} {Q : Object → Type 0} {G : Grid → Type 0} {S 
   abbrev Gives : Reply × Option Object → Type 0
   Gives p = ReplyHas P p.0 × At p.1
 
-  held_at : (g : Grant) (id : Id) (o : Option Object) → At o → At (held g id o)
-  held_at g id None h = either_way At (id_eq id g.root) t.empty tt
-  held_at g id (Some o) h = h
+  object_or_root_at : (g : Grant) (id : Id) (o : Option Object) → At o → At (object_or_root g id o)
+  object_or_root_at g id None h = either_way At (id_eq id g.root) t.empty tt
+  object_or_root_at g id (Some o) h = h
 
-  seen_at : (g : Grant) (id : Id) (o : Option Object) → At o → At (seen g id o)
-  seen_at g id o h = either_way At (id.domain == g.number) (held_at g id o h) tt
+  object_here_at : (g : Grant) (id : Id) (o : Option Object) → At o → At (object_here g id o)
+  object_here_at g id o h = either_way At (id.domain == g.number) (object_or_root_at g id o h) tt
 
   read_gives : (f : Object → Reply) (absent : Refusal) (o : Option Object) → ((x : Object) → Q x → ReplyHas P (f x)) → At o
       → ReplyHas P (read_by f absent o)
@@ -163,9 +163,9 @@ module _ {P : Data → Type 0} {Q : Object → Type 0} {G : Grid → Type 0} {S 
 
   linking_gives : (g : Grant) (place : Option LinkPlace) (fresh : Option Id) (o : Option Object) → At o → Gives (linking g place fresh o)
   linking_gives g (Some place) (Some fresh) o h =
-      changed_gives (link_to place fresh) (missing g place.group) o (seen g place.group o)
+      changed_gives (link_to place fresh) (missing g place.group) o (object_here g place.group o)
       (λ x. on_links_says place.group (link_put place.title (Hard fresh)) x.attributes x.body (link_put_says place.title (Hard fresh)))
-      (t.linked place fresh) h (seen_at g place.group o h)
+      (t.linked place fresh) h (object_here_at g place.group o h)
   linking_gives g place fresh o h = (tt, h)
 
   making_gives : (g : Grant) (make : Make) (fresh : Option Id) (o : Option Object) → Q (made make) → At o → Gives (making g make fresh o)
@@ -181,12 +181,12 @@ module _ {P : Data → Type 0} {Q : Object → Type 0} {G : Grid → Type 0} {S 
   on_object_gives : (g : Grant) (op : Op) (id : Id) (o : Option Object) → S op → At o → Gives (on_object g op id o)
   on_object_gives g op id o sound h =
       either_way Gives (reads_object op)
-      (read_gives (reply_of g.root op) (missing g id) (seen g id o) (reply_has g.root op) (seen_at g id o h), h)
-      (changed_gives (change_of op) (missing g id) o (seen g id o) (change_says op) (λ x. t.changed op x sound) h (seen_at g id o h))
+      (read_gives (reply_of g.root op) (missing g id) (object_here g id o) (reply_has g.root op) (object_here_at g id o h), h)
+      (changed_gives (change_of op) (missing g id) o (object_here g id o) (change_says op) (λ x. t.changed op x sound) h (object_here_at g id o h))
 
   act_gives : (g : Grant) (op : Op) (s : Step) (id : Id) (o : Option Object) → S op → At o → Gives (act g op s id o)
   act_gives g (MakeObject make place) s id o sound h = make_gives g make place s o (t.made make place sound) h
-  act_gives g (DropObject at) s id o sound h = removed_gives (id_eq id g.root) (missing g id) o (seen g id o) h
+  act_gives g (DropObject at) s id o sound h = removed_gives (id_eq id g.root) (missing g id) o (object_here g id o) h
   act_gives g op s id o sound h = on_object_gives g op id o sound h
 
   -- ---- all objects

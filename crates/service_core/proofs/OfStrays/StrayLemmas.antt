@@ -43,7 +43,7 @@ told_stray key false no_node no_number of = (λ t. stray_is key no_node no_numbe
 
 -- ---- a walk
 
-pub record IsSeen (held : Held) (rest : List Record) : Type 0 where
+pub record IsSearched (held : Held) (rest : List Record) : Type 0 where
   pub front : List Record
   pub split : entries held ≡ front ++ rest
   pub none : AllByRecursion (λ e. IsStrayKey e.0 → ⊥) front
@@ -62,22 +62,22 @@ no_stray (x ∷ xs) h q body s is = at (eq_by_cmp text_order q x.0) refl is (no_
 none_held : (front : List Record) → AllByRecursion (λ d. IsStrayKey d.0 → ⊥) front → (q body : List ℕ) → IsStrayKey q → get (held_by front) q ≡ Some body → ⊥
 none_held front h q body s is = no_stray front h q body s (sym (get-from_entries nat_list_cmp_total front q) ∙ is)
 
-pub seen_begin : (held : Held) (all : List Record) → entries held ≡ all → IsSeen held all
-seen_begin held all whole = record { front = []; split = whole; none = tt }
+pub searched_begin : (held : Held) (all : List Record) → entries held ≡ all → IsSearched held all
+searched_begin held all whole = record { front = []; split = whole; none = tt }
 
-module _ (held : Held) (rest after : List Record) (e : Record) (w : IsSeen held rest) (is : rest ≡ e ∷ after) where
+module _ (held : Held) (rest after : List Record) (e : Record) (w : IsSearched held rest) (is : rest ≡ e ∷ after) where
   split : entries held ≡ w.front ++ e ∷ after
   split = w.split ∙ ap (λ xs. w.front ++ xs) is
 
-  pub seen_more : (IsStrayKey e.0 → ⊥) → IsSeen held after
-  seen_more no_more = record { front = w.front ++ e ∷ []; split = split_more held w.front after e split; none = all_push w.front e w.none no_more }
+  pub searched_more : (IsStrayKey e.0 → ⊥) → IsSearched held after
+  searched_more no_more = record { front = w.front ++ e ∷ []; split = split_more held w.front after e split; none = all_push w.front e w.none no_more }
 
-  pub seen_stray : IsStrayKey e.0 → IsLeast (IsStray held) e.0
-  seen_stray stray = record {
+  pub searched_stray : IsStrayKey e.0 → IsLeast (IsStray held) e.0
+  searched_stray stray = record {
     has = record { stray = stray; body = e.1; here = held_here held w.front after e split };
     least = λ q f low. none_held w.front w.none q f.body f.stray (sym (held_before held w.front after e split q low) ∙ f.here);
   }
 
-pub seen_end : (held : Held) (rest : List Record) → IsSeen held rest → rest ≡ [] → HasNoStrays held
-seen_end held rest w none k f =
+pub searched_end : (held : Held) (rest : List Record) → IsSearched held rest → rest ≡ [] → HasNoStrays held
+searched_end held rest w none k f =
     none_held w.front w.none k f.body f.stray (ap (λ (m : Held). get m k) (all_held held w.front rest w.split none) ∙ f.here)

@@ -2,8 +2,8 @@ use Rattle.std.proofs.Common.{is_some, sym, ap, ◌∙◌}
 use Rattle.chunk_owner.specs.Slots.Slots.{objects_of}
 use Rattle.chunk_owner.proofs.OfSlots.Standing.{get-objects_of}
 use Rattle.chunk_owner.specs.Acts.{link_to}
-use Rattle.chunk_owner.proofs.AtIds.{changes_held, changes_foreign}
-use Rattle.chunk_owner.proofs.LaneLemmas.{home_same_ids, not_held}
+use Rattle.chunk_owner.proofs.AtIds.{changes_there, changes_foreign}
+use Rattle.chunk_owner.proofs.LaneLemmas.{home_same_ids, none_standing}
 use Rattle.chunk_owner.proofs.touching.link_in.Goals as goal
 
 pub returns-then-not-is_own-clause-acts : goal.returns-then-not-is_own-clause-acts
@@ -11,15 +11,15 @@ returns-then-not-is_own-clause-acts c =
     changes_foreign c.args.grant.now c.args.place.now.group (link_to c.args.place.now c.args.fresh) (objects_of c.args.slots.now) _ (sym c.is_own.ensures ∙ c.if-not-is_own.true) c.missing.ensures
 
 pub link_absent-requires-clause-absent : goal.link_absent-requires-clause-absent
-link_absent-requires-clause-absent c = not_held c.args.slots.now c.args.place.now.group (sym c.is_held.ensures ∙ c.if-not-is_held.true)
+link_absent-requires-clause-absent c = none_standing c.args.slots.now c.args.place.now.group (sym c.has_object.ensures ∙ c.if-not-has_object.true)
 
-pub link_at-requires-clause-held : goal.link_at-requires-clause-held
-link_at-requires-clause-held c = sym c.is_held.ensures ∙ c.if-not-is_held.false
+pub link_at-requires-clause-there : goal.link_at-requires-clause-there
+link_at-requires-clause-there c = sym c.has_object.ensures ∙ c.if-not-has_object.false
 
 pub returns-clause-acts : goal.returns-clause-acts
 returns-clause-acts c =
-    changes_held c.args.grant.now c.args.place.now.group (link_to c.args.place.now c.args.fresh) (objects_of c.args.slots.now) (objects_of c.link_at.new.slots) c.link_at.result
-    (sym c.is_own.ensures ∙ c.if-not-is_own.false) (ap is_some (get-objects_of c.args.slots.now c.args.place.now.group) ∙ sym c.is_held.ensures ∙ c.if-not-is_held.false) c.link_at.ensures.acts
+    changes_there c.args.grant.now c.args.place.now.group (link_to c.args.place.now c.args.fresh) (objects_of c.args.slots.now) (objects_of c.link_at.new.slots) c.link_at.result
+    (sym c.is_own.ensures ∙ c.if-not-is_own.false) (ap is_some (get-objects_of c.args.slots.now c.args.place.now.group) ∙ sym c.has_object.ensures ∙ c.if-not-has_object.false) c.link_at.ensures.acts
 
 pub returns-clause-home : goal.returns-clause-home
 returns-clause-home c = home_same_ids c.args.slots.now c.link_at.new.slots c.args.place.now.group c.link_at.ensures.same_ids

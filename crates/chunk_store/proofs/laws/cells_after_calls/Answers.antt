@@ -1,4 +1,4 @@
-use Rattle.chunk_store.proofs.ValueLemmas.{made_value, last_value, other_value, cut_stays, cut_comes, cut_again}
+use Rattle.chunk_store.proofs.ValueLemmas.{made_value, last_value, other_value, resized_stays, resized_comes, resized_again}
 use Rattle.chunk_store.proofs.laws.cells_after_calls.Goals as goal
 
 pub returns : goal.returns
@@ -7,7 +7,7 @@ returns c =
       made = made_value;
       last = last_value;
       others = other_value;
-      stays = cut_stays;
-      comes = cut_comes;
-      again = cut_again;
+      stays = resized_stays;
+      comes = resized_comes;
+      again = resized_again;
     }

@@ -1,6 +1,6 @@
 use Rattle.std.proofs.Common.{◌≡◌, map, drop, string_bytes}
 use Rattle.command_words.specs.Reading.{pieces_from, pieces_of}
-use Rattle.command_words.specs.Seen.{row_of, state_of}
+use Rattle.command_words.specs.Views.{row_of, state_of}
 use Rattle.command_words.proofs.reader.is_line.Given as goal
 
 abbrev pub invariant-loop-word : goal.invariant-loop-word

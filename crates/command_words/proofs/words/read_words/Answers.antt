@@ -1,7 +1,7 @@
 use Rattle.std.proofs.Common.{◌∙◌, ap, sym, subst, map, option_and_then, string_bytes, Option}
 use Rattle.command_words.specs.Apps.{command_found}
 use Rattle.command_words.specs.Commands.{Command}
-use Rattle.command_words.specs.Seen.{Answers}
+use Rattle.command_words.specs.Views.{Answers}
 use Rattle.command_words.proofs.Whole.{line_is_read}
 use Rattle.command_words.proofs.words.read_words.Goals as goal
 

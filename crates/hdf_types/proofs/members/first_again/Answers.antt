@@ -10,8 +10,8 @@ pub returns-then-is_among : goal.returns-then-is_among
 returns-then-is_among c =
     let within : c.loop-index.index < length c.args.fields.now = omega arith in
     let told : list_any (λ m. bytes_eq m c.text.result.now) (field_names (take c.loop-index.index c.args.fields.now)) ≡ true = sym c.is_among.ensures ∙ c.if-is_among.true in
-    let seen = ap (λ n. list_any (λ m. bytes_eq m n) (field_names (take c.loop-index.index c.args.fields.now))) (sym c.text.ensures) ∙ told in
-    sym (again_here c.args.fields.now c.loop-index.index c.index-fields-index.result within c.index-fields-index.is seen) ∙ c.loop-index.invariant
+    let earlier = ap (λ n. list_any (λ m. bytes_eq m n) (field_names (take c.loop-index.index c.args.fields.now))) (sym c.text.ensures) ∙ told in
+    sym (again_here c.args.fields.now c.loop-index.index c.index-fields-index.result within c.index-fields-index.is earlier) ∙ c.loop-index.invariant
 
 pub loop-index-preserved : goal.loop-index-preserved
 loop-index-preserved c =

@@ -1,6 +1,6 @@
 use Rattle.std.proofs.Common.{Option, Some, None, ap, refl, sym, subst, ◌∙◌}
 use Rattle.command_words.specs.Commands.{Command}
-use Rattle.command_words.specs.Seen.{seen}
+use Rattle.command_words.specs.Views.{as_command}
 use Rattle.command_words.specs.declared.command.Wanted.{Wanted}
 use Rattle.hsds_cli.specs.Runs.{IsCommanded}
 use Rattle.hsds_cli.specs.Sides.{Sides}
@@ -22,7 +22,7 @@ returns-in-Ok-Init-clause-run g c =
       out_before = g.K.Sink.faults c.args.out.now;
       out_after = g.K.Sink.faults c.init.new.out;
     } in
-    subst (λ (o : Option Command). IsCommanded g.D.Disk o sides c.args.disk c.init.result.disk c.init.result.closed c.init.result.status) (sym (c.in-Ok-Init.ensures.ok ∙ ap (λ (w : Wanted). Some (seen w)) c.in-Ok-Init.field-0-is))
+    subst (λ (o : Option Command). IsCommanded g.D.Disk o sides c.args.disk c.init.result.disk c.init.result.closed c.init.result.status) (sym (c.in-Ok-Init.ensures.ok ∙ ap (λ (w : Wanted). Some (as_command w)) c.in-Ok-Init.field-0-is))
     (c.init.ensures.init (g.S.Source.left c.args.input.now) (g.S.Source.faults c.args.input.now), c.init.ensures.closed)
 
 pub returns-in-Ok-Export-clause-run : goal.returns-in-Ok-Export-clause-run
@@ -40,7 +40,7 @@ returns-in-Ok-Export-clause-run g c =
       out_before = g.K.Sink.faults c.args.out.now;
       out_after = g.K.Sink.faults c.export.new.out;
     } in
-    subst (λ (o : Option Command). IsCommanded g.D.Disk o sides c.args.disk c.export.result.disk c.export.result.closed c.export.result.status) (sym (c.in-Ok-Export.ensures.ok ∙ ap (λ (w : Wanted). Some (seen w)) c.in-Ok-Export.field-0-is)) (
+    subst (λ (o : Option Command). IsCommanded g.D.Disk o sides c.args.disk c.export.result.disk c.export.result.closed c.export.result.status) (sym (c.in-Ok-Export.ensures.ok ∙ ap (λ (w : Wanted). Some (as_command w)) c.in-Ok-Export.field-0-is)) (
       c.export.ensures.exported (g.C.Source.left c.args.config.now) (g.S.Source.left c.args.input.now) (g.C.Source.faults c.args.config.now) (g.S.Source.faults c.args.input.now),
       c.export.ensures.bytes,
       c.export.ensures.closed,
@@ -61,7 +61,7 @@ returns-in-Ok-Import-clause-run g c =
       out_before = g.K.Sink.faults c.args.out.now;
       out_after = g.K.Sink.faults c.import.new.out;
     } in
-    subst (λ (o : Option Command). IsCommanded g.D.Disk o sides c.args.disk c.import.result.disk c.import.result.closed c.import.result.status) (sym (c.in-Ok-Import.ensures.ok ∙ ap (λ (w : Wanted). Some (seen w)) c.in-Ok-Import.field-0-is))
+    subst (λ (o : Option Command). IsCommanded g.D.Disk o sides c.args.disk c.import.result.disk c.import.result.closed c.import.result.status) (sym (c.in-Ok-Import.ensures.ok ∙ ap (λ (w : Wanted). Some (as_command w)) c.in-Ok-Import.field-0-is))
     (c.import.ensures.imported (g.C.Source.left c.args.config.now) (g.C.Source.faults c.args.config.now), c.import.ensures.closed)
 
 pub returns-in-Ok-Sample-clause-run : goal.returns-in-Ok-Sample-clause-run
@@ -79,7 +79,7 @@ returns-in-Ok-Sample-clause-run g c =
       out_before = g.K.Sink.faults c.args.out.now;
       out_after = g.K.Sink.faults c.sample.new.out;
     } in
-    subst (λ (o : Option Command). IsCommanded g.D.Disk o sides c.args.disk c.args.disk None c.sample.result) (sym (c.in-Ok-Sample.ensures.ok ∙ ap (λ (w : Wanted). Some (seen w)) c.in-Ok-Sample.field-0-is))
+    subst (λ (o : Option Command). IsCommanded g.D.Disk o sides c.args.disk c.args.disk None c.sample.result) (sym (c.in-Ok-Sample.ensures.ok ∙ ap (λ (w : Wanted). Some (as_command w)) c.in-Ok-Sample.field-0-is))
     ((c.sample.ensures.told, keeps _ _ refl), refl, refl)
 
 pub returns-in-Ok-Verify-clause-run : goal.returns-in-Ok-Verify-clause-run
@@ -97,7 +97,7 @@ returns-in-Ok-Verify-clause-run g c =
       out_before = g.K.Sink.faults c.args.out.now;
       out_after = g.K.Sink.faults c.verify.new.out;
     } in
-    subst (λ (o : Option Command). IsCommanded g.D.Disk o sides c.args.disk c.verify.result.disk c.verify.result.closed c.verify.result.status) (sym (c.in-Ok-Verify.ensures.ok ∙ ap (λ (w : Wanted). Some (seen w)) c.in-Ok-Verify.field-0-is)) (
+    subst (λ (o : Option Command). IsCommanded g.D.Disk o sides c.args.disk c.verify.result.disk c.verify.result.closed c.verify.result.status) (sym (c.in-Ok-Verify.ensures.ok ∙ ap (λ (w : Wanted). Some (as_command w)) c.in-Ok-Verify.field-0-is)) (
       c.verify.ensures.verified (g.C.Source.left c.args.config.now) (g.S.Source.left c.args.input.now) (g.C.Source.faults c.args.config.now) (g.S.Source.faults c.args.input.now),
       c.verify.ensures.bytes,
       c.verify.ensures.closed,

@@ -6,25 +6,25 @@ use Rattle.chunk_owner.proofs.slots.changing.change_at.Goals as goal
 
 pub returns-clause-acts : goal.returns-clause-acts
 returns-clause-acts c =
-    changes_at c.args.slots.now c.args.id.now c.in-Some.slot.now c.change.new.slot (sym c.in-Some.ensures.value) (there_live c.args.slots.now c.args.id.now c.in-Some.slot.now (sym c.in-Some.ensures.value) c.requires.held)
+    changes_at c.args.slots.now c.args.id.now c.in-Some.slot.now c.change.new.slot (sym c.in-Some.ensures.value) (there_live c.args.slots.now c.args.id.now c.in-Some.slot.now (sym c.in-Some.ensures.value) c.requires.there)
     c.change.ensures.live (change_of c.args.op.now) c.change.result c.change.ensures.acts
 
 pub returns-clause-says : goal.returns-clause-says
 returns-clause-says c =
-    changed_said c.args.slots.now c.args.id.now c.in-Some.slot.now c.change.new.slot (sym c.in-Some.ensures.value) (there_live c.args.slots.now c.args.id.now c.in-Some.slot.now (sym c.in-Some.ensures.value) c.requires.held)
+    changed_said c.args.slots.now c.args.id.now c.in-Some.slot.now c.change.new.slot (sym c.in-Some.ensures.value) (there_live c.args.slots.now c.args.id.now c.in-Some.slot.now (sym c.in-Some.ensures.value) c.requires.there)
     c.change.ensures.live c.change.ensures.says
 
 pub returns-clause-kinds : goal.returns-clause-kinds
 returns-clause-kinds c =
-    changed_kinds c.args.slots.now c.args.id.now c.in-Some.slot.now c.change.new.slot (sym c.in-Some.ensures.value) (there_live c.args.slots.now c.args.id.now c.in-Some.slot.now (sym c.in-Some.ensures.value) c.requires.held)
+    changed_kinds c.args.slots.now c.args.id.now c.in-Some.slot.now c.change.new.slot (sym c.in-Some.ensures.value) (there_live c.args.slots.now c.args.id.now c.in-Some.slot.now (sym c.in-Some.ensures.value) c.requires.there)
     c.change.ensures.live c.change.ensures.kind c.requires.kinds
 
 pub returns-clause-same_ids : goal.returns-clause-same_ids
 returns-clause-same_ids c =
-    same_ids c.args.slots.now c.args.id.now c.in-Some.slot.now c.change.new.slot (sym c.in-Some.ensures.value) (there_live c.args.slots.now c.args.id.now c.in-Some.slot.now (sym c.in-Some.ensures.value) c.requires.held)
+    same_ids c.args.slots.now c.args.id.now c.in-Some.slot.now c.change.new.slot (sym c.in-Some.ensures.value) (there_live c.args.slots.now c.args.id.now c.in-Some.slot.now (sym c.in-Some.ensures.value) c.requires.there)
     c.change.ensures.live
 
 pub returns-clause-alone : goal.returns-clause-alone
 returns-clause-alone c =
-    change_alone c.args.slots.now c.args.id.now c.in-Some.slot.now c.change.new.slot (sym c.in-Some.ensures.value) (there_live c.args.slots.now c.args.id.now c.in-Some.slot.now (sym c.in-Some.ensures.value) c.requires.held)
+    change_alone c.args.slots.now c.args.id.now c.in-Some.slot.now c.change.new.slot (sym c.in-Some.ensures.value) (there_live c.args.slots.now c.args.id.now c.in-Some.slot.now (sym c.in-Some.ensures.value) c.requires.there)
     c.change.ensures.live c.args.op.now c.change.result c.change.ensures.mark c.change.ensures.unmarked c.change.ensures.alone

@@ -7,25 +7,25 @@ use Rattle.chunk_owner.proofs.slots.changing.link_at.Goals as goal
 
 pub returns-clause-acts : goal.returns-clause-acts
 returns-clause-acts c =
-    changes_at c.args.slots.now c.args.id.now c.in-Some.slot.now c.link_made.new.slot (sym c.in-Some.ensures.value) (there_live c.args.slots.now c.args.id.now c.in-Some.slot.now (sym c.in-Some.ensures.value) c.requires.held)
+    changes_at c.args.slots.now c.args.id.now c.in-Some.slot.now c.link_made.new.slot (sym c.in-Some.ensures.value) (there_live c.args.slots.now c.args.id.now c.in-Some.slot.now (sym c.in-Some.ensures.value) c.requires.there)
     c.link_made.ensures.live (λ o. on_links c.args.id.now (link_put c.args.title.now (Hard c.args.fresh)) o.attributes o.body) c.link_made.result c.link_made.ensures.acts
 
 pub returns-clause-says : goal.returns-clause-says
 returns-clause-says c =
-    changed_said c.args.slots.now c.args.id.now c.in-Some.slot.now c.link_made.new.slot (sym c.in-Some.ensures.value) (there_live c.args.slots.now c.args.id.now c.in-Some.slot.now (sym c.in-Some.ensures.value) c.requires.held)
+    changed_said c.args.slots.now c.args.id.now c.in-Some.slot.now c.link_made.new.slot (sym c.in-Some.ensures.value) (there_live c.args.slots.now c.args.id.now c.in-Some.slot.now (sym c.in-Some.ensures.value) c.requires.there)
     c.link_made.ensures.live c.link_made.ensures.says
 
 pub returns-clause-kinds : goal.returns-clause-kinds
 returns-clause-kinds c =
-    changed_kinds c.args.slots.now c.args.id.now c.in-Some.slot.now c.link_made.new.slot (sym c.in-Some.ensures.value) (there_live c.args.slots.now c.args.id.now c.in-Some.slot.now (sym c.in-Some.ensures.value) c.requires.held)
+    changed_kinds c.args.slots.now c.args.id.now c.in-Some.slot.now c.link_made.new.slot (sym c.in-Some.ensures.value) (there_live c.args.slots.now c.args.id.now c.in-Some.slot.now (sym c.in-Some.ensures.value) c.requires.there)
     c.link_made.ensures.live c.link_made.ensures.kind c.requires.kinds
 
 pub returns-clause-same_ids : goal.returns-clause-same_ids
 returns-clause-same_ids c =
-    same_ids c.args.slots.now c.args.id.now c.in-Some.slot.now c.link_made.new.slot (sym c.in-Some.ensures.value) (there_live c.args.slots.now c.args.id.now c.in-Some.slot.now (sym c.in-Some.ensures.value) c.requires.held)
+    same_ids c.args.slots.now c.args.id.now c.in-Some.slot.now c.link_made.new.slot (sym c.in-Some.ensures.value) (there_live c.args.slots.now c.args.id.now c.in-Some.slot.now (sym c.in-Some.ensures.value) c.requires.there)
     c.link_made.ensures.live
 
 pub returns-clause-alone : goal.returns-clause-alone
 returns-clause-alone c =
-    link_alone c.args.slots.now c.args.id.now c.in-Some.slot.now c.link_made.new.slot (sym c.in-Some.ensures.value) (there_live c.args.slots.now c.args.id.now c.in-Some.slot.now (sym c.in-Some.ensures.value) c.requires.held)
+    link_alone c.args.slots.now c.args.id.now c.in-Some.slot.now c.link_made.new.slot (sym c.in-Some.ensures.value) (there_live c.args.slots.now c.args.id.now c.in-Some.slot.now (sym c.in-Some.ensures.value) c.requires.there)
     c.link_made.ensures.live c.link_made.result c.link_made.ensures.mark c.link_made.ensures.unmarked c.link_made.ensures.alone

@@ -1,28 +1,28 @@
 use Rattle.hdf_types.specs.Views.{elem as kind_of}
-use Rattle.chunk_store.proofs.PartLemmas.{cuts_from, frame_sound, kept_cut}
+use Rattle.chunk_store.proofs.PartLemmas.{resizes_from, frame_sound, kept_resized}
 use Rattle.chunk_store.proofs.array.Array.resize.Goals as goal
 
-pub cut-requires-clause-frame : goal.cut-requires-clause-frame
-cut-requires-clause-frame c =
+pub truncate-requires-clause-frame : goal.truncate-requires-clause-frame
+truncate-requires-clause-frame c =
     let a = c.self.inside in
     frame_sound (kind_of a.elem) a.shape a.given a.frame a.chunks c.self.invariant
 
 pub invariant_of-self : goal.invariant_of-self
 invariant_of-self c =
     let a = c.self.inside in
-    kept_cut (kind_of a.elem) a.shape a.given a.frame a.chunks c.self.invariant c.in-Ok.shape c.args.dims.now c.cut.new.chunks c.in-Ok.ensures.resized (c.in-Ok.ensures.sound c.self.invariant.shape c.requires.small) c.cut.ensures.cells c.cut.ensures.full c.cut.ensures.flags
+    kept_resized (kind_of a.elem) a.shape a.given a.frame a.chunks c.self.invariant c.in-Ok.shape c.args.dims.now c.truncate.new.chunks c.in-Ok.ensures.resized (c.in-Ok.ensures.sound c.self.invariant.shape c.requires.small) c.truncate.ensures.cells c.truncate.ensures.full c.truncate.ensures.flags
 
 pub returns-clause-done : goal.returns-clause-done
 returns-clause-done c =
     let a = c.self.inside in
-    (cuts_from (kind_of a.elem) a.shape a.given a.frame a.chunks c.self.invariant c.in-Ok.shape c.args.dims.now c.cut.new.chunks c.in-Ok.ensures.resized (c.in-Ok.ensures.sound c.self.invariant.shape c.requires.small) c.cut.ensures.cells c.cut.ensures.full c.cut.ensures.flags c.args.self.now c.self.view_is).done
+    (resizes_from (kind_of a.elem) a.shape a.given a.frame a.chunks c.self.invariant c.in-Ok.shape c.args.dims.now c.truncate.new.chunks c.in-Ok.ensures.resized (c.in-Ok.ensures.sound c.self.invariant.shape c.requires.small) c.truncate.ensures.cells c.truncate.ensures.full c.truncate.ensures.flags c.args.self.now c.self.view_is).done
 
 pub returns-clause-marks : goal.returns-clause-marks
 returns-clause-marks c =
     let a = c.self.inside in
-    (cuts_from (kind_of a.elem) a.shape a.given a.frame a.chunks c.self.invariant c.in-Ok.shape c.args.dims.now c.cut.new.chunks c.in-Ok.ensures.resized (c.in-Ok.ensures.sound c.self.invariant.shape c.requires.small) c.cut.ensures.cells c.cut.ensures.full c.cut.ensures.flags c.args.self.now c.self.view_is).marks
+    (resizes_from (kind_of a.elem) a.shape a.given a.frame a.chunks c.self.invariant c.in-Ok.shape c.args.dims.now c.truncate.new.chunks c.in-Ok.ensures.resized (c.in-Ok.ensures.sound c.self.invariant.shape c.requires.small) c.truncate.ensures.cells c.truncate.ensures.full c.truncate.ensures.flags c.args.self.now c.self.view_is).marks
 
 pub returns-clause-tracked : goal.returns-clause-tracked
 returns-clause-tracked c =
     let a = c.self.inside in
-    (cuts_from (kind_of a.elem) a.shape a.given a.frame a.chunks c.self.invariant c.in-Ok.shape c.args.dims.now c.cut.new.chunks c.in-Ok.ensures.resized (c.in-Ok.ensures.sound c.self.invariant.shape c.requires.small) c.cut.ensures.cells c.cut.ensures.full c.cut.ensures.flags c.args.self.now c.self.view_is).tracked
+    (resizes_from (kind_of a.elem) a.shape a.given a.frame a.chunks c.self.invariant c.in-Ok.shape c.args.dims.now c.truncate.new.chunks c.in-Ok.ensures.resized (c.in-Ok.ensures.sound c.self.invariant.shape c.requires.small) c.truncate.ensures.cells c.truncate.ensures.full c.truncate.ensures.flags c.args.self.now c.self.view_is).tracked

@@ -1,6 +1,6 @@
 use Rattle.std.proofs.Common.{◌≡◌, map, drop}
 use Rattle.command_words.specs.Lines.{has_piece}
-use Rattle.command_words.specs.Seen.{texts_of}
+use Rattle.command_words.specs.Views.{texts_of}
 use Rattle.command_words.proofs.reader.Reader.has.Given as goal
 
 abbrev pub invariant-loop-piece : goal.invariant-loop-piece

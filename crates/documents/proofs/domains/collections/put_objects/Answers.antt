@@ -21,4 +21,4 @@ pub loop-id-preserved : goal.loop-id-preserved
 loop-id-preserved g c =
     let m = g.S.ObjectStore.objects c.args.store.now in
     walk_more m (put_each m c.args.home.now c.args.kind) (put_at m c.args.home.now c.args.kind) (λ e es ms. refl) c.loop-id.last c.in-Some.id _ _ _
-    (subst (λ (after : Option Id). IsKeyStep m after (Some c.in-Some.id)) c.as_ref.ensures.value c.in-Some.ensures) c.in_ok-put_held.ensures c.loop-id.invariant
+    (subst (λ (after : Option Id). IsKeyStep m after (Some c.in-Some.id)) c.as_ref.ensures.value c.in-Some.ensures) c.in_ok-put_at.ensures c.loop-id.invariant

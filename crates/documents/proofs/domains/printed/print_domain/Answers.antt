@@ -9,7 +9,7 @@ returns-clause-printed g c =
     let text = c.in_ok-text.text in
     let is = c.in_ok-tree.ensures in
     record {
-      seen = is;
+      tree_is = is;
       told = c.in_ok-text.ensures.text (ap has_float is ∙ c.documents_have_no_floats.ensures _ _) ∙ ap compact_text is;
       reads = subst (ReadsAs (string_bytes text)) is (record { utf8 = IsUtf8-string_bytes text; reads = c.in_ok-text.ensures.reads_back });
     }

@@ -62,20 +62,20 @@ returns-in-Err-write_again-clause-writes g c = λ h c' rs s.
     let some : records c.in-Some.batch ≢ [] = some_pending old.pending c.in-Some.batch old.some c.in-Some.is in
     let eq = pending_records old.pending c.in-Some.batch rs c.in-Some.is s.pending in
     let are = subst AreBatch eq (are_batch (records c.in-Some.batch) c.frame.result.now some c.frame.ensures.bytes c.frame.ensures.length c.frame.ensures.read) in
-    let is = front_closed s.cut.front c' s.cut.closed s.cut.place in
+    let is = front_closed s.resumable.front c' s.resumable.closed s.resumable.place in
     let bytes = c.frame-2.ensures.bytes ∙ ap frame_of eq in
-    let has : AllHave (Either s.cut.front c.frame-2.result.now) (g.D.Disk.reads old.disk) (g.D.Disk.images old.disk) =
-    subst (λ (l : List ℕ). AllHave (Either s.cut.front l) (g.D.Disk.reads old.disk) (g.D.Disk.images old.disk)) (sym bytes) (record { now = s.cut.now; each = s.cut.each }) in
-    let place = s.cut.place ∙ sym s.numbers.end in
+    let has : AllHave (Either s.resumable.front c.frame-2.result.now) (g.D.Disk.reads old.disk) (g.D.Disk.images old.disk) =
+    subst (λ (l : List ℕ). AllHave (Either s.resumable.front l) (g.D.Disk.reads old.disk) (g.D.Disk.images old.disk)) (sym bytes) (record { now = s.resumable.now; each = s.resumable.each }) in
+    let place = s.resumable.place ∙ sym s.numbers.end in
     record {
       ok = tt;
-      err = owed_by _ c' rs s.cut.front is are s.pending
+      err = owed_by _ c' rs s.resumable.front is are s.pending
           (record { version = s.numbers.version; lanes = s.numbers.lanes; batches = s.numbers.batches; end = s.numbers.end })
-          (subst (λ (l : List ℕ). AllHave (Either s.cut.front l) (g.D.Disk.reads new) (g.D.Disk.images new)) bytes
-          (c.write_again.ensures.kept h s.cut.front place has));
-      moments = leaves_either old c' rs s.cut.front is are old.disk new
-          (subst (λ (l : List ℕ). Leaves g.D.Disk old.disk new (Either s.cut.front l)) bytes
-          (c.write_again.ensures.moments h s.cut.front place has));
+          (subst (λ (l : List ℕ). AllHave (Either s.resumable.front l) (g.D.Disk.reads new) (g.D.Disk.images new)) bytes
+          (c.write_again.ensures.kept h s.resumable.front place has));
+      moments = leaves_either old c' rs s.resumable.front is are old.disk new
+          (subst (λ (l : List ℕ). Leaves g.D.Disk old.disk new (Either s.resumable.front l)) bytes
+          (c.write_again.ensures.moments h s.resumable.front place has));
     }
 
 pub returns-in-Err-write_again-clause-tries : goal.returns-in-Err-write_again-clause-tries
@@ -117,23 +117,23 @@ returns-clause-writes g c = λ h c' rs s.
     let some : records c.in-Some.batch ≢ [] = some_pending old.pending c.in-Some.batch old.some c.in-Some.is in
     let eq = pending_records old.pending c.in-Some.batch rs c.in-Some.is s.pending in
     let are = subst AreBatch eq (are_batch (records c.in-Some.batch) c.frame.result.now some c.frame.ensures.bytes c.frame.ensures.length c.frame.ensures.read) in
-    let is = front_closed s.cut.front c' s.cut.closed s.cut.place in
+    let is = front_closed s.resumable.front c' s.resumable.closed s.resumable.place in
     let bytes = c.frame-2.ensures.bytes ∙ ap frame_of eq in
-    let has : AllHave (Either s.cut.front c.frame-2.result.now) (g.D.Disk.reads old.disk) (g.D.Disk.images old.disk) =
-    subst (λ (l : List ℕ). AllHave (Either s.cut.front l) (g.D.Disk.reads old.disk) (g.D.Disk.images old.disk)) (sym bytes) (record { now = s.cut.now; each = s.cut.each }) in
-    let place = s.cut.place ∙ sym s.numbers.end in
+    let has : AllHave (Either s.resumable.front c.frame-2.result.now) (g.D.Disk.reads old.disk) (g.D.Disk.images old.disk) =
+    subst (λ (l : List ℕ). AllHave (Either s.resumable.front l) (g.D.Disk.reads old.disk) (g.D.Disk.images old.disk)) (sym bytes) (record { now = s.resumable.now; each = s.resumable.each }) in
+    let place = s.resumable.place ∙ sym s.numbers.end in
     let size : length c.frame.result.now ≡ length (frame_of rs) = ap length (c.frame.ensures.bytes ∙ ap frame_of eq) in
     record {
-      ok = settled_by _ c' rs s.cut.front is are refl
+      ok = settled_by _ c' rs s.resumable.front is are refl
           s.numbers.version s.numbers.lanes
           (ap (λ (n : ℕ). n + 1) s.numbers.batches)
           (λ i. s.numbers.end i + size i)
-          (subst (λ (l : List ℕ). OnlyHas (Opened s.cut.front l) (g.D.Disk.reads new) (g.D.Disk.images new)) bytes
-          (c.in_default-write_again.ensures.ok h s.cut.front place has));
+          (subst (λ (l : List ℕ). OnlyHas (Opened s.resumable.front l) (g.D.Disk.reads new) (g.D.Disk.images new)) bytes
+          (c.in_default-write_again.ensures.ok h s.resumable.front place has));
       err = tt;
-      moments = leaves_either old c' rs s.cut.front is are old.disk new
-          (subst (λ (l : List ℕ). Leaves g.D.Disk old.disk new (Either s.cut.front l)) bytes
-          (c.write_again.ensures.moments h s.cut.front place has));
+      moments = leaves_either old c' rs s.resumable.front is are old.disk new
+          (subst (λ (l : List ℕ). Leaves g.D.Disk old.disk new (Either s.resumable.front l)) bytes
+          (c.write_again.ensures.moments h s.resumable.front place has));
     }
 
 pub returns-clause-tries : goal.returns-clause-tries

@@ -7,7 +7,7 @@ use Rattle.flush_journal.specs.declared.why.Why.TheVariants.{NoMemory}
 use Rattle.flush_journal.specs.Standing.{numbers_of, pending_of}
 use Rattle.flush_journal.specs.Cuts.Cuts.{AppendsOnce}
 use Rattle.flush_journal.specs.Keepings.Keepings.{Builds, uncut, Keeps}
-use Rattle.flush_journal.proofs.OfKeepings.Backing.{appended, cut_short}
+use Rattle.flush_journal.proofs.OfKeepings.Backing.{appended, cut_failed}
 use Rattle.flush_journal.proofs.OfKeepings.Building.{tried}
 use Rattle.flush_journal.proofs.keepings.keeping.append_changes.Goals as goal
 
@@ -17,7 +17,7 @@ returns-in_err-cut-clause-keeps g c =
     let is : c.from_residual.result ≡ Err NoMemory = found.1 ∙ ap Err found.2 in
     subst (λ (r : Result (Unit {0}) Why). Keeps {D = g.row.D.Denot} {W = g.W.Kept.World} {met = g.D.Disk} g.W.Kept.tells c.args.journal.now c.args.journal.now (records c.args.building.now) (records c.cut.new.into)
     (g.W.Kept.says c.args.world.now) (g.W.Kept.says c.cut.new.self) (g.W.Kept.world c.cut.new.self) r) (sym is)
-    (cut_short g.W.Kept.tells c.args.journal.now c.args.journal.now (records c.args.building.now) (records c.cut.new.into) (g.W.Kept.says c.args.world.now) (g.W.Kept.says c.cut.new.self)
+    (cut_failed g.W.Kept.tells c.args.journal.now c.args.journal.now (records c.args.building.now) (records c.cut.new.into) (g.W.Kept.says c.args.world.now) (g.W.Kept.says c.cut.new.self)
     (g.W.Kept.world c.cut.new.self) g.met.D.Disk.only_now c.requires.idle c.in_err-cut.ensures.cut)
 
 pub returns-clause-keeps : goal.returns-clause-keeps

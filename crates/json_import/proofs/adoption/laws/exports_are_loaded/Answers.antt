@@ -6,5 +6,5 @@ returns c = record {
   sound = domains_sound;
   loads = exports_loaded c.domains_are_loaded.ensures.texts;
   line = lines_loaded c.domains_are_loaded.ensures.texts;
-  again = come_back c.domains_are_loaded.ensures.texts c.domains_are_loaded.ensures.held c.document_or_fault.ensures.one;
+  again = come_back c.domains_are_loaded.ensures.texts c.domains_are_loaded.ensures.loaded c.document_or_fault.ensures.one;
 }

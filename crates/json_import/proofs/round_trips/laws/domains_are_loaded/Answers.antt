@@ -1,18 +1,18 @@
 use Rattle.documents.specs.Domains.Documents.{document_tree}
-use Rattle.json_import.specs.RoundTrips.Held.{held_in}
+use Rattle.json_import.specs.RoundTrips.Loaded.{loaded_from}
 use Rattle.std.proofs.Common.{arith}
 use Rattle.json_import.proofs.RoundTrips.DepthLemmas.{document_deep}
 use Rattle.json_import.proofs.RoundTrips.DocumentLemmas.{document_again}
-use Rattle.json_import.proofs.RoundTrips.HeldLemmas.{domain_held}
+use Rattle.json_import.proofs.RoundTrips.LoadedLemmas.{domain_loaded}
 use Rattle.json_import.proofs.round_trips.laws.domains_are_loaded.Goals as goal
 
-pub returns-clause-held : goal.returns-clause-held
-returns-clause-held c = domain_held c.creation_or_fault.ensures c.reads_of_cells.ensures.back c.cells_have_elements.ensures c.reads_of_cells.ensures.each
+pub returns-clause-loaded : goal.returns-clause-loaded
+returns-clause-loaded c = domain_loaded c.creation_or_fault.ensures c.reads_of_cells.ensures.back c.cells_have_elements.ensures c.reads_of_cells.ensures.each
 
 pub returns-clause-again : goal.returns-clause-again
 returns-clause-again c = λ old h root m sound room alone.
-    let first = domain_held c.creation_or_fault.ensures c.reads_of_cells.ensures.back c.cells_have_elements.ensures c.reads_of_cells.ensures.each old h sound in
-    document_again c.creation_or_fault.ensures c.reads_of_cells.ensures.back c.cells_have_elements.ensures (document_tree old h) (held_in old h) root m first room alone
+    let first = domain_loaded c.creation_or_fault.ensures c.reads_of_cells.ensures.back c.cells_have_elements.ensures c.reads_of_cells.ensures.each old h sound in
+    document_again c.creation_or_fault.ensures c.reads_of_cells.ensures.back c.cells_have_elements.ensures (document_tree old h) (loaded_from old h) root m first room alone
 
 pub returns-clause-shallow : goal.returns-clause-shallow
 returns-clause-shallow c = document_deep
@@ -23,5 +23,5 @@ returns-clause-texts c = λ m h text sound short utf8 reads. record {
   utf8 = utf8;
   tree = document_tree m h;
   reads = reads (document_deep m h sound);
-  loads = returns-clause-held c m h sound;
+  loads = returns-clause-loaded c m h sound;
 }

@@ -1,7 +1,7 @@
 use Rattle.std.proofs.Common.{◌+◌, ◌*◌, ap, ◌∙◌}
 use Rattle.hdf_values.specs.Nested.{piece_at}
-use Rattle.chunk_store.proofs.CutChunkLemmas.{blank_copied}
-use Rattle.chunk_store.proofs.cutting.fill_blanks.Goals as goal
+use Rattle.chunk_store.proofs.TruncationLemmas.{blank_copied}
+use Rattle.chunk_store.proofs.truncating.fill_blanks.Goals as goal
 
 pub returns-clause-here : goal.returns-clause-here
 returns-clause-here c = λ j low.

@@ -1,10 +1,10 @@
-//! The objects that stand, as those who look see them.
+//! The objects that stand, as requests see them.
 
 ghost use Rattle.std.specs.Prelude.{◌≡◌, is_some, IfSome, option_map};
 ghost use Rattle.std.specs.FinMap.{get};
 ghost use Rattle.std.specs.Option.{option_copied};
 ghost use Rattle.object_acts.specs.Objects.{IsOfKind, unmarked};
-ghost use Rattle.chunk_owner.specs.Slots.Slots.{AreOfKind, IsNextHeld, object_of};
+ghost use Rattle.chunk_owner.specs.Slots.Slots.{AreOfKind, IsNextObject, object_of};
 
 use crate::slots::slot::{Mark, Slot};
 use object_acts::Object;
@@ -24,11 +24,11 @@ pub fn object<'a>(slots: &'a IdMap<Slot>, id: &ObjectId) -> Option<&'a Object>
 
 /// The least id behind another, or of all, that has an object.
 pub fn next_id(slots: &IdMap<Slot>, after: Option<&ObjectId>) -> Option<ObjectId>
-    ensures { IsNextHeld slots.now (option_copied after.entry) result }
+    ensures { IsNextObject slots.now (option_copied after.entry) result }
 {
     let mut at = after.copied();
     while let Some(id) = slots.next_id(at.as_ref()) {
-        if is_held(slots, &id) {
+        if has_object(slots, &id) {
             return Some(id);
         }
         at = Some(id);
@@ -37,7 +37,7 @@ pub fn next_id(slots: &IdMap<Slot>, after: Option<&ObjectId>) -> Option<ObjectId
 }
 
 /// Whether an id has an object.
-pub fn is_held(slots: &IdMap<Slot>, id: &ObjectId) -> bool
+pub fn has_object(slots: &IdMap<Slot>, id: &ObjectId) -> bool
     ensures { result ≡ is_some (object_of (get slots.now id.now)) }
 {
     object(slots, id).is_some()

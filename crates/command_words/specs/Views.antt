@@ -16,17 +16,17 @@ use Rattle.command_words.specs.declared.row.Row.{Row}
 use Rattle.command_words.specs.declared.reader.Piece.{Piece}
 use Rattle.command_words.specs.declared.reader.Reader.{Reader}
 
-abbrev pub seen : Wanted → Command
-seen (Init config journal lanes) = init config.now journal.now lanes
-seen (Session config journal) = session config.now journal.now
-seen (Export path journal) = export path journal.now
-seen (Import path journal owner) = import path journal.now owner
-seen (Sample n) = sample n
-seen (Verify journal) = verify journal.now
+abbrev pub as_command : Wanted → Command
+as_command (Init config journal lanes) = init config.now journal.now lanes
+as_command (Session config journal) = session config.now journal.now
+as_command (Export path journal) = export path journal.now
+as_command (Import path journal owner) = import path journal.now owner
+as_command (Sample n) = sample n
+as_command (Verify journal) = verify journal.now
 
 -- the words are this command, or none; or memory ran out
 abbrev pub Answers : Result Wanted WordsFault → Option Command → Type 0
-Answers (Ok wanted) found = found ≡ Some (seen wanted)
+Answers (Ok wanted) found = found ≡ Some (as_command wanted)
 Answers (Err Refused) found = found ≡ None
 Answers (Err NoMemory) found = ⊤
 

@@ -2,8 +2,8 @@ use Rattle.std.proofs.Common.{◌≡◌, true, false, length, cond, sym, ap, ◌
 use Rattle.std.proofs.lemmas.List.{with_items_is}
 use Rattle.hdf_values.specs.Nested.{piece_at}
 use Rattle.chunk_layout.specs.Grids.{LiesInGrid}
-use Rattle.chunk_store.proofs.CutChunkLemmas.{none_inside}
-use Rattle.chunk_store.proofs.cutting.cut_bytes.Goals as goal
+use Rattle.chunk_store.proofs.TruncationLemmas.{none_inside}
+use Rattle.chunk_store.proofs.truncating.truncate_bytes.Goals as goal
 
 pub returns-else-is_in_grid-clause-cells : goal.returns-else-is_in_grid-clause-cells
 returns-else-is_in_grid-clause-cells c = λ k low.

@@ -1,6 +1,6 @@
 use Rattle.std.proofs.Common.{◌≤◌, min, length, sym, ◌∙◌, arith}
 use Rattle.chunk_store.proofs.MarkLemmas.{keeps_end, least_past}
-use Rattle.chunk_store.proofs.cutting.is_kept.Goals as goal
+use Rattle.chunk_store.proofs.truncating.is_kept.Goals as goal
 
 pub returns : goal.returns
 returns c =

@@ -1,4 +1,4 @@
-//! Other dims: the cells that they cut off have the fill.
+//! Other dims: the cells outside them have the fill.
 
 ghost use Rattle.std.specs.Prelude.{◌≡◌, ◌≢◌, ◌≤◌, ◌<◌, ◌+◌, ◌*◌, ◌⊎◌, ℕ, List, false, true, cond, length};
 ghost use Rattle.hdf_values.specs.Nested.{piece_at};
@@ -7,9 +7,9 @@ ghost use Rattle.shapes.specs.Shapes.{IsResized, IsSound, lies_in, dims_of};
 ghost use Rattle.chunk_layout.specs.Chunks.{cell_at};
 ghost use Rattle.chunk_store.specs.Buffers.{AreFull, IsFrame, bytes_at, chunk_bytes, flag_at};
 ghost use Rattle.chunk_store.specs.Cells.{has};
-ghost use Rattle.chunk_store.specs.Cuts.{AreCut, IsCut};
+ghost use Rattle.chunk_store.specs.Truncation.{AreTruncated, IsTruncated};
 ghost use Rattle.chunk_store.specs.Indexes.{IsIndex};
-ghost use Rattle.chunk_store.specs.Marks.{after_cut, keeps, keeps_axis};
+ghost use Rattle.chunk_store.specs.Marks.{after_resize, keeps, keeps_axis};
 
 use crate::buffers::{Chunks, Frame, Held};
 use crate::chunks::cell_number;
@@ -18,8 +18,8 @@ use chunk_layout::{coords_in_chunk, is_in_grid};
 use shapes::{Dims, Shape};
 
 /// Puts the fill into each cell of the chunks that lies outside a shape's other dims, and takes the
-/// chunks that these cut as dirty.
-pub(crate) fn cut(chunks: &mut Chunks, frame: &Frame, old: &Shape, new: &Shape)
+/// chunks that these truncate as dirty.
+pub(crate) fn truncate(chunks: &mut Chunks, frame: &Frame, old: &Shape, new: &Shape)
     requires frame { IsFrame frame.now }
     requires full { AreFull chunks.old frame.now }
     requires indexes { (i : List ℕ) → has chunks.old i ≡ true
@@ -34,41 +34,41 @@ pub(crate) fn cut(chunks: &mut Chunks, frame: &Frame, old: &Shape, new: &Shape)
         ≡ cond (lies_in q new.now) (bytes_at chunks.old frame.now q) frame.now.blank.items }
     ensures full { AreFull chunks.new frame.now }
     ensures flags { (i : List ℕ) → flag_at chunks.new i
-        ≡ after_cut (keeps i frame.now.layout.chunk (dims_of old.now) (dims_of new.now))
+        ≡ after_resize (keeps i frame.now.layout.chunk (dims_of old.now) (dims_of new.now))
         (flag_at chunks.old i) }
 {
     let _many = chunks.len();
     chunks.retain(|index, held| {
-        cut_chunk(held, frame, index, old, new);
+        truncate_chunk(held, frame, index, old, new);
         true
     });
 }
 
 /// The same in one chunk.
-fn cut_chunk(held: &mut Held, frame: &Frame, index: &Dims, old: &Shape, new: &Shape)
+fn truncate_chunk(held: &mut Held, frame: &Frame, index: &Dims, old: &Shape, new: &Shape)
     requires frame { IsFrame frame.now }
     requires index { IsIndex frame.now.layout.chunk index.now }
     requires full { length held.old.bytes.items ≡ chunk_bytes frame.now }
     requires ranks { length frame.now.layout.chunk ≡ length (dims_of new.now) }
-    ensures { IsCut frame.now (dims_of old.now) new.now index.now held.old held.new }
+    ensures { IsTruncated frame.now (dims_of old.now) new.now index.now held.old held.new }
 {
     if is_kept(index, &frame.layout.chunk, &old.dims(), &new.dims()) {
         return;
     }
     held.dirty = true;
-    cut_bytes(&mut held.bytes, frame, index, new);
+    truncate_bytes(&mut held.bytes, frame, index, new);
 }
 
-fn cut_bytes(bytes: &mut Vec<u8>, frame: &Frame, index: &Dims, new: &Shape)
+fn truncate_bytes(bytes: &mut Vec<u8>, frame: &Frame, index: &Dims, new: &Shape)
     requires frame { IsFrame frame.now }
     requires index { IsIndex frame.now.layout.chunk index.now }
     requires full { length bytes.old.items ≡ chunk_bytes frame.now }
     requires ranks { length frame.now.layout.chunk ≡ length (dims_of new.now) }
     ensures full { length bytes.new.items ≡ chunk_bytes frame.now }
-    ensures cells { AreCut frame.now new.now index.now bytes.old.items bytes.new.items }
+    ensures cells { AreTruncated frame.now new.now index.now bytes.old.items bytes.new.items }
 {
     if is_in_grid(&frame.layout, new, index) {
-        cut_cells(bytes.as_mut_slice(), frame, index, new);
+        truncate_cells(bytes.as_mut_slice(), frame, index, new);
     } else {
         fill_blanks(
             bytes.as_mut_slice(),
@@ -79,19 +79,19 @@ fn cut_bytes(bytes: &mut Vec<u8>, frame: &Frame, index: &Dims, new: &Shape)
     }
 }
 
-fn cut_cells(bytes: &mut [u8], frame: &Frame, index: &Dims, new: &Shape)
+fn truncate_cells(bytes: &mut [u8], frame: &Frame, index: &Dims, new: &Shape)
     requires frame { IsFrame frame.now }
     requires index { IsIndex frame.now.layout.chunk index.now }
     requires full { length bytes.old ≡ chunk_bytes frame.now }
     ensures full { length bytes.new ≡ chunk_bytes frame.now }
-    ensures cells { AreCut frame.now new.now index.now bytes.old bytes.new }
+    ensures cells { AreTruncated frame.now new.now index.now bytes.old bytes.new }
 {
     for k in 0..cell_number(&frame.layout) {
-        cut_cell(bytes, frame, index, new, k);
+        truncate_cell(bytes, frame, index, new, k);
     }
 }
 
-fn cut_cell(bytes: &mut [u8], frame: &Frame, index: &Dims, new: &Shape, k: u64)
+fn truncate_cell(bytes: &mut [u8], frame: &Frame, index: &Dims, new: &Shape, k: u64)
     requires frame { IsFrame frame.now }
     requires index { IsIndex frame.now.layout.chunk index.now }
     requires full { length bytes.old ≡ chunk_bytes frame.now }
@@ -128,7 +128,7 @@ fn fill_blanks(bytes: &mut [u8], frame: &Frame, first: usize, many: usize)
     copy_strided(bytes, to, frame.blank.as_slice(), blank, many, frame.size);
 }
 
-/// Whether a chunk has a cell within other dims, and none that these cut off.
+/// Whether a chunk has a cell within other dims, and none that these take away.
 fn is_kept(index: &Dims, chunk: &Dims, old: &Dims, new: &Dims) -> bool
     ensures { result ≡ keeps index.now chunk.now old.now new.now }
 {

@@ -1,6 +1,6 @@
 -- What a domain holds, as the value of a document, under the texts of its ids.
 --     whole m h      the objects with the root of the domain, which is an empty group where it isn't held
---     held_in m h      what the document of the domain holds
+--     loaded_from m h      what the document of the domain holds
 use Rattle.std.specs.Prelude.{◌≡◌, ℕ, ◌^◌, ◌≤◌, ◌==◌, List, [], ◌∷◌, IsUtf8, length, map, Option, Some, None, if◌then◌else◌}
 use Rattle.std.specs.FinMap.{FinMap, contains_key, empty, entries, get, insert}
 use Rattle.std.specs.List.{filter}
@@ -68,15 +68,15 @@ pair_before None text ps = ps
 pair_before (Some x) text ps = (text, x) ∷ ps
 
 -- the objects of a domain that are seen as something, each at the text of its id
-abbrev pub held_pairs : {X : Type 0} → (Object → Option X) → ℕ → List (Id × Object) → List (List ℕ × X)
-held_pairs see number [] = []
-held_pairs see number (e ∷ es) = pair_before (if e.0.domain == number then see e.1 else None) (text_of_id e.0) (held_pairs see number es)
+abbrev pub pairs_from : {X : Type 0} → (Object → Option X) → ℕ → List (Id × Object) → List (List ℕ × X)
+pairs_from see number [] = []
+pairs_from see number (e ∷ es) = pair_before (if e.0.domain == number then see e.1 else None) (text_of_id e.0) (pairs_from see number es)
 
 abbrev pub collection_in : {X : Type 0} → (Object → Option X) → Objects → Home → FinMap text_order X
-collection_in see m h = with_entries empty (held_pairs see h.number (entries (whole m h)))
+collection_in see m h = with_entries empty (pairs_from see h.number (entries (whole m h)))
 
-abbrev pub held_in : Objects → Home → Loaded
-held_in m h = record {
+abbrev pub loaded_from : Objects → Home → Loaded
+loaded_from m h = record {
   root = text_of_id h.root;
   groups = collection_in (λ o. group_of m h o.attributes o.body) m h;
   datasets = collection_in (λ o. dataset_of o.attributes o.body) m h;
@@ -101,7 +101,7 @@ pub record AreSound (m : Objects) (h : Home) : Type 0 where
 
 -- the document of a domain is loaded as what the domain holds
 abbrev pub DomainsAreLoaded : Type 0
-DomainsAreLoaded = (m : Objects) (h : Home) → AreSound m h → Loads (document_tree m h) (held_in m h)
+DomainsAreLoaded = (m : Objects) (h : Home) → AreSound m h → Loads (document_tree m h) (loaded_from m h)
 
 -- it nests no deeper than what is printed of it may, so that its text is read back
 abbrev pub DomainsAreShallow : Type 0
@@ -110,4 +110,4 @@ DomainsAreShallow = (m : Objects) (h : Home) → AreSound m h → depth (documen
 -- so a text of at most 2^27 bytes that reads as the document is loaded as what the domain holds
 abbrev pub TextsAreLoaded : Type 0
 TextsAreLoaded = (m : Objects) (h : Home) (text : List ℕ) → AreSound m h → length text ≤ 2 ^ 27 → IsUtf8 text
-    → (depth (document_tree m h) ≤ max_depth → read text ≡ Some (document_tree m h)) → LoadsText text (held_in m h)
+    → (depth (document_tree m h) ≤ max_depth → read text ≡ Some (document_tree m h)) → LoadsText text (loaded_from m h)
