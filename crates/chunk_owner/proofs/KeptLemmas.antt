@@ -16,7 +16,7 @@ use Rattle.object_ops.specs.declared.refusals.Refusal.{Refusal}
 use Rattle.object_ops.specs.declared.refusals.Refusal.TheVariants.{NoObject, Root}
 use Rattle.object_ops.specs.declared.replies.Reply.{Reply}
 use Rattle.object_ops.specs.declared.replies.Reply.TheVariants.{Done, Refused}
-use Rattle.object_ops.specs.Answers.{Follows}
+use Rattle.object_ops.specs.Replies.{Follows}
 use Rattle.object_ops.specs.Parts.{id_of}
 use Rattle.object_acts.specs.declared.objects.Object.{Object}
 use Rattle.object_acts.specs.Objects.{unmarked, Objects}

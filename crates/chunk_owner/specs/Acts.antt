@@ -16,7 +16,7 @@ use Rattle.object_ops.specs.declared.replies.Reply.{Reply}
 use Rattle.object_ops.specs.declared.replies.Reply.TheVariants.{Done, Refused}
 use Rattle.object_ops.specs.declared.refusals.Refusal.{Refusal}
 use Rattle.object_ops.specs.declared.refusals.Refusal.TheVariants.{NoObject, Gone, Root}
-use Rattle.object_ops.specs.Answers.{nothing}
+use Rattle.object_ops.specs.Replies.{nothing}
 use Rattle.object_ops.specs.Parts.{id_of, kind_made}
 use Rattle.object_acts.specs.declared.objects.Object.{Object}
 use Rattle.object_acts.specs.Objects.{empty_group, made, Objects}

@@ -7,7 +7,7 @@ ghost use Rattle.containers.specs.TextMaps.Nexts.{IsNext, IsKeyStep};
 ghost use Rattle.object_ids.specs.IdValues.{Id};
 ghost use Rattle.object_ids.specs.Ids.{InRange, lane_of};
 ghost use Rattle.object_ids.specs.declared.ids.Kind.TheVariants.{Group};
-ghost use Rattle.object_ops.specs.Answers.{Follows};
+ghost use Rattle.object_ops.specs.Replies.{Follows};
 ghost use Rattle.object_ops.specs.Conditions.{IsSoundOp};
 ghost use Rattle.object_acts.specs.Arrays.Marked.{IsDone};
 ghost use Rattle.object_acts.specs.Objects.{unmarked, IsOfKind, IsTrackedBody};

@@ -2,7 +2,7 @@
 
 ghost use Rattle.std.specs.Prelude.{◌≡◌, [], None};
 ghost use Rattle.std.specs.FinMap.{get};
-ghost use Rattle.object_ops.specs.Answers.{Follows, was_done};
+ghost use Rattle.object_ops.specs.Replies.{Follows, was_done};
 ghost use Rattle.object_ops.specs.Conditions.{IsSoundMake};
 ghost use Rattle.object_acts.specs.Arrays.Marked.{IsDone};
 ghost use Rattle.object_acts.specs.Objects.{made, unmarked, IsOfKind, IsTrackedBody};

@@ -2,7 +2,7 @@
 
 ghost use Rattle.std.specs.Prelude.{◌≡◌, IsSomeAnd, Some};
 ghost use Rattle.object_ids.specs.declared.ids.Kind.TheVariants.{Group};
-ghost use Rattle.object_ops.specs.Answers.{Follows};
+ghost use Rattle.object_ops.specs.Replies.{Follows};
 ghost use Rattle.object_ops.specs.Conditions.{IsSoundOp, IsSoundMake, IsSoundPlace};
 ghost use Rattle.object_acts.specs.Arrays.Marked.{IsDone};
 ghost use Rattle.chunk_owner.specs.Slots.Marking.{AddsMarks};

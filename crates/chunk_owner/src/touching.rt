@@ -4,7 +4,7 @@ ghost use Rattle.std.specs.Prelude.{◌≡◌, ◌==◌, true, None, IsTrue};
 ghost use Rattle.std.specs.FinMap.{get};
 ghost use Rattle.groups_links.specs.Titles.{IsGoodTitle};
 ghost use Rattle.object_ids.specs.declared.ids.Kind.TheVariants.{Group};
-ghost use Rattle.object_ops.specs.Answers.{Follows, was_done};
+ghost use Rattle.object_ops.specs.Replies.{Follows, was_done};
 ghost use Rattle.object_ops.specs.Conditions.{IsSoundOp};
 ghost use Rattle.object_acts.specs.Arrays.Marked.{IsDone};
 ghost use Rattle.object_acts.specs.Acts.{reads_object, reply_of, changes_object, change_of};

@@ -26,7 +26,7 @@ use Rattle.command_words.proofs.Whole.{named_of}
 -- ---- what is read is a line
 
 -- the pieces are the earlier ones and those of the parts
-record Reads (row : Row) (earlier : List Piece) (words : List Text) (all : List Piece) : Type 0 where
+record AddsParts (row : Row) (earlier : List Piece) (words : List Text) (all : List Piece) : Type 0 where
   parts : List Part
   spelled : words ≡ spellings parts
   own : list_all (is_part row) parts ≡ true
@@ -35,13 +35,13 @@ record Reads (row : Row) (earlier : List Piece) (words : List Text) (all : List 
 
 -- an option that waits has its name in front
 abbrev Sound : Row → Option Text → List Piece → List Text → List Piece → Type 0
-Sound row None earlier words all = Reads row earlier words all
-Sound row (Some name) earlier words all = has name row.options ≡ true → Reads row earlier (option_word name ∷ words) all
+Sound row None earlier words all = AddsParts row earlier words all
+Sound row (Some name) earlier words all = has name row.options ≡ true → AddsParts row earlier (option_word name ∷ words) all
 
 module _ (row : Row) where
   one_more : (form : Form) (name value : Text) (earlier next all : List Piece) (words : List Text)
       → is_named row form name ≡ true → Took name value earlier next
-      → Reads row next words all → Reads row earlier (spelling form name value ++ words) all
+      → AddsParts row next words all → AddsParts row earlier (spelling form name value ++ words) all
   one_more form name value earlier next all words own got r = record {
     parts = record { form = form; name = name; value = value } ∷ r.parts;
     spelled = ap (λ (l : List Text). spelling form name value ++ l) r.spelled;
@@ -55,17 +55,17 @@ module _ (row : Row) where
   idle_more : (form : Form) (name value : Text) (earlier all : List Piece) (words : List Text) (s : State)
       → is_named row form name ≡ true
       → idle_with (with_piece name value earlier) ≡ Some s → Sound row s.0 s.1 words all
-      → Reads row earlier (spelling form name value ++ words) all
+      → AddsParts row earlier (spelling form name value ++ words) all
   idle_more form name value earlier all words s own e later =
       let got = took_idle name value earlier s e in
       one_more form name value earlier s.1 all words own got.1 (subst (λ (o : Option Text). Sound row o s.1 words all) got.0 later)
 
   placed_more : (word : Text) (earlier all : List Piece) (rest : List Text) (s : State)
       → placed row.place word earlier ≡ Some s → Sound row s.0 s.1 rest all
-      → Reads row earlier (word ∷ rest) all
+      → AddsParts row earlier (word ∷ rest) all
   placed_more word earlier all rest s e later = go row.place refl
     where
-      go : (o : Option Text) → row.place ≡ o → Reads row earlier (word ∷ rest) all
+      go : (o : Option Text) → row.place ≡ o → AddsParts row earlier (word ∷ rest) all
       go None at = let bad : None ≡ Some s = sym (ap (λ (o : Option Text). placed o word earlier) at)
           ∙ e in cc
       go (Some name) at = idle_more alone name word earlier all rest s (ap (is_place name) at ∙ (bytes_eq-Decides name name).1 refl)
@@ -73,7 +73,7 @@ module _ (row : Row) where
 
   named_more : (o : Text × Option Text) (earlier all : List Piece) (rest : List Text) (s : State)
       → has o.0 row.options ≡ true → named o.1 o.0 earlier ≡ Some s
-      → Sound row s.0 s.1 rest all → Reads row earlier (option_word (written o) ∷ rest) all
+      → Sound row s.0 s.1 rest all → AddsParts row earlier (option_word (written o) ∷ rest) all
   named_more (name, None) earlier all rest s own e later =
       let same : (Some name, earlier) ≡ s = cc in
       subst (λ (x : State). Sound row x.0 x.1 rest all) (sym same) later own
@@ -82,11 +82,11 @@ module _ (row : Row) where
   option_more : (o : Text × Option Text) (word : Text) (earlier all : List Piece) (rest : List Text) (s : State)
       → word ≡ option_word (written o)
       → opened row (Some o) word earlier ≡ Some s → Sound row s.0 s.1 rest all
-      → Reads row earlier (word ∷ rest) all
+      → AddsParts row earlier (word ∷ rest) all
   option_more o word earlier all rest s is e later = go (has o.0 row.options) refl
     where
-      go : (b : Bool) → has o.0 row.options ≡ b → Reads row earlier (word ∷ rest) all
-      go true own = subst (λ (w : Text). Reads row earlier (w ∷ rest) all) (sym is)
+      go : (b : Bool) → has o.0 row.options ≡ b → AddsParts row earlier (word ∷ rest) all
+      go true own = subst (λ (w : Text). AddsParts row earlier (w ∷ rest) all) (sym is)
           (named_more o earlier all rest s own (sym (ap (λ (b : Bool). if b then named o.1 o.0 earlier else None) own) ∙ e) later)
       go false own = let bad : None ≡ Some s = sym (ap (λ (b : Bool). if b then named o.1 o.0 earlier else None) own)
           ∙ e in cc
@@ -98,7 +98,7 @@ module _ (row : Row) where
   word_more None word earlier all rest s e later = go (long_of word) refl
     where
       go : (o : Option (Text × Option Text)) → long_of word ≡ o
-          → Reads row earlier (word ∷ rest) all
+          → AddsParts row earlier (word ∷ rest) all
       go None is = placed_more word earlier all rest s (sym (ap (λ (o : Option (Text × Option Text)). opened row o word earlier) is) ∙ e) later
       go (Some o) is = option_more o word earlier all rest s (long_written word o is) (sym (ap (λ (o : Option (Text × Option Text)). opened row o word earlier) is) ∙ e) later
 

@@ -1,4 +1,4 @@
-pub mod Answers
+pub mod Readings
 pub mod Faults
 pub mod Lists
 pub mod Nodes

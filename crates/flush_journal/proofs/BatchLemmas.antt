@@ -6,7 +6,7 @@ use Rattle.std.proofs.lemmas.Bool.Decides.{nat_tests}
 use Rattle.std.proofs.lemmas.List.{take_at, drop_at, append-nil}
 use Rattle.flush_journal.specs.Records.{Record, split_front, is_key_length, split_key, split_body, first_record, records_of, four_bytes, eight_bytes, encoded, encoded_all}
 use Rattle.flush_journal.specs.Frames.{record_size, framed, frame_of, framed_records, payload_of}
-use Rattle.flush_journal.specs.Markers.{EndsShut}
+use Rattle.flush_journal.specs.Markers.{EndsInClosedMarker}
 use Rattle.flush_journal.proofs.RecordLemmas.{split-append, split_number_4-append, length-four_bytes, length-eight_bytes, records_of_first, records_of_more, records_of_nothing}
 
 split_key-append : (key rest : List ℕ) → 0 < length key → length key < 65536 → split_key (four_bytes (length key) ++ (key ++ rest)) ≡ Some (key, rest)
@@ -49,7 +49,7 @@ pub length-framed : (p : List ℕ) → length (framed p) ≡ length p + 9
 unfolding framed
 length-framed p = length-append (eight_bytes (length p) ++ p) (0 ∷ []) ∙ omega (arith, length-append (eight_bytes (length p)) p, length-eight_bytes (length p))
 
-pub ends_shut : (p : List ℕ) → EndsShut (framed p)
+pub ends_shut : (p : List ℕ) → EndsInClosedMarker (framed p)
 unfolding framed
 ends_shut p = (eight_bytes (length p) ++ p, refl)
 

@@ -3,14 +3,14 @@ use Rattle.std.proofs.Common.{◌≡◌, ◌≢◌, inl, inr, ℕ, ◌+◌, ◌<
 use Rattle.std.proofs.Math.Seq.{get_or-append_seam}
 use Rattle.std.proofs.lemmas.List.{drop_more, length-take-le}
 use Rattle.edge_traits.specs.Disks.{Only, LeavesNoMore}
-use Rattle.flush_journal.specs.Markers.{Shut, Opened, Either, OnlyHas, MarkerStands, EndsShut}
+use Rattle.flush_journal.specs.Markers.{HasClosedMarker, HasOpenMarker, Either, OnlyHas, MarkerStands, EndsInClosedMarker}
 
 -- the byte behind a front
 pub seam : (front : List ℕ) (marker : ℕ) (tail : List ℕ) (end : ℕ) → length front ≡ end → slice_index (front ++ marker ∷ tail) end ≡ marker
 seam front marker tail end place = ap (λ (n : ℕ). get_or (front ++ marker ∷ tail) n 0) (sym place) ∙ get_or-append_seam front marker tail 0
 
 -- where no frame stands the marker is shut
-pub shut_of_stands : (end : ℕ) (bytes : List ℕ) → MarkerStands end 0 bytes → (length (take end bytes) ≡ end) × Shut (take end bytes) bytes
+pub shut_of_stands : (end : ℕ) (bytes : List ℕ) → MarkerStands end 0 bytes → (length (take end bytes) ≡ end) × HasClosedMarker (take end bytes) bytes
 shut_of_stands end bytes stands = (
   length-take-le end bytes (omega (arith, stands.inside)),
   (
@@ -25,7 +25,7 @@ size_behind : (front : List ℕ) (marker : ℕ) (frame tail : List ℕ) → leng
 size_behind front marker frame tail = length-append front (marker ∷ (frame ++ tail)) ∙ omega (arith, length-append frame tail)
 
 -- the last byte of a frame behind a front
-last_byte : (front frame tail : List ℕ) (marker end : ℕ) → length front ≡ end → EndsShut frame → slice_index (front ++ marker ∷ (frame ++ tail)) (end + length frame) ≡ 0
+last_byte : (front frame tail : List ℕ) (marker end : ℕ) → length front ≡ end → EndsInClosedMarker frame → slice_index (front ++ marker ∷ (frame ++ tail)) (end + length frame) ≡ 0
 last_byte front frame tail marker end place ends =
     let body = ends.0 in
     let split : front ++ marker ∷ (frame ++ tail) ≡ (front ++ marker ∷ body) ++ 0 ∷ tail =
@@ -33,10 +33,10 @@ last_byte front frame tail marker end place ends =
     ap (λ (l : List ℕ). get_or l (end + length frame) 0) split
     ∙ seam (front ++ marker ∷ body) 0 tail (end + length frame) (length-append front (marker ∷ body) ∙ omega (arith, place, ap length ends.1, length-append body (0 ∷ [])))
 
-frame_size : (frame : List ℕ) → EndsShut frame → 0 < length frame
+frame_size : (frame : List ℕ) → EndsInClosedMarker frame → 0 < length frame
 frame_size frame ends = omega (arith, ap length ends.1, length-append ends.0 (0 ∷ []))
 
-pub stands_of_opened : (front frame bytes : List ℕ) (end : ℕ) → length front ≡ end → EndsShut frame → Opened front frame bytes → MarkerStands (end + length frame) 0 bytes
+pub stands_of_opened : (front frame bytes : List ℕ) (end : ℕ) → length front ≡ end → EndsInClosedMarker frame → HasOpenMarker front frame bytes → MarkerStands (end + length frame) 0 bytes
 stands_of_opened front frame bytes end place ends opened =
     let size = ap length opened.1 ∙ size_behind front 1 frame opened.0 in
     let last = ap (λ (l : List ℕ). get_or l (end + length frame) 0) opened.1 ∙ last_byte front frame opened.0 1 end place ends in
@@ -45,7 +45,7 @@ stands_of_opened front frame bytes end place ends opened =
       whole = λ is_open. absurd (let no : 1 ≡ 0 = sym is_open ∙ last in omega (arith, no));
     }
 
-pub stands_of_either : (front frame bytes : List ℕ) (end : ℕ) → length front ≡ end → EndsShut frame → Either front frame bytes → MarkerStands end (length frame) bytes
+pub stands_of_either : (front frame bytes : List ℕ) (end : ℕ) → length front ≡ end → EndsInClosedMarker frame → Either front frame bytes → MarkerStands end (length frame) bytes
 stands_of_either front frame bytes end place ends (inl shut) =
     let size : length bytes ≡ length front + 1 + length shut.1 = ap length shut.3 ∙ length-append front (shut.0 ∷ shut.1) ∙ omega arith in
     record {
@@ -61,11 +61,11 @@ stands_of_either front frame bytes end place ends (inr opened) =
     }
 
 -- the marker tells which of both it is
-pub either_open : (front frame bytes : List ℕ) (end : ℕ) → length front ≡ end → slice_index bytes end ≡ 1 → Either front frame bytes → Opened front frame bytes
+pub either_open : (front frame bytes : List ℕ) (end : ℕ) → length front ≡ end → slice_index bytes end ≡ 1 → Either front frame bytes → HasOpenMarker front frame bytes
 either_open front frame bytes end place is_open (inl shut) = absurd (shut.2 (sym (seam front shut.0 shut.1 end place) ∙ ap (λ (l : List ℕ). get_or l end 0) (sym shut.3) ∙ is_open))
 either_open front frame bytes end place is_open (inr opened) = opened
 
-pub either_shut : (front frame bytes : List ℕ) (end : ℕ) → length front ≡ end → slice_index bytes end ≢ 1 → Either front frame bytes → Shut front bytes
+pub either_shut : (front frame bytes : List ℕ) (end : ℕ) → length front ≡ end → slice_index bytes end ≢ 1 → Either front frame bytes → HasClosedMarker front bytes
 either_shut front frame bytes end place shut_ (inl shut) = shut
 either_shut front frame bytes end place shut_ (inr opened) = absurd (shut_ (ap (λ (l : List ℕ). get_or l end 0) opened.1 ∙ seam front 1 (frame ++ opened.0) end place))
 
@@ -78,13 +78,13 @@ moved_of_stands end size bytes stands is_open =
 pub shut_stands : (end size : ℕ) (bytes : List ℕ) → MarkerStands end size bytes → slice_index bytes end ≢ 1 → MarkerStands end 0 bytes
 shut_stands end size bytes stands shut = record { inside = stands.inside; whole = λ is_open. absurd (shut is_open) }
 
-pub shut_long : (front bytes : List ℕ) (end : ℕ) → length front ≡ end → Shut front bytes → end < length bytes
+pub shut_long : (front bytes : List ℕ) (end : ℕ) → length front ≡ end → HasClosedMarker front bytes → end < length bytes
 shut_long front bytes end place shut = omega (arith, place, ap length shut.3, length-append front (shut.0 ∷ shut.1))
 
 -- after a sync and a look at the marker, which was found shut
 pub found_shut : (front frame r0 r1 r2 : List ℕ) (i1 i2 : List ℕ → Type 0) (end : ℕ) → length front ≡ end → Either front frame r0 → r1 ≡ r0 → r2 ≡ r1
-    → Only r0 i1 → LeavesNoMore i1 i2 → slice_index r1 end ≢ 1 → OnlyHas (Shut front) r2 i2
+    → Only r0 i1 → LeavesNoMore i1 i2 → slice_index r1 end ≢ 1 → OnlyHas (HasClosedMarker front) r2 i2
 found_shut front frame r0 r1 r2 i1 i2 end place either e1 e2 only fewer shut = record {
-  now = subst (Shut front) (sym (e2 ∙ e1)) (either_shut front frame r0 end place (subst (λ (l : List ℕ). slice_index l end ≢ 1) e1 shut) either);
+  now = subst (HasClosedMarker front) (sym (e2 ∙ e1)) (either_shut front frame r0 end place (subst (λ (l : List ℕ). slice_index l end ≢ 1) e1 shut) either);
   only = λ i left. only i (fewer i left) ∙ sym (e2 ∙ e1);
 }

@@ -4,7 +4,7 @@ use Rattle.edge_traits.specs.Disks.{Only}
 use Rattle.flush_journal.specs.Records.{Record, Held, records_of, encoded_all, put_all}
 use Rattle.flush_journal.specs.Files.{Content, content}
 use Rattle.flush_journal.specs.Frames.{frame_of, need_of}
-use Rattle.flush_journal.specs.Markers.{Shut, Opened, Either, OnlyHas, EndsShut}
+use Rattle.flush_journal.specs.Markers.{HasClosedMarker, HasOpenMarker, Either, OnlyHas, EndsInClosedMarker}
 use Rattle.flush_journal.specs.Standing.{with_batch, HasEither, HoldsEither}
 use Rattle.flush_journal.proofs.ContentLemmas.{content_found, IsFront, front_of, content-shut, content-opened, held-content}
 use Rattle.flush_journal.proofs.BatchLemmas.{length-framed, ends_shut}
@@ -13,7 +13,7 @@ use Rattle.flush_journal.proofs.BatchLemmas.{length-framed, ends_shut}
 pub record Start (reads : List ℕ) (images : List ℕ → Type 0) (c : Content) : Type 0 where
   pub front : List ℕ
   pub is_front : IsFront front c
-  pub has : OnlyHas (Shut front) reads images
+  pub has : OnlyHas (HasClosedMarker front) reads images
 
 pub start_of : (reads : List ℕ) (images : List ℕ → Type 0) (c : Content) → content reads ≡ Ok c → Only reads images → Start reads images c
 start_of reads images c is only =
@@ -34,7 +34,7 @@ length-frame_of (r ∷ rs) some = length-framed (encoded_all (r ∷ rs))
 pub need_of-size : (rs : List Record) (frame : List ℕ) → rs ≢ [] → frame ≡ frame_of rs → length frame + 1 ≡ need_of rs
 need_of-size rs frame some is = ap (λ (l : List ℕ). length l + 1) is ∙ omega (arith, length-frame_of rs some)
 
-pub frame_ends : (rs : List Record) → rs ≢ [] → EndsShut (frame_of rs)
+pub frame_ends : (rs : List Record) → rs ≢ [] → EndsInClosedMarker (frame_of rs)
 frame_ends [] some = absurd (some refl)
 frame_ends (r ∷ rs) some = ends_shut (encoded_all (r ∷ rs))
 
@@ -59,7 +59,7 @@ with_batch-end c [] some = absurd (some refl)
 with_batch-end c (r ∷ rs) some = omega (arith, length-framed (encoded_all (r ∷ rs)))
 
 module _ (front : List ℕ) (c : Content) (is : IsFront front c) (rs : List Record) (are : AreBatch rs) where
-  pub shut_content : (bytes : List ℕ) → Shut front bytes → content bytes ≡ Ok c
+  pub shut_content : (bytes : List ℕ) → HasClosedMarker front bytes → content bytes ≡ Ok c
   shut_content bytes shut = ap content shut.3 ∙ content-shut front c is shut.0 shut.1 shut.2
 
   opened_case : (qs : List Record) → AreBatch qs → (tail : List ℕ) → content (front ++ 1 ∷ (frame_of qs ++ tail)) ≡ Ok (with_batch c qs)
@@ -67,7 +67,7 @@ module _ (front : List ℕ) (c : Content) (is : IsFront front c) (rs : List Reco
   opened_case (r ∷ qs) of_ tail =
       content-opened front c is (encoded_all (r ∷ qs)) (r ∷ qs) (omega (arith, of_.small, length-framed (encoded_all (r ∷ qs)))) of_.read tail
 
-  pub opened_content : (bytes : List ℕ) → Opened front (frame_of rs) bytes → content bytes ≡ Ok (with_batch c rs)
+  pub opened_content : (bytes : List ℕ) → HasOpenMarker front (frame_of rs) bytes → content bytes ≡ Ok (with_batch c rs)
   opened_content bytes opened = ap content opened.1 ∙ opened_case rs are opened.0
 
   pub either_content : (bytes : List ℕ) → Either front (frame_of rs) bytes → HasEither c (with_batch c rs) bytes

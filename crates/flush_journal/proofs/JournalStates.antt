@@ -8,8 +8,8 @@ use Rattle.flush_journal.specs.Batches.{records, owed_size}
 use Rattle.flush_journal.specs.Records.{Record, records_of, encoded_all}
 use Rattle.flush_journal.specs.Files.{Content}
 use Rattle.flush_journal.specs.Frames.{frame_of}
-use Rattle.flush_journal.specs.Markers.{Opened, Either, AllHave, OnlyHas}
-use Rattle.flush_journal.specs.Moments.{Leaves}
+use Rattle.flush_journal.specs.Markers.{HasOpenMarker, Either, AllHave, OnlyHas}
+use Rattle.flush_journal.specs.Moments.{CrashLeaves}
 use Rattle.flush_journal.specs.Standing.{pending_of, with_batch, Numbers, IsSettled, IsOwed, HasEither}
 use Rattle.flush_journal.proofs.ContentLemmas.{IsFront, content-shut}
 use Rattle.flush_journal.proofs.JournalLemmas.{AreBatch, opened_content, either_content, with_batch-version, with_batch-lanes, with_batch-batches, with_batch-end}
@@ -37,7 +37,7 @@ module _ {D : Type 0} {met : Ghosts D} (j : Journal D met) (c : Content) (rs : L
   }
 
   pub settled_by : pending_of j ≡ None → j.numbers.version ≡ c.version → j.numbers.lanes ≡ c.lanes → j.numbers.batches ≡ c.batches + 1 → j.numbers.end ≡ c.end + length (frame_of rs)
-      → OnlyHas (Opened front (frame_of rs)) (met.reads j.disk) (met.images j.disk) → IsSettled j (with_batch c rs)
+      → OnlyHas (HasOpenMarker front (frame_of rs)) (met.reads j.disk) (met.images j.disk) → IsSettled j (with_batch c rs)
   settled_by idle version lanes batches end has = record {
     idle = idle;
     numbers = record {
@@ -50,7 +50,7 @@ module _ {D : Type 0} {met : Ghosts D} (j : Journal D met) (c : Content) (rs : L
     only = has.only;
   }
 
-  pub leaves_either : (old new : D) → Leaves met old new (Either front (frame_of rs)) → Leaves met old new (HasEither c (with_batch c rs))
+  pub leaves_either : (old new : D) → CrashLeaves met old new (Either front (frame_of rs)) → CrashLeaves met old new (HasEither c (with_batch c rs))
   leaves_either old new l = weaker met old new (Either front (frame_of rs)) (HasEither c (with_batch c rs)) (either_content front c is rs are) l
 
 -- the batch that is pending has some record

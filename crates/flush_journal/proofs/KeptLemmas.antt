@@ -3,13 +3,13 @@ use Rattle.std.proofs.Common.{◌≡◌, ℕ, ◌<◌, Bool, true, false, cond, 
 use Rattle.std.specs.Cmp.Lexicographic.{nat_list_cmp_total}
 use Rattle.std.specs.FinMap as map
 use Rattle.containers.specs.TextMaps.Keyed.{text_order}
-use Rattle.flush_journal.specs.Records.{Record, Held, IsRecord, AreKept}
+use Rattle.flush_journal.specs.Records.{Record, Held, IsRecord, IsRecordMap}
 use Rattle.flush_journal.proofs.PutLemmas.{tied}
 
-pub kept_empty : (m : Held) → m ≡ map.empty → AreKept m
+pub kept_empty : (m : Held) → m ≡ map.empty → IsRecordMap m
 kept_empty m is = λ q b e. absurd (let none : map.get m q ≡ None = ap (λ (n : Held). map.get n q) is ∙ map.get-empty text_order q in cc)
 
-pub kept_removed : (m n : Held) (key : List ℕ) → n ≡ map.remove m key → AreKept m → AreKept n
+pub kept_removed : (m n : Held) (key : List ℕ) → n ≡ map.remove m key → IsRecordMap m → IsRecordMap n
 kept_removed m n key is kept = λ q b e.
     here q b (is_eq (text_order q key)) (sym (ap (λ (l : Held). map.get l q) is ∙ map.get-remove nat_list_cmp_total m key q) ∙ e)
   where
@@ -17,7 +17,7 @@ kept_removed m n key is kept = λ q b e.
     here q b true e = absurd (cc)
     here q b false e = kept q b e
 
-pub kept_put : (m n : Held) (key body : List ℕ) → n ≡ map.insert m key body → IsRecord (key, body) → 0 < length body → AreKept m → AreKept n
+pub kept_put : (m n : Held) (key body : List ℕ) → n ≡ map.insert m key body → IsRecord (key, body) → 0 < length body → IsRecordMap m → IsRecordMap n
 kept_put m n key body is sound some kept = λ q b e.
     here q b (is_eq (text_order q key)) refl (sym (ap (λ (l : Held). map.get l q) is ∙ map.get-insert nat_list_cmp_total m key body q) ∙ e)
   where
@@ -29,6 +29,6 @@ kept_put m n key body is sound some kept = λ q b e.
     here q b false tie e = kept q b e
 
 -- also where the body couldn't be put
-pub kept_tried : {T E : Type 0} (r : Result T E) (m n : Held) (key body : List ℕ) → OnOk r (n ≡ map.insert m key body) → OnErr r (n ≡ m) → IsRecord (key, body) → 0 < length body → AreKept m → AreKept n
+pub kept_tried : {T E : Type 0} (r : Result T E) (m n : Held) (key body : List ℕ) → OnOk r (n ≡ map.insert m key body) → OnErr r (n ≡ m) → IsRecord (key, body) → 0 < length body → IsRecordMap m → IsRecordMap n
 kept_tried (Ok x) m n key body ok err sound some kept = kept_put m n key body ok sound some kept
-kept_tried (Err e) m n key body ok err sound some kept = subst AreKept (sym err) kept
+kept_tried (Err e) m n key body ok err sound some kept = subst IsRecordMap (sym err) kept

@@ -3,7 +3,7 @@ use Rattle.std.proofs.Common.{◌≡◌, inl, inr, ℕ, ◌+◌, List, [], ◌�
 use Rattle.std.proofs.lemmas.Bool.{cases_eq}
 use Rattle.std.proofs.lemmas.List.{take_at, drop_at, drop_more}
 use Rattle.edge_traits.specs.Disks.{Written, Torn, Follows}
-use Rattle.flush_journal.specs.Markers.{Shut, IsLaid, Opened, Either, AllHave, OnlyHas}
+use Rattle.flush_journal.specs.Markers.{HasClosedMarker, IsLaid, HasOpenMarker, Either, AllHave, OnlyHas}
 
 -- the front with the marker behind it, and the place of each
 marker_split : (front : List ℕ) (marker : ℕ) (tail : List ℕ) → front ++ marker ∷ tail ≡ (front ++ marker ∷ []) ++ tail
@@ -20,7 +20,7 @@ module _ (front : List ℕ) (end : ℕ) (place : length front ≡ end) where
   behind_marker marker tail = ap (drop (end + 1)) (marker_split front marker tail) ∙ drop_at (front ++ marker ∷ []) tail (end + 1) (omega (arith, front_size front marker, place))
 
   -- a write behind the marker that was torn leaves the marker shut
-  pub torn_behind : (n : ℕ) (old new : List ℕ) → Shut front old → Torn (end + 1) n old new → Shut front new
+  pub torn_behind : (n : ℕ) (old new : List ℕ) → HasClosedMarker front old → Torn (end + 1) n old new → HasClosedMarker front new
   torn_behind n old new shut torn =
       let same : take (end + 1) new ≡ front ++ shut.0 ∷ [] = torn.before ∙ ap (take (end + 1)) shut.3 ∙ front_and_marker shut.0 shut.1 in (
         shut.0,
@@ -30,7 +30,7 @@ module _ (front : List ℕ) (end : ℕ) (place : length front ≡ end) where
       )
 
   -- a write behind the marker lays the frame
-  pub written_behind : (frame old new : List ℕ) → Shut front old → Written (end + 1) frame old new → IsLaid front frame new
+  pub written_behind : (frame old new : List ℕ) → HasClosedMarker front old → Written (end + 1) frame old new → IsLaid front frame new
   written_behind frame old new shut written =
       let rest = drop (end + 1 + length frame) old in (
         shut.0,
@@ -41,7 +41,7 @@ module _ (front : List ℕ) (end : ℕ) (place : length front ≡ end) where
       )
 
   -- a laid frame's marker is shut
-  pub laid_shut : (frame bytes : List ℕ) → IsLaid front frame bytes → Shut front bytes
+  pub laid_shut : (frame bytes : List ℕ) → IsLaid front frame bytes → HasClosedMarker front bytes
   laid_shut frame bytes laid = (laid.0, frame ++ laid.1, laid.2, laid.3)
 
   -- a write of the marker that was torn leaves it open or shut
@@ -60,7 +60,7 @@ module _ (front : List ℕ) (end : ℕ) (place : length front ≡ end) where
       ]
 
   -- a write of the marker opens it
-  pub written_marker : (frame old new : List ℕ) → IsLaid front frame old → Written end (1 ∷ []) old new → Opened front frame new
+  pub written_marker : (frame old new : List ℕ) → IsLaid front frame old → Written end (1 ∷ []) old new → HasOpenMarker front frame new
   written_marker frame old new laid written =
       let before : take end old ≡ front = ap (take end) laid.3 ∙ take_at front (laid.0 ∷ (frame ++ laid.1)) end place in
       let after : drop (end + 1) old ≡ frame ++ laid.1 = ap (drop (end + 1)) laid.3 ∙ behind_marker laid.0 (frame ++ laid.1) in (
@@ -69,10 +69,10 @@ module _ (front : List ℕ) (end : ℕ) (place : length front ≡ end) where
       )
 
   -- the same of each image
-  pub images_behind : (n : ℕ) (reads : List ℕ) (old new : List ℕ → Type 0) → OnlyHas (Shut front) reads old → Follows (Torn (end + 1) n) old new → (i : List ℕ) → new i → Shut front i
+  pub images_behind : (n : ℕ) (reads : List ℕ) (old new : List ℕ → Type 0) → OnlyHas (HasClosedMarker front) reads old → Follows (Torn (end + 1) n) old new → (i : List ℕ) → new i → HasClosedMarker front i
   images_behind n reads old new has follows i left =
       let from = follows i left in
-      torn_behind n from.0 i (subst (Shut front) (sym (has.only from.0 from.1)) has.now) from.2
+      torn_behind n from.0 i (subst (HasClosedMarker front) (sym (has.only from.0 from.1)) has.now) from.2
 
   pub images_marker : (frame reads : List ℕ) (old new : List ℕ → Type 0) → OnlyHas (IsLaid front frame) reads old → Follows (Torn end 1) old new → (i : List ℕ) → new i → Either front frame i
   images_marker frame reads old new has follows i left =

@@ -3,20 +3,20 @@ use Rattle.std.specs.Prelude.{◌≡◌, ◌≢◌, ◌⊎◌, ℕ, ◌+◌, ◌
 use Rattle.edge_traits.specs.Disks.{Only}
 
 -- a closed marker behind this front
-abbrev pub Shut : List ℕ → List ℕ → Type 0
-Shut front bytes = (marker : ℕ) × (tail : List ℕ) × (marker ≢ 1) × (bytes ≡ front ++ marker ∷ tail)
+abbrev pub HasClosedMarker : List ℕ → List ℕ → Type 0
+HasClosedMarker front bytes = (marker : ℕ) × (tail : List ℕ) × (marker ≢ 1) × (bytes ≡ front ++ marker ∷ tail)
 
 -- a closed marker behind this front, and behind the marker all of the frame
 abbrev pub IsLaid : List ℕ → List ℕ → List ℕ → Type 0
 IsLaid front frame bytes = (marker : ℕ) × (tail : List ℕ) × (marker ≢ 1) × (bytes ≡ front ++ marker ∷ (frame ++ tail))
 
 -- an open marker behind this front, and behind the marker all of the frame
-abbrev pub Opened : List ℕ → List ℕ → List ℕ → Type 0
-Opened front frame bytes = (tail : List ℕ) × (bytes ≡ front ++ 1 ∷ (frame ++ tail))
+abbrev pub HasOpenMarker : List ℕ → List ℕ → List ℕ → Type 0
+HasOpenMarker front frame bytes = (tail : List ℕ) × (bytes ≡ front ++ 1 ∷ (frame ++ tail))
 
 -- the batch isn't there, or all of it is
 abbrev pub Either : List ℕ → List ℕ → List ℕ → Type 0
-Either front frame bytes = Shut front bytes ⊎ Opened front frame bytes
+Either front frame bytes = HasClosedMarker front bytes ⊎ HasOpenMarker front frame bytes
 
 -- what reads give has this, and so has each image
 pub record AllHave (P : List ℕ → Type 0) (reads : List ℕ) (images : List ℕ → Type 0) : Type 0 where
@@ -34,5 +34,5 @@ pub record MarkerStands (end frame_size : ℕ) (bytes : List ℕ) : Type 0 where
   pub whole : slice_index bytes end ≡ 1 → (0 < frame_size) × (end + frame_size < length bytes) × (slice_index bytes (end + frame_size) ≢ 1)
 
 -- a frame ends in a closed marker
-abbrev pub EndsShut : List ℕ → Type 0
-EndsShut frame = (front : List ℕ) × (frame ≡ front ++ 0 ∷ [])
+abbrev pub EndsInClosedMarker : List ℕ → Type 0
+EndsInClosedMarker frame = (front : List ℕ) × (frame ≡ front ++ 0 ∷ [])

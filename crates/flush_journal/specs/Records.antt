@@ -110,8 +110,8 @@ pub record IsRecord (r : Record) : Type 0 where
   pub body : length r.1 < 2 ^ 32
 
 -- a map of records whose bodies aren't empty
-abbrev pub AreKept : Held → Type 0
-AreKept m = (key body : List ℕ) → map.get m key ≡ Some body → IsRecord (key, body) × (0 < length body)
+abbrev pub IsRecordMap : Held → Type 0
+IsRecordMap m = (key body : List ℕ) → map.get m key ≡ Some body → IsRecord (key, body) × (0 < length body)
 
 -- what stands at a key after a record with this body
 abbrev pub kept_body : List ℕ → Option (List ℕ)

@@ -15,9 +15,9 @@ MayRefuse end need room before now Exists = ⊥
 MayRefuse end need room before now NoMemory = ⊥
 
 -- Every answer of a write says why
-abbrev pub Answers : (end need room before now : ℕ) → Result (Unit {0}) Why → Type 0
-Answers end need room before now (Ok _) = Unit {0}
-Answers end need room before now (Err why) = MayRefuse end need room before now why
+abbrev pub IsWriteAnswer : (end need room before now : ℕ) → Result (Unit {0}) Why → Type 0
+IsWriteAnswer end need room before now (Ok _) = Unit {0}
+IsWriteAnswer end need room before now (Err why) = MayRefuse end need room before now why
 
 -- that a disk which tells its bytes has no journal's first bytes
 abbrev pub NoMagic : Type 0 → List ℕ → Type 0

@@ -4,8 +4,8 @@ use Rattle.edge_traits.specs.declared.disk.Disk.{Ghosts}
 use Rattle.flush_journal.specs.Records.{Record}
 use Rattle.flush_journal.specs.Files.{Content}
 use Rattle.flush_journal.specs.Frames.{frame_of, need_of}
-use Rattle.flush_journal.specs.Moments.{Leaves}
-use Rattle.flush_journal.specs.Refusals.{Answers}
+use Rattle.flush_journal.specs.Moments.{CrashLeaves}
+use Rattle.flush_journal.specs.Refusals.{IsWriteAnswer}
 use Rattle.flush_journal.specs.Standing.{disk_of, numbers_of, end_of, pending_of, with_batch, IsSettled, IsOwed, HasEither}
 use Rattle.flush_journal.specs.declared.journal.Journal.{Journal}
 use Rattle.flush_journal.specs.declared.report.Report.{Report}
@@ -23,7 +23,7 @@ pub record Tries {D : Type 0} {met : Ghosts D} (old new : Journal D met) (rs : L
   pub counted : OnOk result (numbers_of new ≡ one_more (numbers_of old) rs)
   pub pending : OnErr result (pending_of new ≡ Some rs)
   pub numbers : OnErr result (numbers_of new ≡ numbers_of old)
-  pub cause : Answers (end_of old) (need_of rs) (met.most (disk_of old)) (met.faults (disk_of old)) (met.faults (disk_of new)) result
+  pub cause : IsWriteAnswer (end_of old) (need_of rs) (met.most (disk_of old)) (met.faults (disk_of old)) (met.faults (disk_of new)) result
   pub refused : met.most (disk_of old) < end_of old + need_of rs → result ≡ Err (JournalFull (end_of old) (need_of rs) (met.most (disk_of old)))
   pub untouched : met.most (disk_of old) < end_of old + need_of rs → disk_of new ≡ disk_of old
 
@@ -32,4 +32,4 @@ pub record Tries {D : Type 0} {met : Ghosts D} (old new : Journal D met) (rs : L
 pub record Writes {D : Type 0} {met : Ghosts D} (old new : Journal D met) (c : Content) (rs : List Record) (result : Result (Unit {0}) Why) : Type 0 where
   pub ok : OnOk result (IsSettled new (with_batch c rs))
   pub err : OnErr result (IsOwed new c rs)
-  pub moments : Leaves met (disk_of old) (disk_of new) (HasEither c (with_batch c rs))
+  pub moments : CrashLeaves met (disk_of old) (disk_of new) (HasEither c (with_batch c rs))

@@ -2,8 +2,9 @@
 ghost use Rattle.std.specs.Prelude.{◌≡◌, ◌==◌, ℕ, ◌+◌, ◌^◌, ◌≤◌, ◌<◌, List, length, slice_index, IfOk, OnOk};
 ghost use Rattle.edge_traits.specs.Causes.{HasCause};
 ghost use Rattle.edge_traits.specs.Disks.{Elapses, LeavesNoMore};
-ghost use Rattle.flush_journal.specs.Markers.{Shut, IsLaid, Opened, Either, AllHave, OnlyHas, MarkerStands, EndsShut};
-ghost use Rattle.flush_journal.specs.Moments.{Leaves};
+ghost use Rattle.flush_journal.specs.Markers.{HasClosedMarker, IsLaid, HasOpenMarker, Either};
+ghost use Rattle.flush_journal.specs.Markers.{AllHave, OnlyHas, MarkerStands, EndsInClosedMarker};
+ghost use Rattle.flush_journal.specs.Moments.{CrashLeaves};
 ghost use Rattle.flush_journal.specs.Unchanged.{SameDisk};
 
 use edge_traits::{Disk, Failed};
@@ -17,17 +18,19 @@ fn lay<D: Disk>(disk: &mut D, end: u64, frame: &[u8]) -> Result<(), Failed>
     requires room { end + 1 + length frame.now ≤ D.most disk.old }
     requires inside { D.honest → end < length (D.reads disk.old) }
     ensures kept { D.honest → (front : List ℕ) → length front ≡ end
-        → OnlyHas (Shut front) (D.reads disk.old) (D.images disk.old)
-        → AllHave (Shut front) (D.reads disk.new) (D.images disk.new) }
+        → OnlyHas (HasClosedMarker front) (D.reads disk.old) (D.images disk.old)
+        → AllHave (HasClosedMarker front) (D.reads disk.new) (D.images disk.new) }
     ensures moments { D.honest → (front : List ℕ) → length front ≡ end
-        → OnlyHas (Shut front) (D.reads disk.old) (D.images disk.old)
-        → Leaves D.Disk disk.old disk.new (Shut front) }
+        → OnlyHas (HasClosedMarker front) (D.reads disk.old) (D.images disk.old)
+        → CrashLeaves D.Disk disk.old disk.new (HasClosedMarker front) }
     ensures ok { D.honest → (front : List ℕ) → length front ≡ end
-        → OnlyHas (Shut front) (D.reads disk.old) (D.images disk.old)
+        → OnlyHas (HasClosedMarker front) (D.reads disk.old) (D.images disk.old)
         → OnOk result (OnlyHas (IsLaid front frame.now) (D.reads disk.new) (D.images disk.new)) }
-    ensures reads { D.honest → (front : List ℕ) → length front ≡ end → Shut front (D.reads disk.old)
-        → Shut front (D.reads disk.new) }
-    ensures laid { D.honest → (front : List ℕ) → length front ≡ end → Shut front (D.reads disk.old)
+    ensures reads { D.honest → (front : List ℕ) → length front ≡ end
+        → HasClosedMarker front (D.reads disk.old)
+        → HasClosedMarker front (D.reads disk.new) }
+    ensures laid { D.honest → (front : List ℕ) → length front ≡ end
+        → HasClosedMarker front (D.reads disk.old)
         → OnOk result (IsLaid front frame.now (D.reads disk.new)) }
     ensures same { SameDisk D.Disk disk.old disk.new }
     ensures cause { HasCause (D.faults disk.old) (D.faults disk.new) result }
@@ -45,15 +48,15 @@ fn open_marker<D: Disk>(disk: &mut D, end: u64) -> Result<(), Failed>
         → AllHave (Either front frame) (D.reads disk.new) (D.images disk.new) }
     ensures moments { D.honest → (front frame : List ℕ) → length front ≡ end
         → OnlyHas (IsLaid front frame) (D.reads disk.old) (D.images disk.old)
-        → Leaves D.Disk disk.old disk.new (Either front frame) }
+        → CrashLeaves D.Disk disk.old disk.new (Either front frame) }
     ensures ok { D.honest → (front frame : List ℕ) → length front ≡ end
         → OnlyHas (IsLaid front frame) (D.reads disk.old) (D.images disk.old)
-        → OnOk result (OnlyHas (Opened front frame) (D.reads disk.new) (D.images disk.new)) }
+        → OnOk result (OnlyHas (HasOpenMarker front frame) (D.reads disk.new) (D.images disk.new)) }
     ensures reads { D.honest → (front frame : List ℕ) → length front ≡ end
         → IsLaid front frame (D.reads disk.old) → Either front frame (D.reads disk.new) }
     ensures opened { D.honest → (front frame : List ℕ) → length front ≡ end
         → IsLaid front frame (D.reads disk.old)
-        → OnOk result (Opened front frame (D.reads disk.new)) }
+        → OnOk result (HasOpenMarker front frame (D.reads disk.new)) }
     ensures same { SameDisk D.Disk disk.old disk.new }
     ensures cause { HasCause (D.faults disk.old) (D.faults disk.new) result }
 {
@@ -67,17 +70,18 @@ pub fn write_frame<D: Disk>(disk: &mut D, end: u64, frame: &[u8]) -> Result<(), 
     requires room { end + 1 + length frame.now ≤ D.most disk.old }
     requires stands { D.honest → MarkerStands end 0 (D.reads disk.old) }
     ensures kept { D.honest → (front : List ℕ) → length front ≡ end
-        → OnlyHas (Shut front) (D.reads disk.old) (D.images disk.old)
+        → OnlyHas (HasClosedMarker front) (D.reads disk.old) (D.images disk.old)
         → AllHave (Either front frame.now) (D.reads disk.new) (D.images disk.new) }
     ensures moments { D.honest → (front : List ℕ) → length front ≡ end
-        → OnlyHas (Shut front) (D.reads disk.old) (D.images disk.old)
-        → Leaves D.Disk disk.old disk.new (Either front frame.now) }
+        → OnlyHas (HasClosedMarker front) (D.reads disk.old) (D.images disk.old)
+        → CrashLeaves D.Disk disk.old disk.new (Either front frame.now) }
     ensures ok { D.honest → (front : List ℕ) → length front ≡ end
-        → OnlyHas (Shut front) (D.reads disk.old) (D.images disk.old)
-        → OnOk result (OnlyHas (Opened front frame.now) (D.reads disk.new) (D.images disk.new)) }
-    ensures stands { D.honest → EndsShut frame.now
+        → OnlyHas (HasClosedMarker front) (D.reads disk.old) (D.images disk.old)
+        → OnOk result
+            (OnlyHas (HasOpenMarker front frame.now) (D.reads disk.new) (D.images disk.new)) }
+    ensures stands { D.honest → EndsInClosedMarker frame.now
         → MarkerStands end (length frame.now) (D.reads disk.new) }
-    ensures moved { D.honest → EndsShut frame.now
+    ensures moved { D.honest → EndsInClosedMarker frame.now
         → OnOk result (MarkerStands (end + length frame.now) 0 (D.reads disk.new)) }
     ensures same { SameDisk D.Disk disk.old disk.new }
     ensures cause { HasCause (D.faults disk.old) (D.faults disk.new) result }
@@ -112,13 +116,14 @@ pub fn write_again<D: Disk>(disk: &mut D, end: u64, frame: &[u8]) -> Result<(), 
         → AllHave (Either front frame.now) (D.reads disk.new) (D.images disk.new) }
     ensures moments { D.honest → (front : List ℕ) → length front ≡ end
         → AllHave (Either front frame.now) (D.reads disk.old) (D.images disk.old)
-        → Leaves D.Disk disk.old disk.new (Either front frame.now) }
+        → CrashLeaves D.Disk disk.old disk.new (Either front frame.now) }
     ensures ok { D.honest → (front : List ℕ) → length front ≡ end
         → AllHave (Either front frame.now) (D.reads disk.old) (D.images disk.old)
-        → OnOk result (OnlyHas (Opened front frame.now) (D.reads disk.new) (D.images disk.new)) }
-    ensures stands { D.honest → EndsShut frame.now
+        → OnOk result
+            (OnlyHas (HasOpenMarker front frame.now) (D.reads disk.new) (D.images disk.new)) }
+    ensures stands { D.honest → EndsInClosedMarker frame.now
         → MarkerStands end (length frame.now) (D.reads disk.new) }
-    ensures moved { D.honest → EndsShut frame.now
+    ensures moved { D.honest → EndsInClosedMarker frame.now
         → OnOk result (MarkerStands (end + length frame.now) 0 (D.reads disk.new)) }
     ensures same { SameDisk D.Disk disk.old disk.new }
     ensures cause { HasCause (D.faults disk.old) (D.faults disk.new) result }

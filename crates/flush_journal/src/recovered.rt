@@ -4,7 +4,8 @@ ghost use Rattle.std.specs.FinMap as map;
 ghost use Rattle.std.specs.Option.{option_copied};
 ghost use Rattle.containers.specs.TextMaps.Keyed.{keyed};
 ghost use Rattle.containers.specs.TextMaps.Nexts.{IsNext, IsKeyStep};
-ghost use Rattle.flush_journal.specs.Records.{IsRecord, AreKept, put_record, put_all, records_of};
+ghost use Rattle.flush_journal.specs.Records.{IsRecord, IsRecordMap, put_record, put_all};
+ghost use Rattle.flush_journal.specs.Records.{records_of};
 
 use crate::records::first_record;
 use containers::text_maps::ByteMap;
@@ -58,7 +59,7 @@ impl Model for Recovered {
     ghost use Rattle.std.specs.FinMap as map;
     ghost use Rattle.std.specs.Coded.{coded_ℕ, coded_list};
     ghost use Rattle.containers.specs.TextMaps.Keyed.{text_order};
-    ghost use Rattle.flush_journal.specs.Records.{AreKept};
+    ghost use Rattle.flush_journal.specs.Records.{IsRecordMap};
 
     ghost Value = { map.FinMap text_order (List ℕ) };
 
@@ -66,7 +67,7 @@ impl Model for Recovered {
 
     ghost view = { λ a. a.records };
 
-    ghost invariant = { λ a. AreKept a.records };
+    ghost invariant = { λ a. IsRecordMap a.records };
 }
 
 impl Recovered {
@@ -82,7 +83,7 @@ impl Recovered {
 
     /// Each key has 1 to 65,535 bytes, and each body 1 to 2^32 - 1.
     pub fn sizes(&self)
-        ensures { AreKept self.now }
+        ensures { IsRecordMap self.now }
     {
         let _ = &self.records;
     }

@@ -8,7 +8,7 @@ use Rattle.edge_traits.specs.declared.disk.Disk.{Ghosts}
 use Rattle.flush_journal.specs.declared.why.Why.{Why}
 use Rattle.flush_journal.specs.declared.why.Why.TheVariants as why
 use Rattle.json_import.specs.Kept.Documents.{IsRefused}
-use Rattle.json_import.specs.Kept.Imports.{CameTo, HasCauseOf, IsDiskFault, KeepsAdopted}
+use Rattle.json_import.specs.Kept.Imports.{CameTo, HasCauseOf, IsImportDiskFault, KeepsAdopted}
 use Rattle.json_import.specs.declared.kept.outcome.Outcome.{Outcome}
 use Rattle.json_import.specs.declared.kept.outcome.Outcome.TheVariants as outcome
 use Rattle.service_core.specs.Journals.Opening.{MayRefuseOpening}
@@ -101,7 +101,7 @@ module _ {D : Type 0} (met : Ghosts D) (path owner : List ℕ) (sides : Sides) (
     kept Budget h = absurd h
 
   pub imported : (o : Outcome) (status : Status) → CameTo met before after path owner sides.left_before sides.left_after o → HasCauseOf sides.input_before sides.input_after o
-      → (IsDiskFault o → Rose (met.faults before) (met.faults after)) → IsOutcomeTold o sides.held_before sides.held_after sides.out_before sides.out_after status → Is status
+      → (IsImportDiskFault o → Rose (met.faults before) (met.faults after)) → IsOutcomeTold o sides.held_before sides.held_after sides.out_before sides.out_after status → Is status
   imported (outcome.Unopened refusal) status h cause f told =
       subst Is (sym told.0) (unopened refusal h.0.0 (record { bytes = h.0.1; untouched = untouched sides h.1 told.1 }))
   imported (outcome.Unbegun refusal) status h cause f told = subst Is (sym told.0) (unbegun refusal h.0 (untouched sides h.1 told.1) f)

@@ -9,7 +9,7 @@ use Rattle.flush_journal.specs.declared.why.Why.{Why}
 use Rattle.flush_journal.specs.declared.why.Why.TheVariants as why
 use Rattle.service_core.specs.declared.journals.faults.OpenFault.{OpenFault}
 use Rattle.service_core.specs.declared.journals.faults.OpenFault.TheVariants as fault
-use Rattle.rest_session.specs.Kept.Sessions.{HasCausesOf, IsDiskFault, IsEnded}
+use Rattle.rest_session.specs.Kept.Sessions.{HasCausesOf, IsEnded, IsSessionDiskFault}
 use Rattle.service_core.specs.Journals.Begun.{IsUnbegun}
 use Rattle.rest_session.specs.declared.kept.outcome.Closed.{Closed}
 use Rattle.rest_session.specs.declared.kept.outcome.Outcome.{Outcome}
@@ -71,7 +71,7 @@ module _ {D : Type 0} (met : Ghosts D) (sides : Sides) (before after : D) where
 
   pub session_ended : (config : Config) → Spells sides.text config → (tokens : TokenTable) → tokens ≡ config.tokens → (o : Outcome)
       → IsEnded met before after tokens sides.left_before sides.left_after sides.held_before sides.held_after o
-      → HasCausesOf sides.input_before sides.input_after sides.out_before sides.out_after o → (IsDiskFault o → Rose (met.faults before) (met.faults after))
+      → HasCausesOf sides.input_before sides.input_after sides.out_before sides.out_after o → (IsSessionDiskFault o → Rose (met.faults before) (met.faults after))
       → IsSession met sides before after (closed_by o) (status_by o)
   session_ended config spelled tokens known (outcome.Unopened refusal) e h f = unopened (config, spelled) tokens refusal e f
   session_ended config spelled tokens known (outcome.Unbegun refusal) e h f = unbegun (config, spelled) refusal e.0 (untouched sides e.1 e.2) f

@@ -12,8 +12,8 @@ use Rattle.flush_journal.specs.declared.why.Why.TheVariants as why
 use Rattle.service_core.specs.Journals.Opening.{IsOf}
 use Rattle.service_core.specs.declared.journals.faults.OpenFault.{OpenFault}
 use Rattle.service_core.specs.declared.journals.faults.OpenFault.TheVariants as fault
-use Rattle.rest_session.specs.Kept.Sessions.{HoldsHeld, IsBegun, IsLinkKept}
-use Rattle.flush_journal.specs.Moments.{LeavesSince}
+use Rattle.rest_session.specs.Kept.Sessions.{HoldsHeld, IsLinkKept, IsServedFrom}
+use Rattle.flush_journal.specs.Moments.{CrashLeavesSince}
 use Rattle.service_core.specs.Journals.Begun.{IsUnbegun}
 use Rattle.rest_session.specs.declared.kept.outcome.Closed.{Closed}
 use Rattle.rest_session.specs.declared.kept.outcome.Outcome.{Outcome}
@@ -125,12 +125,12 @@ pub record Serves {D : Type 0} (met : Ghosts D) (sides : Sides) (before after : 
   pub spelled : Spells sides.text config
   pub first : Served met
   pub tokens : first.tokens ≡ config.tokens
-  pub begun : met.honest → IsOf (met.reads before) (λ c. IsBegun c first)
+  pub begun : met.honest → IsOf (met.reads before) (λ c. IsServedFrom c first)
   pub link_closed : Closed
   pub is_closed : closed ≡ Some link_closed
   pub last : Result ℕ Why
   pub served : IsLinkKept first after sides.left_before sides.left_after sides.held_before sides.held_after link_closed last
-  pub crash : met.honest → IsOf (met.reads before) (λ c. LeavesSince met before after (HoldsHeld c.held first served.final served.taken))
+  pub crash : met.honest → IsOf (met.reads before) (λ c. CrashLeavesSince met before after (HoldsHeld c.held first served.final served.taken))
   pub causes : HasCauses sides.input_before sides.input_after sides.out_before sides.out_after link_closed.end
   pub ended : status_after link_closed.end last ≡ status
 

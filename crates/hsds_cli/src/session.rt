@@ -3,7 +3,7 @@
 ghost use Rattle.std.specs.Prelude.{◌≡◌, ◌≤◌, None};
 ghost use Rattle.flush_journal.specs.Unchanged.{SameDisk};
 ghost use Rattle.edge_traits.specs.Causes.{Rose};
-ghost use Rattle.rest_session.specs.Kept.Sessions.{HasCausesOf, IsDiskFault, IsEnded};
+ghost use Rattle.rest_session.specs.Kept.Sessions.{HasCausesOf, IsEnded, IsSessionDiskFault};
 ghost use Rattle.hsds_cli.specs.Sides.{sides_of};
 ghost use Rattle.hsds_cli.specs.Openings.{IsSession, closed_by, refusal_status};
 ghost use Rattle.hsds_cli.specs.Openings.{status_by, status_of};
@@ -72,7 +72,7 @@ fn serve_ends<S: Source, K: Sink, D: Disk>(
     ensures causes { HasCausesOf (S.Source.faults input.old) (S.Source.faults input.new)
         (K.Sink.faults out.old) (K.Sink.faults out.new) result.outcome }
     ensures same { SameDisk D.Disk disk result.disk }
-    ensures disk_fault { IsDiskFault result.outcome
+    ensures disk_fault { IsSessionDiskFault result.outcome
         → Rose (D.faults disk) (D.faults result.disk) }
 {
     let mut link = TwoEnds { input, out };

@@ -23,7 +23,7 @@ use Rattle.object_ops.specs.declared.ops.Op.{Op}
 use Rattle.object_ops.specs.declared.ops.Op.TheVariants.{GetObject, ListLinks, GetLink, PutLink, DropLink, ListAttributes, GetAttribute, PutAttribute, DropAttribute, GetShape, PutShape, GetElem, GetValue, PutValue, GetPoints}
 use Rattle.object_ops.specs.declared.replies.Reply.{Reply}
 use Rattle.object_ops.specs.declared.replies.Reply.TheVariants.{Done, Refused}
-use Rattle.object_ops.specs.Answers.{nothing, only}
+use Rattle.object_ops.specs.Replies.{nothing, only}
 use Rattle.object_ops.specs.declared.refusals.Refusal.TheVariants.{NoObject, Taken, NoName, Limit}
 use Rattle.object_acts.specs.declared.objects.Object.{Object}
 use Rattle.object_acts.specs.declared.objects.Body.{Body}

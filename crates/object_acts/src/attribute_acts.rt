@@ -4,7 +4,7 @@ ghost use Rattle.std.specs.Prelude.{◌≡◌, IfOk, false, codes};
 ghost use Rattle.hdf_values.specs.Attributes.{content, IsSoundAttribute};
 ghost use Rattle.shapes.specs.declared.printing.Form.TheVariants.{Rest};
 ghost use Rattle.attributes.specs.AttributeTrees.{attributes_list};
-ghost use Rattle.object_ops.specs.Answers.{Follows, only};
+ghost use Rattle.object_ops.specs.Replies.{Follows, only};
 ghost use Rattle.object_ops.specs.Conditions.{IsShort};
 ghost use Rattle.object_ops.specs.declared.replies.Reply.TheVariants.{Done};
 ghost use Rattle.object_acts.specs.Acts.{attribute_put, attribute_read, drop_from};

@@ -5,7 +5,7 @@ ghost use Rattle.groups_links.specs.Titles.{IsGoodTitle};
 ghost use Rattle.groups_links.specs.Targets.{IsSoundLink};
 ghost use Rattle.groups_links.specs.declared.target.LinkTo.TheVariants.{Hard};
 ghost use Rattle.object_ids.specs.declared.ids.Kind.{Kind};
-ghost use Rattle.object_ops.specs.Answers.{Follows, was_done};
+ghost use Rattle.object_ops.specs.Replies.{Follows, was_done};
 ghost use Rattle.object_ops.specs.Conditions.{IsSoundOp, AreDims};
 ghost use Rattle.object_acts.specs.Arrays.Arrays.{shape_changed, value_written};
 ghost use Rattle.object_acts.specs.Arrays.Marked.{IsDone, is_truncated, is_written};

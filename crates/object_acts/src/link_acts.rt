@@ -5,7 +5,7 @@ ghost use Rattle.shapes.specs.declared.printing.Form.TheVariants.{Rest};
 ghost use Rattle.groups_links.specs.Titles.{IsGoodTitle};
 ghost use Rattle.groups_links.specs.Targets.{IsSoundLink};
 ghost use Rattle.groups_links.specs.Printed.{links_list};
-ghost use Rattle.object_ops.specs.Answers.{Follows, only};
+ghost use Rattle.object_ops.specs.Replies.{Follows, only};
 ghost use Rattle.object_ops.specs.declared.replies.Reply.TheVariants.{Done};
 ghost use Rattle.object_acts.specs.Acts.{link_put, link_read, drop_from};
 

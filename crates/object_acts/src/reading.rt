@@ -3,7 +3,7 @@
 ghost use Rattle.std.specs.Prelude.{◌≡◌, true, IfOk, codes};
 ghost use Rattle.shapes.specs.declared.printing.Form.TheVariants.{Rest};
 ghost use Rattle.groups_links.specs.Printed.{links_list};
-ghost use Rattle.object_ops.specs.Answers.{only};
+ghost use Rattle.object_ops.specs.Replies.{only};
 ghost use Rattle.object_ops.specs.declared.replies.Reply.TheVariants.{Done};
 ghost use Rattle.object_acts.specs.Arrays.Arrays.{value_read, points_read, shape_read, type_read};
 ghost use Rattle.object_acts.specs.Objects.{unmarked, IsSoundBody};

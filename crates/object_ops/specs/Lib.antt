@@ -1,4 +1,4 @@
-pub mod Answers
+pub mod Replies
 pub mod Conditions
 pub mod Parts
 pub mod Words

@@ -2,7 +2,7 @@
 
 ghost use Rattle.std.specs.Prelude.{◌≡◌, IfOk};
 ghost use Rattle.serde_json.specs.View.{view};
-ghost use Rattle.object_ops.specs.Answers.{nothing, only};
+ghost use Rattle.object_ops.specs.Replies.{nothing, only};
 ghost use Rattle.object_ops.specs.declared.replies.Reply.TheVariants.{Done};
 
 use crate::refusals::Refusal;

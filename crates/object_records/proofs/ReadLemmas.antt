@@ -24,7 +24,7 @@ use Rattle.std.specs.Str.{IsUtf8, is_utf8}
 use Rattle.std.proofs.lemmas.Str.{IsUtf8-from_is_utf8, is_utf8-from_IsUtf8}
 use Rattle.serde_json.specs.Read.{read}
 use Rattle.object_ids.specs.declared.ids.Kind.{Kind}
-use Rattle.object_records.specs.Answers.{Reads}
+use Rattle.object_records.specs.Readings.{Reads}
 use Rattle.object_records.specs.Objects.{object_of_body, spelled_in}
 use Rattle.object_records.specs.declared.faults.BodyFault.{BodyFault}
 use Rattle.object_records.specs.declared.faults.BodyFault.TheVariants as body

@@ -1,5 +1,5 @@
 pub mod Entries
-pub mod Answers
+pub mod Readings
 pub mod FaultsOf
 pub mod Lists
 pub mod Creations

@@ -10,7 +10,7 @@ ghost use Rattle.shapes.specs.Shapes.{IsSound, dims_of};
 ghost use Rattle.hdf_values.specs.Elements.{IsEncoded, encoded};
 ghost use Rattle.chunk_layout.specs.Asked.{asked_of};
 ghost use Rattle.chunk_layout.specs.Layouts.{Fits};
-ghost use Rattle.object_records.specs.Answers.{Reads};
+ghost use Rattle.object_records.specs.Readings.{Reads};
 ghost use Rattle.chunk_layout.specs.DefaultChunks.Halving.{default_chunk};
 ghost use Rattle.object_records.specs.Creations.{chunk_or, creation_in, fill_in};
 ghost use Rattle.object_records.specs.Creations.{has_no_filter, shown_creation};

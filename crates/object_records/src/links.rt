@@ -6,7 +6,7 @@ ghost use Rattle.serde_json.specs.View.{view};
 ghost use Rattle.json_trees.specs.Shown.{shown};
 ghost use Rattle.groups_links.specs.GroupLinks.{most_links};
 ghost use Rattle.groups_links.specs.Titles.{IsGoodTitle};
-ghost use Rattle.object_records.specs.Answers.{Reads};
+ghost use Rattle.object_records.specs.Readings.{Reads};
 ghost use Rattle.object_records.specs.Lists.{links_in, listed, put_in, title_at, titled_in};
 
 use crate::BodyFault;

@@ -7,7 +7,7 @@ ghost use Rattle.json_trees.specs.Shown.{shown};
 ghost use Rattle.containers.specs.TextMaps.Keyed.{with_values};
 ghost use Rattle.hdf_values.specs.Attributes.{content};
 ghost use Rattle.attributes.specs.AttributeMaps.{most_attributes};
-ghost use Rattle.object_records.specs.Answers.{Reads};
+ghost use Rattle.object_records.specs.Readings.{Reads};
 ghost use Rattle.object_records.specs.Lists.{attribute_in, attributes_in, listed, name_at, put_in};
 
 use crate::BodyFault;

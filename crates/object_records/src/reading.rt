@@ -7,7 +7,7 @@ ghost use Rattle.hdf_types.specs.Views.{elem as elem_of};
 ghost use Rattle.object_acts.specs.Objects.{IsOfKind, IsSoundBody, IsTrackedBody, kind_of_body};
 ghost use Rattle.object_acts.specs.declared.objects.Body.TheVariants.{Dataset};
 ghost use Rattle.chunk_store.specs.Marks.{IsTracked};
-ghost use Rattle.object_records.specs.Answers.{Reads};
+ghost use Rattle.object_records.specs.Readings.{Reads};
 ghost use Rattle.object_records.specs.Entries.{entry_of, kept_of};
 ghost use Rattle.object_records.specs.Objects.{dataset_in, kept_in, object_of_body, spelled_in};
 ghost use Rattle.object_records.specs.Objects.{IsFresh, type_in};

@@ -31,25 +31,25 @@ use Rattle.register.specs.declared.verdicts.Verdict.{Verdict}
 use Rattle.register.specs.declared.verdicts.Verdict.TheVariants.{Granted, Answered, Denied, Refused, NoMemory}
 use Rattle.register.specs.declared.looking.Looked.TheVariants as looks
 use Rattle.register.specs.Decided.{Decides, IsDenial, RegisterState, answered, at_maybe, cat_refusal, changed_at, decided, domain_added, domain_made, entry_put, entry_read, fits, folder_made, forgotten, granted, is_of_nodes, most_of, node_made, node_removed, passed, refused, serial_limit}
-use Rattle.register.specs.Looks.{Answers, Leaves, MayBlame, MaySettle, Reads, Refuses, RefusesFault, Settles, SettlesOp, looked}
+use Rattle.register.specs.Looks.{DecidesUncounted, MayBlame, MaySettle, Settles, SettlesOp, VerdictAnswers, VerdictAnswersEntry, VerdictRefuses, VerdictRefusesFault, looked}
 
 -- ---- replies and refusals settle
 
-pub answers_settle : (status : ℕ) (body : Data) (d : RegisterState) (v : Verdict) → Answers (Done status body) v → MaySettle (answered status body d) d v d
+pub answers_settle : (status : ℕ) (body : Data) (d : RegisterState) (v : Verdict) → VerdictAnswers (Done status body) v → MaySettle (answered status body d) d v d
 answers_settle status body d (Granted t) h = ap (λ w. (w, passed d)) h
 answers_settle status body d (Answered r) h = ap (λ w. (w, passed d)) h
 answers_settle status body d (Denied r) h = ap (λ w. (w, passed d)) h
 answers_settle status body d (Refused r) h = ap (λ w. (w, passed d)) h
 answers_settle status body d NoMemory h = refl
 
-pub refuses_settle : (refusal : Refusal) (d : RegisterState) (v : Verdict) → Refuses refusal v → MaySettle (refused refusal d) d v d
+pub refuses_settle : (refusal : Refusal) (d : RegisterState) (v : Verdict) → VerdictRefuses refusal v → MaySettle (refused refusal d) d v d
 refuses_settle refusal d (Granted t) h = ap (λ w. (w, passed d)) h
 refuses_settle refusal d (Answered r) h = ap (λ w. (w, passed d)) h
 refuses_settle refusal d (Denied r) h = ap (λ w. (w, passed d)) h
 refuses_settle refusal d (Refused r) h = ap (λ w. (w, passed d)) h
 refuses_settle refusal d NoMemory h = refl
 
-pub reads_settle : (name : List ℕ) (d : RegisterState) (entry : Option Rights) (v : Verdict) → Reads name entry v → MaySettle (entry_read d name entry) d v d
+pub reads_settle : (name : List ℕ) (d : RegisterState) (entry : Option Rights) (v : Verdict) → VerdictAnswersEntry name entry v → MaySettle (entry_read d name entry) d v d
 reads_settle name d None v h = refuses_settle _ d v h
 reads_settle name d (Some rights) v h = answers_settle 200 _ d v h
 
@@ -60,12 +60,12 @@ settle_as p q d new v e same h =
     subst For (sym e) (subst With (sym same) h)
 
 told : (want : Option CatFault) (fault : CatFault) (refusal : Refusal) (p : Option CatFault → Verdict × RegisterState) (d new : RegisterState) (v : Verdict) → p (Some fault) ≡ refused refusal d
-    → want ≡ Some fault → Refuses refusal v → new ≡ d → MaySettle (p want) d v new
+    → want ≡ Some fault → VerdictRefuses refusal v → new ≡ d → MaySettle (p want) d v new
 told want fault refusal p d new v at e h same = settle_as (p want) (refused refusal d) d new v (ap p e ∙ at) same (refuses_settle refusal d v h)
 
 -- a fault of the catalogue: `p` says what follows from what speaks against a change
 pub fault_settles : (A : Type 0) (path : List ℕ) (fault : CatFault) (want : Option CatFault) (p : Option CatFault → Verdict × RegisterState) (d new : RegisterState) (v : Verdict)
-    → ((e : CatFault) → p (Some e) ≡ refused (cat_refusal path e) d) → MayBlame {A = A} (Err fault) want → RefusesFault path fault v → new ≡ d → MaySettle (p want) d v new
+    → ((e : CatFault) → p (Some e) ≡ refused (cat_refusal path e) d) → MayBlame {A = A} (Err fault) want → VerdictRefusesFault path fault v → new ≡ d → MaySettle (p want) d v new
 fault_settles A path cat.NoFolder want p d new v at e h same = told want cat.NoFolder _ p d new v (at cat.NoFolder) e h same
 fault_settles A path cat.Taken want p d new v at e h same = told want cat.Taken _ p d new v (at cat.Taken) e h same
 fault_settles A path (cat.Limit what) want p d new v at e h same = told want (cat.Limit what) _ p d new v (at (cat.Limit what)) e h same
@@ -125,14 +125,14 @@ folder_has_children c path folder = rw folder refl
 
 -- where nothing speaks against a call that takes memory, only memory was wanting
 pub only_memory : (A : Type 0) (path : List ℕ) (fault : CatFault) (want : Option CatFault) (reply : Reply) (v : Verdict) → want ≡ None → Blames {A = A} (Err fault) want
-    → RefusesFault path fault v → Answers reply v
+    → VerdictRefusesFault path fault v → VerdictAnswers reply v
 only_memory A path cat.NoFolder want reply v none e h = absurd (cc)
 only_memory A path cat.Taken want reply v none e h = absurd (cc)
 only_memory A path (cat.Limit what) want reply v none e h = absurd (cc)
 only_memory A path cat.NoDomain want reply v none e h = absurd (cc)
 only_memory A path cat.NotEmpty want reply v none e h = absurd (cc)
 only_memory A path cat.Root want reply v none e h = absurd (cc)
-only_memory A path cat.NoMemory want reply v none e h = subst (Answers reply) (sym h) tt
+only_memory A path cat.NoMemory want reply v none e h = subst (VerdictAnswers reply) (sym h) tt
 
 -- with memory and without
 pub may : (p : Verdict × RegisterState) (old new : RegisterState) (v : Verdict) → Settles p v new → MaySettle p old v new
@@ -232,13 +232,13 @@ pub settled : (d : RegisterState) (caller : Caller) (request : Request) (class :
     → looked caller request.op (get d.catalogue.nodes (decided_at request)) ≡ looks.Allowed class
     → ((node : Node) → get d.catalogue.nodes (decided_at request) ≡ Some node → node.class ≡ class
     → SettlesOp request.op (granted d caller request.path request.op node) d v new)
-    → Leaves d caller request v new
+    → DecidesUncounted d caller request v new
 settled d caller request class v new e h =
     let a = allowed d caller request.path request.op (get d.catalogue.nodes (decided_at request)) class e in
     leaves d caller request a.node v new a.decides (h a.node a.there a.same)
   where
     leaves : (d : RegisterState) (caller : Caller) (request : Request) (node : Node) (v : Verdict) (new : RegisterState) → decided d caller request ≡ granted d caller request.path request.op node
-        → SettlesOp request.op (granted d caller request.path request.op node) d v new → Leaves d caller request v new
+        → SettlesOp request.op (granted d caller request.path request.op node) d v new → DecidesUncounted d caller request v new
     leaves d caller request node (Granted t) new e h = h ∙ sym e
     leaves d caller request node (Answered r) new e h = h ∙ sym e
     leaves d caller request node (Denied r) new e h = h ∙ sym e
@@ -267,15 +267,15 @@ refused_right d caller path op None e = absurd (cc)
 refused_right d caller path op (Some node) e = denied_is (fits op node.class) (has node.list caller (right_for op)) node.class _ _ _ e
 
 pub unmet : (d : RegisterState) (caller : Caller) (request : Request) → looked caller request.op (get d.catalogue.nodes (decided_at request)) ≡ looks.Missing
-    → Leaves d caller request (Refused NoDomain) d
+    → DecidesUncounted d caller request (Refused NoDomain) d
 unmet d caller request e = sym (missed d caller request.path request.op _ e)
 
 pub refused_access : (d : RegisterState) (caller : Caller) (request : Request) → looked caller request.op (get d.catalogue.nodes (decided_at request)) ≡ looks.Denied
-    → Leaves d caller request (Denied (right_for request.op)) d
+    → DecidesUncounted d caller request (Denied (right_for request.op)) d
 refused_access d caller request e = sym (refused_right d caller request.path request.op _ e)
 
 -- and then the place is counted
-pub counts_place : (d : RegisterState) (caller : Caller) (request : Request) (v : Verdict) (new : RegisterState) → Leaves d caller request v new → Decides d caller request v (passed new)
+pub counts_place : (d : RegisterState) (caller : Caller) (request : Request) (v : Verdict) (new : RegisterState) → DecidesUncounted d caller request v new → Decides d caller request v (passed new)
 counts_place d caller request (Granted t) new h = h
 counts_place d caller request (Answered r) new h = h
 counts_place d caller request (Denied r) new h = h

@@ -20,7 +20,7 @@ use Rattle.domains.specs.declared.faults.CatFault.{CatFault}
 use Rattle.domains.specs.declared.faults.CatFault.TheVariants as cat
 use Rattle.groups_links.specs.declared.target.LinkTo.{LinkTo}
 use Rattle.groups_links.specs.declared.target.LinkTo.TheVariants.{Hard}
-use Rattle.object_ops.specs.Answers.{nothing, only}
+use Rattle.object_ops.specs.Replies.{nothing, only}
 use Rattle.object_ops.specs.Needs.{right_for, decided_at}
 use Rattle.object_ops.specs.declared.ops.Request.{Request}
 use Rattle.object_ops.specs.declared.ops.Op.{Op}

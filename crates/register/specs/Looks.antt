@@ -33,19 +33,19 @@ IsFitting op looks.Denied = Unit {0}
 IsFitting op (looks.Allowed class) = (fits op class ≡ true) × NumberFits class
 
 -- answered so, or there was no memory
-abbrev pub Answers : Reply → Verdict → Type 0
-Answers reply NoMemory = Unit {0}
-Answers reply verdict = verdict ≡ Answered reply
+abbrev pub VerdictAnswers : Reply → Verdict → Type 0
+VerdictAnswers reply NoMemory = Unit {0}
+VerdictAnswers reply verdict = verdict ≡ Answered reply
 
 -- refused so, or there was no memory
-abbrev pub Refuses : Refusal → Verdict → Type 0
-Refuses refusal NoMemory = Unit {0}
-Refuses refusal verdict = verdict ≡ Refused refusal
+abbrev pub VerdictRefuses : Refusal → Verdict → Type 0
+VerdictRefuses refusal NoMemory = Unit {0}
+VerdictRefuses refusal verdict = verdict ≡ Refused refusal
 
 -- a fault of the catalogue is refused so; want of memory stays what it is
-abbrev pub RefusesFault : List ℕ → CatFault → Verdict → Type 0
-RefusesFault path cat.NoMemory verdict = verdict ≡ NoMemory
-RefusesFault path fault verdict = Refuses (cat_refusal path fault) verdict
+abbrev pub VerdictRefusesFault : List ℕ → CatFault → Verdict → Type 0
+VerdictRefusesFault path cat.NoMemory verdict = verdict ≡ NoMemory
+VerdictRefusesFault path fault verdict = VerdictRefuses (cat_refusal path fault) verdict
 
 -- a change is refused so, or it is made; or there was no memory
 abbrev pub MayBlame : {A : Type 0} → Result A CatFault → Option CatFault → Type 0
@@ -53,9 +53,9 @@ MayBlame (Err cat.NoMemory) fault = Unit {0}
 MayBlame result fault = Blames result fault
 
 -- an entry is answered, or the name is refused
-abbrev pub Reads : List ℕ → Option Rights → Verdict → Type 0
-Reads name None = Refuses (NoName name)
-Reads name (Some rights) = Answers (Done 200 (acl_body name rights))
+abbrev pub VerdictAnswersEntry : List ℕ → Option Rights → Verdict → Type 0
+VerdictAnswersEntry name None = VerdictRefuses (NoName name)
+VerdictAnswersEntry name (Some rights) = VerdictAnswers (Done 200 (acl_body name rights))
 
 -- a call that takes no memory settles as a definition says; the place is counted afterwards
 abbrev pub Settles : Verdict × RegisterState → Verdict → RegisterState → Type 0
@@ -73,6 +73,6 @@ SettlesOp op p old NoMemory new = (is_of_nodes op ≡ true) × (new ≡ old)
 SettlesOp op p old verdict new = (verdict, passed new) ≡ p
 
 -- a request is decided, but for the place
-abbrev pub Leaves : RegisterState → Caller → Request → Verdict → RegisterState → Type 0
-Leaves d caller request NoMemory new = (is_of_nodes request.op ≡ true) × (IsDenial (decided d caller request).0 → ⊥) × (new ≡ d)
-Leaves d caller request verdict new = (verdict, passed new) ≡ decided d caller request
+abbrev pub DecidesUncounted : RegisterState → Caller → Request → Verdict → RegisterState → Type 0
+DecidesUncounted d caller request NoMemory new = (is_of_nodes request.op ≡ true) × (IsDenial (decided d caller request).0 → ⊥) × (new ≡ d)
+DecidesUncounted d caller request verdict new = (verdict, passed new) ≡ decided d caller request

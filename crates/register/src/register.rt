@@ -24,7 +24,8 @@ ghost use Rattle.register.specs.Decided.{opened, serial_limit};
 ghost use Rattle.register.specs.Grants.{IfGranted, IsIssueOf};
 ghost use Rattle.register.specs.Kept.{AreTexts, IsInstalled, IsRegisterMarked, IsRegisterRecord, IsUsedUp};
 ghost use Rattle.register.specs.Kept.{MatchFault, MatchUsed, RegisterSays, TellsUsed, all_kept, installed, run_kept};
-ghost use Rattle.register.specs.Looks.{Answers, Leaves, MaySettle, Reads, Settles, SettlesOp};
+ghost use Rattle.register.specs.Looks.{DecidesUncounted, MaySettle, Settles, SettlesOp};
+ghost use Rattle.register.specs.Looks.{VerdictAnswers, VerdictAnswersEntry};
 ghost use Rattle.register.specs.Marks.{no_marks};
 ghost use Rattle.register.specs.Installed.Registers.{DescribesRegister, IsRegisterFault};
 
@@ -344,7 +345,7 @@ impl Register {
     // The verdict, before the place is counted.
     fn verdict(&mut self, caller: &Caller, request: &Request) -> Verdict
         requires { HasRoom self.old }
-        ensures leaves { Leaves self.old caller.now request.now result self.new }
+        ensures leaves { DecidesUncounted self.old caller.now request.now result self.new }
         ensures some_lane { 0 < length self.old.issued }
         ensures places { self.new.places ≡ self.old.places }
     {
@@ -385,7 +386,7 @@ impl Register {
 
     fn node(&self, path: &DomainPath) -> Verdict
         ensures { (node : Node) → map.get self.now.catalogue.nodes path.now ≡ Some node
-            → Answers (Done 200 (node_tree node)) result }
+            → VerdictAnswers (Done 200 (node_tree node)) result }
     {
         match self.catalogue.find(path) {
             Some(node) => node_verdict(self.alloc, node),
@@ -395,7 +396,7 @@ impl Register {
 
     fn children(&self, path: &DomainPath) -> Verdict
         requires { IsFolderAt self.now.catalogue path.now }
-        ensures { Answers (Done 200 (children_body self.now.catalogue path.now)) result }
+        ensures { VerdictAnswers (Done 200 (children_body self.now.catalogue path.now)) result }
     {
         match self.catalogue.children(self.alloc, path) {
             Ok(children) => answered(Reply::keyed(self.alloc, 200, "domains", children)),
@@ -525,7 +526,7 @@ impl Register {
 
     fn acls(&self, path: &DomainPath) -> Verdict
         ensures { (node : Node) → map.get self.now.catalogue.nodes path.now ≡ Some node
-            → Answers (Done 200 (acls_body node.list)) result }
+            → VerdictAnswers (Done 200 (acls_body node.list)) result }
     {
         match self.catalogue.find(path) {
             Some(node) => acls_verdict(self.alloc, &node.list),
@@ -535,7 +536,7 @@ impl Register {
 
     fn acl(&self, path: &DomainPath, name: &Name) -> Verdict
         ensures { (node : Node) → map.get self.now.catalogue.nodes path.now ≡ Some node
-            → Reads name.now (map.get node.list name.now) result }
+            → VerdictAnswersEntry name.now (map.get node.list name.now) result }
     {
         match self.catalogue.find(path) {
             Some(node) => acl_verdict(self.alloc, &node.list, name),

@@ -4,12 +4,13 @@ ghost use Rattle.std.specs.Prelude.{◌≡◌, IfOk, codes};
 ghost use Rattle.std.specs.FinMap as map;
 ghost use Rattle.access_lists.specs.EntryTrees.{acl_tree, acls_tree};
 ghost use Rattle.domains.specs.NodeTrees.{class_tree, node_tree};
-ghost use Rattle.object_ops.specs.Answers.{only};
+ghost use Rattle.object_ops.specs.Replies.{only};
 ghost use Rattle.object_ops.specs.declared.refusals.Refusal.TheVariants.{Limit, NoName, Taken};
 ghost use Rattle.object_ops.specs.declared.replies.Reply.{Reply};
 ghost use Rattle.object_ops.specs.declared.replies.Reply.TheVariants.{Done};
 ghost use Rattle.register.specs.Decided.{acl_body, acls_body, most_of, owner_of};
-ghost use Rattle.register.specs.Looks.{Answers, Reads, Refuses, RefusesFault};
+ghost use Rattle.register.specs.Looks.{VerdictAnswers, VerdictAnswersEntry, VerdictRefuses};
+ghost use Rattle.register.specs.Looks.{VerdictRefusesFault};
 
 use crate::register::SERIAL_LIMIT;
 use crate::verdicts::Verdict;
@@ -23,7 +24,7 @@ use std::alloc::{AllocError, Global};
 
 // Answered, or there was no memory.
 pub(crate) fn answered(reply: Result<Reply, AllocError>) -> Verdict
-    ensures { (wanted : Reply) → IfOk reply (λ r. r ≡ wanted) → Answers wanted result }
+    ensures { (wanted : Reply) → IfOk reply (λ r. r ≡ wanted) → VerdictAnswers wanted result }
 {
     match reply {
         Ok(reply) => Verdict::Answered(reply),
@@ -33,7 +34,7 @@ pub(crate) fn answered(reply: Result<Reply, AllocError>) -> Verdict
 
 // A node.
 pub(crate) fn node_verdict(alloc: Global, node: &Node) -> Verdict
-    ensures { Answers (Done 200 (node_tree node.now)) result }
+    ensures { VerdictAnswers (Done 200 (node_tree node.now)) result }
 {
     answered(node_reply(alloc, 200, node))
 }
@@ -62,7 +63,7 @@ pub(crate) fn made_reply(
 
 // The entries of an access list.
 pub(crate) fn acls_verdict(alloc: Global, list: &AccessList) -> Verdict
-    ensures { Answers (Done 200 (acls_body list.now)) result }
+    ensures { VerdictAnswers (Done 200 (acls_body list.now)) result }
 {
     answered(acls_reply(alloc, list))
 }
@@ -76,7 +77,7 @@ fn acls_reply(alloc: Global, list: &AccessList) -> Result<Reply, AllocError>
 
 // One entry of an access list, where there is one of the name.
 pub(crate) fn acl_verdict(alloc: Global, list: &AccessList, name: &Name) -> Verdict
-    ensures { Reads name.now (map.get list.now name.now) result }
+    ensures { VerdictAnswersEntry name.now (map.get list.now name.now) result }
 {
     match list.get(name) {
         Some(rights) => answered(acl_reply(alloc, name, &rights)),
@@ -115,7 +116,7 @@ fn default_owner(alloc: Global) -> Result<Name, AllocError>
 // ---- refusals
 
 fn no_name(name: &Name) -> Verdict
-    ensures { Refuses (NoName name.now) result }
+    ensures { VerdictRefuses (NoName name.now) result }
 {
     match name.copy() {
         Ok(name) => Verdict::Refused(Refusal::NoName { name }),
@@ -124,7 +125,7 @@ fn no_name(name: &Name) -> Verdict
 }
 
 fn taken(alloc: Global, path: &DomainPath) -> Verdict
-    ensures { Refuses (Taken path.now) result }
+    ensures { VerdictRefuses (Taken path.now) result }
 {
     match Name::read(alloc, path.text(), MAX_PATH_LEN) {
         Ok(name) => Verdict::Refused(Refusal::Taken { name }),
@@ -134,7 +135,7 @@ fn taken(alloc: Global, path: &DomainPath) -> Verdict
 
 // The refusal for what speaks against a change of the catalogue.
 pub(crate) fn refused(alloc: Global, path: &DomainPath, fault: CatFault) -> Verdict
-    ensures { RefusesFault path.now fault result }
+    ensures { VerdictRefusesFault path.now fault result }
 {
     match fault {
         CatFault::NoFolder | CatFault::NoDomain => Verdict::Refused(Refusal::NoDomain),

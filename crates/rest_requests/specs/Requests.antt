@@ -93,6 +93,6 @@ abbrev pub Tells : {A : Type 0} → Text → RequestFault → Result A Refusal �
 Tells target NoMemory r = Unit {0}
 Tells target (Refused refusal allow) r = (r ≡ Err refusal) × (allow ≡ allow_of target refusal)
 
--- a call reads what the tests find of a message with this target, or memory ran out
-abbrev pub Reads : {A : Type 0} → Text → Result A RequestFault → Result A Refusal → Type 0
-Reads target given found = Gives (Tells target) (λ x. x) given found
+-- a call gives what the tests find of a message with this target, or memory ran out
+abbrev pub AnswersAt : {A : Type 0} → Text → Result A RequestFault → Result A Refusal → Type 0
+AnswersAt target given found = Gives (Tells target) (λ x. x) given found

@@ -4,7 +4,8 @@ ghost use Rattle.std.specs.Prelude.{◌≡◌, IfOk};
 ghost use Rattle.std.specs.Option.{option_copied};
 ghost use Rattle.object_ops.specs.Conditions.{IsSoundOp};
 ghost use Rattle.request_bodies.specs.Refusing.{Answers, Gives};
-ghost use Rattle.rest_requests.specs.Requests.{Reads, allow_of, form_by, form_of, is_flush, known};
+ghost use Rattle.rest_requests.specs.Requests.{AnswersAt, allow_of, form_by, form_of, is_flush};
+ghost use Rattle.rest_requests.specs.Requests.{known};
 ghost use Rattle.rest_requests.specs.Requests.{methods_at, request_of, routed, said};
 
 use crate::domain::domain_of;
@@ -32,7 +33,8 @@ pub fn read_request(
     parts: &RequestParts<'_>,
     tokens: &Tokens,
 ) -> Result<(Caller, Request), RequestFault>
-    ensures exact { Reads (said parts.now).target result (request_of tokens.now (said parts.now)) }
+    ensures exact { AnswersAt (said parts.now).target result
+        (request_of tokens.now (said parts.now)) }
     ensures sound { IfOk result (λ read. IsSoundOp read.1.op) }
 {
     match request(alloc, parts, tokens) {
@@ -105,7 +107,8 @@ fn is_flush(alloc: Global, query: &str) -> Result<bool, AllocError>
 }
 
 fn known<'a>(tokens: &'a Tokens, authorization: Option<&[u8]>) -> Result<&'a Caller, BodyFault>
-    ensures { Gives (λ caller. caller.now) result (known tokens.now (option_copied authorization.entry)) }
+    ensures { Gives (λ caller. caller.now) result
+        (known tokens.now (option_copied authorization.entry)) }
 {
     match tokens.identify(authorization) {
         Some(caller) => Ok(caller),

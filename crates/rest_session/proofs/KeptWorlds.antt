@@ -4,7 +4,7 @@ use Rattle.std.specs.List.{AllByRecursion}
 use Rattle.access_lists.specs.declared.people.Caller.{Caller}
 use Rattle.edge_traits.specs.declared.disk.Disk.{Ghosts}
 use Rattle.flush_journal.specs.Batches.{records}
-use Rattle.flush_journal.specs.Moments.{Leaves}
+use Rattle.flush_journal.specs.Moments.{CrashLeaves}
 use Rattle.flush_journal.specs.Records.{Record, put_all}
 use Rattle.flush_journal.specs.Standing.{disk_of}
 use Rattle.flush_journal.specs.Unchanged.{SameDisk}
@@ -28,7 +28,7 @@ use Rattle.service_core.specs.Worlds.{State, seen}
 use Rattle.service_core.specs.declared.answers.What.{What}
 use Rattle.rest_session.specs.Sessions.{IsAnsweredBy, IsFinished, IsServed, Served, StandsStill, acknowledges, said_by}
 use Rattle.service_core.specs.KeptWorlds.{KeepsWorld, TellsWorld, HoldsWorld}
-use Rattle.rest_session.specs.Stood.{AreKept, HoldsStood, IsBackedBy, IsStretch, StoodSince}
+use Rattle.rest_session.specs.Stood.{HoldsStood, IsBackedBy, IsBackedByStood, IsStretch, StoodSince}
 use Rattle.rest_session.proofs.Following.{Advances, Among, Answered, Follows, all_map, all_stood, answered, follow, leaves_between, related}
 use Rattle.rest_session.proofs.Following.{StoodSince as Since}
 
@@ -150,7 +150,7 @@ module _ {D : Type 0} {met : Ghosts D} (honest : met.honest) (next : PlacesGoOn)
     → HoldsOne TellsWorld ws image) where
   -- whatever a crash leaves since one state, up to another, holds a world of which something holds
   abbrev pub LeftHolding : Served met → Served met → (World → Type 0) → Type 0
-  LeftHolding s t P = Leaves met (disk_of s.keeping.journal) (disk_of t.keeping.journal) (HoldsSome P)
+  LeftHolding s t P = CrashLeaves met (disk_of s.keeping.journal) (disk_of t.keeping.journal) (HoldsSome P)
 
   pub record Goes (s t : Served met) (ws : List World) : Type 0 where
     pub advances : Advances IsServed IsBackedBy shown kept_of places_of s t ws
@@ -160,7 +160,7 @@ module _ {D : Type 0} {met : Ghosts D} (honest : met.honest) (next : PlacesGoOn)
   quiet s ws vs b f = no_call met (disk_of s.keeping.journal) (HoldsSome (λ w. Among w vs))
       (λ c left. holds_among (λ w. Among w vs) ws c (holds s.keeping.journal (records s.keeping.building) s.world ws b c (only_now (disk_of s.keeping.journal) c honest left)) f)
 
-  kept_crash : (s t : Served met) (ws : List World) → Leaves met (disk_of s.keeping.journal) (disk_of t.keeping.journal) (HoldsOne TellsWorld (as_kept t.world ∷ ws)) → LeftHolding s t (λ w. Among w (shown t ∷ ws))
+  kept_crash : (s t : Served met) (ws : List World) → CrashLeaves met (disk_of s.keeping.journal) (disk_of t.keeping.journal) (HoldsOne TellsWorld (as_kept t.world ∷ ws)) → LeftHolding s t (λ w. Among w (shown t ∷ ws))
   kept_crash s t ws l = weaker met (disk_of s.keeping.journal) (disk_of t.keeping.journal) (HoldsOne TellsWorld (as_kept t.world ∷ ws)) (HoldsSome (λ w. Among w (shown t ∷ ws)))
       (λ c one. holds_among (λ w. Among w (shown t ∷ ws)) (shown t ∷ ws) c one (λ w there. there)) l
 
@@ -178,7 +178,7 @@ module _ {D : Type 0} {met : Ghosts D} (honest : met.honest) (next : PlacesGoOn)
           (subst (λ (u : State). IsBacked TellsWorld s.keeping.journal (records s.keeping.building) (WorldSays u) ws) (sym world) (still_backed s.keeping s.world mid ws says b));
       each = of_before s t ws ws (ap (λ (l : Keeping D met). l.kept) keeping) (λ w h. h);
     };
-    crash = subst (λ (l : Keeping D met). Leaves met (disk_of s.keeping.journal) (disk_of l.journal) (HoldsSome (λ w. Among w (shown t ∷ ws)))) (sym keeping)
+    crash = subst (λ (l : Keeping D met). CrashLeaves met (disk_of s.keeping.journal) (disk_of l.journal) (HoldsSome (λ w. Among w (shown t ∷ ws)))) (sym keeping)
         (quiet s ws (shown t ∷ ws) b (λ w there. inr there));
   }
 
@@ -221,7 +221,7 @@ module _ {D : Type 0} {met : Ghosts D} (honest : met.honest) (next : PlacesGoOn)
   advance s m bytes t ws is b = (goes s m bytes t ws is b).advances
 
   pub what_stood : (s t : Served met) (taken sent : List ℕ) (left : Option (List ℕ)) (end : LinkEnd) → IsTranscript IsServed s taken sent left t end
-      → IsBackedBy s (as_kept s.world ∷ []) → s.keeping.kept ≤ s.world.register.places → AreKept s t taken
+      → IsBackedBy s (as_kept s.world ∷ []) → s.keeping.kept ≤ s.world.register.places → IsBackedByStood s t taken
   what_stood s t taken sent left end transcript b k = record {
     worlds = f.left;
     backed = f.is_backed;
@@ -238,7 +238,7 @@ module _ {D : Type 0} {met : Ghosts D} (honest : met.honest) (next : PlacesGoOn)
 
   -- at each moment of a stretch
   pub what_is_left : (s t : Served met) (taken : List ℕ) (u v : Served met) → IsStretch s t taken u v → IsBackedBy s (as_kept s.world ∷ []) → s.keeping.kept ≤ s.world.register.places
-      → Leaves met (disk_of u.keeping.journal) (disk_of v.keeping.journal) (HoldsStood s v taken u.keeping.kept)
+      → CrashLeaves met (disk_of u.keeping.journal) (disk_of v.keeping.journal) (HoldsStood s v taken u.keeping.kept)
   what_is_left s t taken u v is b k =
       wider u v (Since IsServed IsBackedBy shown kept_of places_of s (is.before ++ is.between) v u.keeping.kept) (StoodSince s v taken u.keeping.kept)
       (λ w h. stood_in IsBackedBy s v taken (is.before ++ is.between) u.keeping.kept w (read_to is.before is.between is.after taken is.read) h)

@@ -1,7 +1,7 @@
 -- What a crash leaves while a link is served.
 --     IsBackedBy s worlds      all that changed is kept, and a crash leaves one of these worlds
 --     StoodSince s t taken kept w      a world that stood between two messages, and no earlier than at the last keeping
---     AreKept s t taken      what a crash leaves is one of them
+--     IsBackedByStood s t taken      what a crash leaves is one of them
 --     IsOfStood s t taken kept r      a record of such a world
 --     AreOfStood s t taken      what waits to be written, and what is building, is such records
 --     HoldsStood s t taken kept file      a file holds one of them
@@ -37,7 +37,7 @@ pub record StoodSince {D : Type 0} {met : Ghosts D} (s t : Served met) (taken : 
   pub shown : w ≡ as_kept at.world
   pub late : kept ≤ at.world.register.places
 
-pub record AreKept {D : Type 0} {met : Ghosts D} (s t : Served met) (taken : List ℕ) : Type 0 where
+pub record IsBackedByStood {D : Type 0} {met : Ghosts D} (s t : Served met) (taken : List ℕ) : Type 0 where
   pub worlds : List World
   pub backed : IsBackedBy t worlds
   pub each : AllByRecursion (StoodSince s t taken t.keeping.kept) worlds

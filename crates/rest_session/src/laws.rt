@@ -2,7 +2,7 @@
 
 ghost use Rattle.std.specs.Prelude.{◌≡◌, ◌≤◌, ℕ, Bool, List, [], ◌∷◌, None, Option, true};
 ghost use Rattle.flush_journal.specs.Batches.{records};
-ghost use Rattle.flush_journal.specs.Moments.{Leaves};
+ghost use Rattle.flush_journal.specs.Moments.{CrashLeaves};
 ghost use Rattle.flush_journal.specs.Standing.{disk_of, pending_of};
 ghost use Rattle.flush_journal.specs.Unchanged.{SameDisk};
 ghost use Rattle.rest_session.specs.Links.Links.{IsTranscript};
@@ -14,7 +14,8 @@ ghost use Rattle.rest_requests.specs.Routes.Methods.{no_methods};
 ghost use Rattle.service_core.specs.declared.answers.What.TheVariants.{NoMemory};
 ghost use Rattle.rest_session.specs.Responses.{refusal_of, refused, said};
 ghost use Rattle.rest_session.specs.Sessions.{IsServed, Served};
-ghost use Rattle.rest_session.specs.Stood.{AreKept, AreOfStood, HoldsStood, IsBackedBy, IsStretch};
+ghost use Rattle.rest_session.specs.Stood.{AreOfStood, HoldsStood, IsBackedBy, IsBackedByStood};
+ghost use Rattle.rest_session.specs.Stood.{IsStretch};
 
 use edge_traits::Disk;
 use flush_journal::keepings::images_are_kept;
@@ -43,12 +44,12 @@ pub fn what_is_kept_stood<D: Disk>()
     ensures stood { (s t : Served D.Disk) (taken sent : List ℕ) (left : Option (List ℕ)) (end : LinkEnd)
         → IsTranscript IsServed s taken sent left t end → D.honest
         → IsBackedBy s (as_kept s.world ∷ []) → s.keeping.kept ≤ s.world.register.places
-        → AreKept s t taken }
+        → IsBackedByStood s t taken }
     ensures stretch { (s t : Served D.Disk) (taken sent : List ℕ) (left : Option (List ℕ)) (end : LinkEnd)
         → IsTranscript IsServed s taken sent left t end → IsStretch s t taken s t }
     ensures crash { (s t u v : Served D.Disk) (taken : List ℕ) → IsStretch s t taken u v
         → D.honest → IsBackedBy s (as_kept s.world ∷ []) → s.keeping.kept ≤ s.world.register.places
-        → Leaves D.Disk (disk_of u.keeping.journal) (disk_of v.keeping.journal)
+        → CrashLeaves D.Disk (disk_of u.keeping.journal) (disk_of v.keeping.journal)
         (HoldsStood s v taken u.keeping.kept) }
     ensures onward { (s t u v : Served D.Disk) (taken : List ℕ) → IsStretch s t taken u v
         → s.keeping.kept ≤ s.world.register.places → u.keeping.kept ≤ v.keeping.kept }

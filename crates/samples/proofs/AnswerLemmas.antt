@@ -5,7 +5,7 @@ use Rattle.hdf_types.specs.Reading.{size_of}
 use Rattle.shapes.specs.declared.Shape.{Shape}
 use Rattle.chunk_store.specs.Grids.{Grid, reads}
 use Rattle.hyperslab.specs.Selected.{extents, slab_cells}
-use Rattle.object_ops.specs.Answers.{only}
+use Rattle.object_ops.specs.Replies.{only}
 use Rattle.object_ops.specs.declared.replies.Reply.TheVariants.{Done, Refused}
 use Rattle.object_ops.specs.declared.refusals.Refusal.TheVariants.{TooMany}
 use Rattle.object_acts.specs.Arrays.Arrays.{bytes_for, nested_by, part_read, part_tree, value_read}

@@ -28,7 +28,7 @@ use Rattle.register.specs.declared.verdicts.Verdict.TheVariants.{Denied, Granted
 use Rattle.serde_json.specs.Data.{Data}
 use Rattle.object_ids.specs.IdOrder.{id_order}
 use Rattle.object_ids.proofs.IdOrders.{id_order_total}
-use Rattle.object_ops.specs.Answers.{only}
+use Rattle.object_ops.specs.Replies.{only}
 use Rattle.object_ops.specs.declared.replies.Reply.{Reply}
 use Rattle.object_ops.specs.declared.replies.Reply.TheVariants.{Done}
 use Rattle.object_acts.specs.Objects.{bare, Objects}

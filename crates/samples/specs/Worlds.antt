@@ -7,7 +7,7 @@ use Rattle.attributes.specs.AttributeMaps.{AttributeMap}
 use Rattle.chunk_store.specs.Grids.{Grid}
 use Rattle.object_acts.specs.Objects.{bare}
 use Rattle.object_acts.specs.declared.objects.Body.TheVariants.{Dataset}
-use Rattle.object_ops.specs.Answers.{only}
+use Rattle.object_ops.specs.Replies.{only}
 use Rattle.object_ops.specs.declared.replies.Reply.TheVariants.{Done}
 use Rattle.register.specs.Decided.{RegisterState}
 use Rattle.service_core.specs.Steps.{World}

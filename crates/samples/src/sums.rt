@@ -2,7 +2,7 @@
 
 ghost use Rattle.std.specs.Prelude.{◌≡◌, ◌%◌, ◌^◌, ℕ, codes, map};
 ghost use Rattle.serde_json.specs.View.{view};
-ghost use Rattle.object_ops.specs.Answers.{only};
+ghost use Rattle.object_ops.specs.Replies.{only};
 ghost use Rattle.samples.specs.Values.Samples.{slab_sum};
 ghost use Rattle.samples.specs.Sums.{members, number_in, row_in, total_in};
 ghost use Rattle.samples.specs.Trees.{read_tree};

@@ -13,7 +13,7 @@ use Rattle.domains.specs.declared.classes.Node.{Node}
 use Rattle.domains.specs.declared.classes.NodeClass.{NodeClass}
 use Rattle.domains.specs.declared.classes.NodeClass.TheVariants.{Folder, Domain}
 use Rattle.domains.specs.declared.faults.CatFault.{CatFault}
-use Rattle.object_ops.specs.Answers.{nothing}
+use Rattle.object_ops.specs.Replies.{nothing}
 use Rattle.object_ops.specs.Needs.{decided_at, right_for}
 use Rattle.object_ops.specs.Parts.{id_of, kind_made}
 use Rattle.object_ops.specs.declared.grants.Grant.{Grant}

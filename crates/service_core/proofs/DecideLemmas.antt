@@ -27,7 +27,7 @@ use Rattle.object_ops.specs.declared.ops.Make.{Make}
 use Rattle.object_ops.specs.declared.ops.LinkPlace.{LinkPlace}
 use Rattle.object_ops.specs.declared.grants.Grant.{Grant}
 use Rattle.object_ops.specs.declared.grants.Step.TheVariants.{Only, Link}
-use Rattle.object_ops.specs.Answers.{nothing}
+use Rattle.object_ops.specs.Replies.{nothing}
 use Rattle.object_ops.specs.declared.replies.Reply.{Reply}
 use Rattle.object_ops.specs.declared.replies.Reply.TheVariants.{Done}
 use Rattle.object_ops.specs.declared.refusals.Refusal.{Refusal}

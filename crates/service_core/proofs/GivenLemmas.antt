@@ -31,7 +31,7 @@ use Rattle.service_core.specs.declared.answers.What.TheVariants.{Replied, Denied
 use Rattle.service_core.specs.Steps.{AreGiven, IsGiven, Obeys, StopsIn, run_on, served, started, step_taken, without_domain}
 use Rattle.service_core.specs.Worlds.{IsFreshId}
 use Rattle.service_core.proofs.ForgetLemmas.{get-without}
-use Rattle.object_ops.specs.Answers.{was_done}
+use Rattle.object_ops.specs.Replies.{was_done}
 
 -- ids of one number, run and serial are given together
 pub given_same : (d : RegisterState) (id root : Id) → id_eq id root ≡ true → IsGiven d root → IsGiven d id

@@ -40,7 +40,7 @@ use Rattle.service_core.specs.declared.answers.What.TheVariants.{Replied, Denied
 use Rattle.service_core.specs.Keeps.{DenialsKeep, KeepsAll, RefusalsKeep}
 use Rattle.service_core.specs.Steps.{by_verdict, run_on, served, started, step_taken}
 use Rattle.object_acts.specs.Objects.{Objects}
-use Rattle.object_ops.specs.Answers.{was_done}
+use Rattle.object_ops.specs.Replies.{was_done}
 
 -- ---- the steps of a request
 

@@ -14,7 +14,7 @@ use Rattle.domains.specs.declared.classes.Node.{Node}
 use Rattle.domains.specs.declared.classes.NodeClass.{NodeClass}
 use Rattle.domains.specs.declared.classes.NodeClass.TheVariants.{Domain}
 use Rattle.domains.specs.declared.faults.CatFault.{CatFault}
-use Rattle.object_ops.specs.Answers.{nothing}
+use Rattle.object_ops.specs.Replies.{nothing}
 use Rattle.object_ops.specs.Needs.{right_for}
 use Rattle.object_ops.specs.Parts.{id_of}
 use Rattle.object_ops.specs.declared.grants.Step.{Step}

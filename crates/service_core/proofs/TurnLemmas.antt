@@ -8,7 +8,7 @@ use Rattle.register.specs.declared.tickets.Turn.{Turn}
 use Rattle.service_core.specs.Steps.{StopsIn, Takes, run_on, started, step_taken}
 use Rattle.service_core.specs.Turns.{AreReady, IsReadyAt}
 use Rattle.object_acts.specs.Objects.{Objects}
-use Rattle.object_ops.specs.Answers.{was_done}
+use Rattle.object_ops.specs.Replies.{was_done}
 
 -- what was done of some turns, and what is left
 pub record SoFar (g : Grant) (op : Op) (all : List Turn) (old : Objects) (reply : Reply) (m : Objects) (left : List Turn) : Type 0 where

@@ -4,7 +4,7 @@ use Rattle.std.specs.FinMap.{get}
 use Rattle.object_ids.specs.IdValues.{Id}
 use Rattle.access_lists.specs.declared.people.Caller.{Caller}
 use Rattle.domains.specs.Contents.{IsDomainAt}
-use Rattle.object_ops.specs.Answers.{nothing, was_done}
+use Rattle.object_ops.specs.Replies.{nothing, was_done}
 use Rattle.object_ops.specs.Parts.{id_of}
 use Rattle.object_ops.specs.declared.grants.Grant.{Grant}
 use Rattle.object_ops.specs.declared.grants.Step.TheVariants.{Only, Link, Make as Making}

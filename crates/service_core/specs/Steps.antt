@@ -4,7 +4,7 @@ use Rattle.std.specs.FinMap.{entries, from_entries}
 use Rattle.std.specs.List.{filter}
 use Rattle.object_ids.specs.IdValues.{Id}
 use Rattle.access_lists.specs.declared.people.Caller.{Caller}
-use Rattle.object_ops.specs.Answers.{Follows, nothing, was_done}
+use Rattle.object_ops.specs.Replies.{Follows, nothing, was_done}
 use Rattle.object_ops.specs.declared.ops.Request.{Request}
 use Rattle.object_ops.specs.declared.ops.Op.{Op}
 use Rattle.object_ops.specs.declared.ops.Op.TheVariants.{DropNode}

@@ -12,7 +12,7 @@ use Rattle.register.specs.declared.verdicts.Verdict.{Verdict}
 use Rattle.register.specs.declared.verdicts.Verdict.TheVariants.{Granted}
 use Rattle.service_core.specs.Steps.{step_taken}
 use Rattle.object_acts.specs.Objects.{Objects}
-use Rattle.object_ops.specs.Answers.{was_done}
+use Rattle.object_ops.specs.Replies.{was_done}
 
 -- the step is one of the request's, its object is of the lane, and what it makes has an id without an object
 pub record IsReady (lanes lane : ℕ) (g : Grant) (op : Op) (s : Step) (m : Objects) : Type 0 where

@@ -2,7 +2,7 @@
 
 ghost use Rattle.std.specs.Prelude.{◌≡◌, ◌<◌, [], List, length, Some, true};
 ghost use Rattle.object_ids.specs.declared.ids.Kind.TheVariants.{Group};
-ghost use Rattle.object_ops.specs.Answers.{Follows, was_done};
+ghost use Rattle.object_ops.specs.Replies.{Follows, was_done};
 ghost use Rattle.object_ops.specs.Conditions.{IsSoundOp};
 ghost use Rattle.chunk_owner.specs.Acts.{acted};
 ghost use Rattle.register.specs.Tickets.{AreEach};

@@ -8,7 +8,7 @@ use Rattle.object_ids.specs.IdValues.{Id}
 use Rattle.object_ids.specs.IdOrder.{id_order}
 use Rattle.object_ids.specs.Ids.{lane_of}
 use Rattle.object_ids.proofs.IdOrders.{id_order_once, id_order_total, tied_ids}
-use Rattle.object_ops.specs.Answers.{Follows}
+use Rattle.object_ops.specs.Replies.{Follows}
 use Rattle.object_ops.specs.declared.ops.Op.{Op}
 use Rattle.object_ops.specs.declared.ops.Op.TheVariants.{MakeObject}
 use Rattle.object_ops.specs.declared.ops.Make.{Make}

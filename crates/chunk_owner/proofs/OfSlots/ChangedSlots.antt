@@ -3,7 +3,7 @@ use Rattle.std.proofs.Common.{◌≡◌, ◌≢◌, true, false, Option, Some, N
 use Rattle.std.specs.FinMap.{get, insert}
 use Rattle.object_ids.specs.IdValues.{Id}
 use Rattle.object_ids.specs.declared.ids.Kind.{Kind}
-use Rattle.object_ops.specs.Answers.{Follows}
+use Rattle.object_ops.specs.Replies.{Follows}
 use Rattle.object_ops.specs.declared.replies.Reply.{Reply}
 use Rattle.object_acts.specs.declared.objects.Object.{Object}
 use Rattle.object_acts.specs.Objects.{IsOfKind, unmarked}

@@ -27,7 +27,7 @@ use Rattle.chunk_owner.proofs.OfSlots.ChangedSlots.{live_object}
 use Rattle.chunk_owner.proofs.OfSlots.KeptSlots.{put_here, put_others}
 use Rattle.chunk_owner.proofs.OfSlots.LaneCuts.{settled_still}
 use Rattle.chunk_owner.proofs.OfSlots.Placed.{everywhere}
-use Rattle.object_ops.specs.Answers.{was_done}
+use Rattle.object_ops.specs.Replies.{was_done}
 
 -- ---- at one id, and at each
 

@@ -36,7 +36,7 @@ use Rattle.chunk_owner.specs.Slots.Slots.{AreChunksIn, HasRecord, Says, chunks_a
 use Rattle.containers.proofs.Passing.{contrary}
 use Rattle.chunk_owner.proofs.OfSlots.Describing.{entry_unmarked}
 use Rattle.chunk_owner.proofs.Eaches.{kind-unmarked}
-use Rattle.object_ops.specs.Answers.{was_done}
+use Rattle.object_ops.specs.Replies.{was_done}
 
 -- ---- chunks
 

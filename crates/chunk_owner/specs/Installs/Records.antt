@@ -1,7 +1,7 @@
 -- The records of a lane's objects, and those that can't stand.
 use Rattle.std.specs.Prelude.{◌≡◌, ◌⊎◌, ℕ, ◌<◌, ◌≤◌, List, Option, Some, None, option_and_then}
 use Rattle.std.specs.FinMap.{get}
-use Rattle.flush_journal.specs.Records.{AreKept, Held}
+use Rattle.flush_journal.specs.Records.{Held, IsRecordMap}
 use Rattle.object_ids.specs.IdValues.{Id}
 use Rattle.object_ids.specs.Ids.{InRange, lane_of}
 use Rattle.object_ids.specs.declared.ids.Kind.TheVariants.{Dataset}
@@ -97,6 +97,6 @@ IsWholeObject (Some o) = IsKeptBody o.body × (unmarked o ≡ o)
 
 -- what is held describes the objects of a lane, which were made in runs and domains that were given
 pub record AreHeld (lanes lane run next : ℕ) (held : Held) (objects : Id → Option Object) : Type 0 where
-  pub bodies : AreKept held
+  pub bodies : IsRecordMap held
   pub described : (id : Id) → InRange id → lane_of lanes id ≡ lane → Describes held id (objects id)
   pub given : (id : Id) (o : Object) → objects id ≡ Some o → (id.run ≤ run) × (id.domain < next)

@@ -4,7 +4,7 @@ use Rattle.std.specs.FinMap.{FinMap, get, insert}
 use Rattle.object_ids.specs.IdOrder.{id_order}
 use Rattle.object_ids.specs.IdValues.{Id}
 use Rattle.object_acts.specs.declared.objects.Object.{Object}
-use Rattle.object_ops.specs.Answers.{Follows, was_done}
+use Rattle.object_ops.specs.Replies.{Follows, was_done}
 use Rattle.object_ops.specs.declared.ops.Op.{Op}
 use Rattle.object_ops.specs.declared.ops.Op.TheVariants.{PutValue}
 use Rattle.object_ops.specs.declared.replies.Reply.{Reply}

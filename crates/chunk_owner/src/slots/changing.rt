@@ -7,7 +7,7 @@ ghost use Rattle.groups_links.specs.declared.target.LinkTo.TheVariants.{Hard};
 ghost use Rattle.flush_journal.specs.Records.{Held};
 ghost use Rattle.object_ids.specs.IdValues.{Id};
 ghost use Rattle.object_ids.specs.declared.ids.Kind.{Kind};
-ghost use Rattle.object_ops.specs.Answers.{Follows, was_done};
+ghost use Rattle.object_ops.specs.Replies.{Follows, was_done};
 ghost use Rattle.object_ops.specs.Conditions.{IsSoundOp};
 ghost use Rattle.object_acts.specs.Arrays.Marked.{IsDone};
 ghost use Rattle.object_acts.specs.Acts.{change_of, changes_object, link_put, on_links};

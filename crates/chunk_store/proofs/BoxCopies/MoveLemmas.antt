@@ -5,7 +5,7 @@ use Rattle.std.proofs.lemmas.List.{drop_more, length-drop}
 use Rattle.hdf_values.specs.Nested.{piece_at}
 use Rattle.hyperslab.specs.Runs.{run_at}
 use Rattle.hyperslab.specs.declared.runs.Run.{Run}
-use Rattle.chunk_store.specs.StridedCopies.Strides.{AreCopied, AreKept, nth}
+use Rattle.chunk_store.specs.StridedCopies.Strides.{AreCopied, AreOthersKept, nth}
 use Rattle.chunk_store.specs.declared.strided_copies.copies.Strided.{Strided}
 use Rattle.chunk_store.specs.BoxCopies.Moves.{AreDistinct, AreMovedTo}
 
@@ -25,7 +25,7 @@ pub moved_first : (to at : Run → Strided) (runs : List Run) (size : ℕ) (from
 moved_first to at runs size from old = record { copied = λ k i h step. absurd (omega (arith, h)); kept = λ j apart. refl }
 
 pub moved_next : (to at : Run → Strided) (n : ℕ) (runs : List Run) (size : ℕ) (from old out new : List ℕ) → n < length runs → AreDistinct to runs → AreMovedTo to at n runs size from old out
-    → AreCopied (to (run_at runs n)) (at (run_at runs n)) (run_at runs n).len size from new → AreKept (to (run_at runs n)) (run_at runs n).len size out new → AreMovedTo to at (n + 1) runs size from old new
+    → AreCopied (to (run_at runs n)) (at (run_at runs n)) (run_at runs n).len size from new → AreOthersKept (to (run_at runs n)) (run_at runs n).len size out new → AreMovedTo to at (n + 1) runs size from old new
 moved_next to at n runs size from old out new there distinct so copied kept = record {
   copied = λ k i h step. elim (cases_lt k n) [
     | inl low ↦

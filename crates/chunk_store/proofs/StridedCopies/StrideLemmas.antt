@@ -5,7 +5,7 @@ use Rattle.std.proofs.lemmas.Bool.{cases_lt}
 use Rattle.std.proofs.lemmas.List.{drop-take, drop-drop, take-take, length-drop, length-take-le}
 use Rattle.hdf_values.specs.Nested.{piece_at, pieces_at, with_pieces}
 use Rattle.hdf_values.proofs.JoinLemmas.{replaced_piece, kept_piece}
-use Rattle.chunk_store.specs.StridedCopies.Strides.{nth, Fit, AreCopied, AreKept}
+use Rattle.chunk_store.specs.StridedCopies.Strides.{nth, Fit, AreCopied, AreOthersKept}
 use Rattle.chunk_store.specs.declared.strided_copies.copies.Strided.{Strided}
 
 -- ---- elements that follow one another
@@ -52,7 +52,7 @@ beside j k n h = elim (cases_lt j k) [
   ]
 ]
 
-pub together_kept : (to : Strided) (many size : ℕ) (xs old : List ℕ) → to.stride ≡ 1 → length xs ≡ many * size → (to.first + many) * size ≤ length old → AreKept to many size old (with_pieces size to.first xs old)
+pub together_kept : (to : Strided) (many size : ℕ) (xs old : List ℕ) → to.stride ≡ 1 → length xs ≡ many * size → (to.first + many) * size ≤ length old → AreOthersKept to many size old (with_pieces size to.first xs old)
 together_kept to many size xs old e len room j apart =
     kept_piece size to.first many j xs old len (omega (arith, room)) (beside j to.first many (λ i h same. apart i h (same ∙ sym (next_one to i e))))
 
@@ -83,7 +83,7 @@ put_copied to at i size from old xs h done e inside room j less =
           ∙ ap (piece_at size 0) e ∙ there ∙ ap (λ n. piece_at size n from) at_none ∙ ap (λ n. piece_at size (nth at n) from) (sym same)
     ]
 
-pub put_kept : (to : Strided) (i size : ℕ) (first old xs : List ℕ) → AreKept to i size first old → length xs ≡ 1 * size → (nth to i + 1) * size ≤ length old → AreKept to (i + 1) size first (with_pieces size (nth to i) xs old)
+pub put_kept : (to : Strided) (i size : ℕ) (first old xs : List ℕ) → AreOthersKept to i size first old → length xs ≡ 1 * size → (nth to i + 1) * size ≤ length old → AreOthersKept to (i + 1) size first (with_pieces size (nth to i) xs old)
 put_kept to i size first old xs done len room j out =
     kept_piece size (nth to i) 1 j xs old len (omega (arith, room)) (beside j (nth to i) 1 (λ k few same. out i (omega arith) (same ∙ omega (arith, few))))
     ∙ done j (λ k less. out k (omega (arith, less)))

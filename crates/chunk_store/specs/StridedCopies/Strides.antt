@@ -16,5 +16,5 @@ abbrev pub AreCopied : Strided → Strided → ℕ → ℕ → List ℕ → List
 AreCopied to at many size from out = (i : ℕ) → i < many → piece_at size (nth to i) out ≡ piece_at size (nth at i) from
 
 -- each other element is what it was
-abbrev pub AreKept : Strided → ℕ → ℕ → List ℕ → List ℕ → Type 0
-AreKept to many size old out = (j : ℕ) → ((i : ℕ) → i < many → j ≡ nth to i → ⊥) → piece_at size j out ≡ piece_at size j old
+abbrev pub AreOthersKept : Strided → ℕ → ℕ → List ℕ → List ℕ → Type 0
+AreOthersKept to many size old out = (j : ℕ) → ((i : ℕ) → i < many → j ≡ nth to i → ⊥) → piece_at size j out ≡ piece_at size j old

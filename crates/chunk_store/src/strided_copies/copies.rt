@@ -2,7 +2,7 @@
 
 ghost use Rattle.std.specs.Prelude.{◌≡◌, ◌≤◌, ◌+◌, ◌*◌, length};
 ghost use Rattle.hdf_values.specs.Nested.{pieces_at, with_pieces};
-ghost use Rattle.chunk_store.specs.StridedCopies.Strides.{AreCopied, AreKept, Fit};
+ghost use Rattle.chunk_store.specs.StridedCopies.Strides.{AreCopied, AreOthersKept, Fit};
 
 /// Elements of a slice, by their numbers.
 #[derive(Clone, Copy, Debug, PartialEq, Eq)]
@@ -21,7 +21,7 @@ pub fn copy_strided(out: &mut [u8], to: Strided, from: &[u8], at: Strided, many:
     requires out { Fit to many size (length out.old) }
     requires from { Fit at many size (length from.now) }
     ensures copied { AreCopied to at many size from.now out.new }
-    ensures kept { AreKept to many size out.old out.new }
+    ensures kept { AreOthersKept to many size out.old out.new }
     ensures len { length out.new ≡ length out.old }
 {
     if many > 1 && to.stride == 1 && at.stride == 1 {
@@ -39,7 +39,7 @@ fn copy_sized(out: &mut [u8], to: Strided, from: &[u8], at: Strided, many: usize
     requires out { Fit to many size (length out.old) }
     requires from { Fit at many size (length from.now) }
     ensures copied { AreCopied to at many size from.now out.new }
-    ensures kept { AreKept to many size out.old out.new }
+    ensures kept { AreOthersKept to many size out.old out.new }
     ensures len { length out.new ≡ length out.old }
 {
     if size == 4 {
@@ -58,7 +58,7 @@ fn copy_each(out: &mut [u8], to: Strided, from: &[u8], at: Strided, many: usize,
     requires out { Fit to many size (length out.old) }
     requires from { Fit at many size (length from.now) }
     ensures copied { AreCopied to at many size from.now out.new }
-    ensures kept { AreKept to many size out.old out.new }
+    ensures kept { AreOthersKept to many size out.old out.new }
     ensures len { length out.new ≡ length out.old }
 {
     for i in 0..many {

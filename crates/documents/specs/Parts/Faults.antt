@@ -1,6 +1,6 @@
 -- Why a document is refused, and where: the fault with its whole path, and what a call answers beside it.
 use Rattle.std.specs.Prelude.{◌≡◌, ℕ, List, Result, Ok, Err}
-use Rattle.json_trees.specs.Faults.{Gives, Leaves as LeavesTold}
+use Rattle.json_trees.specs.Faults.{Gives as GivesTold, Leaves as LeavesTold}
 use Rattle.documents.specs.Parts.Paths.{IsShown}
 use Rattle.documents.specs.declared.parts.faults.DocCause.{DocCause}
 use Rattle.documents.specs.declared.parts.faults.DocFault.{DocFault}
@@ -24,12 +24,12 @@ Fails e (Ok x) = e ≡ NoMemory
 Fails e (Err f) = Tells e f
 
 -- a call gives what the tests find, seen through `see`, or it fails
-abbrev pub Reads : {A T : Type 0} → (T → A) → Result T DocFault → Result A Fault → Type 0
-Reads see given found = Gives Fails see given found
+abbrev pub Gives : {A T : Type 0} → (T → A) → Result T DocFault → Result A Fault → Type 0
+Gives see given found = GivesTold Fails see given found
 
 -- the same, where what is given is seen as it is
 abbrev pub Answers : {A : Type 0} → Result A DocFault → Result A Fault → Type 0
-Answers given found = Gives Fails (λ x. x) given found
+Answers given found = GivesTold Fails (λ x. x) given found
 
 -- a call leaves behind what the tests find, or it fails
 abbrev pub Leaves : {A T : Type 0} → Result T DocFault → A → Result A Fault → Type 0

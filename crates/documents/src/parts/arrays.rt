@@ -14,7 +14,7 @@ ghost use Rattle.object_ops.specs.Creation.Creations.{shown_creation};
 ghost use Rattle.documents.specs.Parts.Arrays.{array_at, creation_at, filled_at, shape_at};
 ghost use Rattle.documents.specs.Parts.Arrays.{IsCreationTold, IsValueTold, value_at, with_bytes};
 ghost use Rattle.chunk_store.specs.Marks.{IsTracked};
-ghost use Rattle.documents.specs.Parts.Faults.{Answers, Reads, Tells, fault};
+ghost use Rattle.documents.specs.Parts.Faults.{Answers, Gives, Tells, fault};
 ghost use Rattle.documents.specs.Parts.Paths.{under};
 ghost use Rattle.documents.specs.declared.parts.faults.DocCause.TheVariants.{BadLayout};
 
@@ -64,7 +64,7 @@ fn creation_in(
 ) -> Result<Creation, DocFault>
     requires kind { IsSoundType (elem_of kind.now) }
     requires shape { IsSound shape.now }
-    ensures exact { Reads shown_creation result
+    ensures exact { Gives shown_creation result
         (creation_at path.now (elem_of kind.now) shape.now (shown tree.entry)) }
     ensures fits { IfOk result
         (λ c. Fits (size_of (elem_of kind.now)) (dims_of shape.now) c.layout.chunk) }
@@ -140,7 +140,7 @@ fn value_in(
     tree: &Value,
 ) -> Result<Vec<u8>, DocFault>
     requires { IsSoundType (elem_of kind.now) }
-    ensures exact { Reads (λ v. v.items) result
+    ensures exact { Gives (λ v. v.items) result
         (value_at path.now (elem_of kind.now) shape.now (view tree.now)) }
     ensures encoded { IfOk result
         (λ v. AreEncoded (elem_of kind.now) (count_of shape.now) v.items) }

@@ -3,7 +3,7 @@
 ghost use Rattle.std.specs.Prelude.{◌≡◌, IfOk, decimal, map, string_bytes};
 ghost use Rattle.serde_json.specs.View.{members_view, view};
 ghost use Rattle.json_trees.specs.Trees.{list_in};
-ghost use Rattle.documents.specs.Parts.Faults.{Reads};
+ghost use Rattle.documents.specs.Parts.Faults.{Gives};
 ghost use Rattle.documents.specs.Parts.Items.{items_at, members_at};
 ghost use Rattle.documents.specs.Parts.Paths.{under};
 
@@ -23,7 +23,7 @@ pub fn members<'a>(
     path: &str,
     tree: &'a Value,
 ) -> Result<&'a Map<String, Value>, DocFault>
-    ensures { Reads (λ m. members_view m.now.entries) result
+    ensures { Gives (λ m. members_view m.now.entries) result
         (members_at path.now (view tree.now)) }
 {
     match tree.as_object() {
@@ -39,7 +39,7 @@ pub(crate) fn items<'a>(
     most: usize,
     tree: &'a Value,
 ) -> Result<&'a [Value], DocFault>
-    ensures { Reads (λ items. map view items.now) result
+    ensures { Gives (λ items. map view items.now) result
         (items_at most path.now (list_in (view tree.now))) }
 {
     match list_items(tree) {

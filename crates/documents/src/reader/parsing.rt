@@ -2,7 +2,7 @@
 
 ghost use Rattle.std.specs.Prelude.{◌≡◌};
 ghost use Rattle.serde_json.specs.View.{view};
-ghost use Rattle.documents.specs.Parts.Faults.{Reads};
+ghost use Rattle.documents.specs.Parts.Faults.{Gives};
 ghost use Rattle.documents.specs.Reader.Texts.{IsJsonFault, json_at, text_tree};
 
 use crate::parts::{DocCause, DocFault, refused};
@@ -12,7 +12,7 @@ use std::alloc::Global;
 
 // The tree of a text that is short enough.
 pub(crate) fn parse(alloc: Global, text: &[u8]) -> Result<Value, DocFault>
-    ensures { Reads view result (text_tree text.now) }
+    ensures { Gives view result (text_tree text.now) }
 {
     if text.len() <= MAX_DOCUMENT {
         json(alloc, text)
@@ -22,7 +22,7 @@ pub(crate) fn parse(alloc: Global, text: &[u8]) -> Result<Value, DocFault>
 }
 
 fn json(alloc: Global, text: &[u8]) -> Result<Value, DocFault>
-    ensures { Reads view result (json_at text.now) }
+    ensures { Gives view result (json_at text.now) }
 {
     match Value::from_slice(alloc, text) {
         Ok(tree) => Ok(tree),

@@ -4,7 +4,7 @@ ghost use Rattle.std.specs.Prelude.{◌≡◌, ◌<◌, Err, OnOk};
 ghost use Rattle.std.specs.FinMap as map;
 ghost use Rattle.serde_json.specs.View.{members_view, view};
 ghost use Rattle.access_lists.specs.InForce.{most_entries};
-ghost use Rattle.domains.specs.Records.Answers.{Reads};
+ghost use Rattle.domains.specs.Records.Readings.{Reads};
 ghost use Rattle.domains.specs.Records.Lists.{entry_in, entry_of, list_in, listed, name_in};
 ghost use Rattle.json_trees.specs.Trees.{pairs_of};
 ghost use Rattle.domains.specs.Records.Lists.{right_at, size};

@@ -4,7 +4,7 @@ ghost use Rattle.std.specs.Prelude.{◌≡◌, IfOk, IfSome};
 ghost use Rattle.serde_json.specs.View.{view};
 ghost use Rattle.groups_links.specs.IdTexts.{id_of};
 ghost use Rattle.domains.specs.Contents.{HasRoot};
-ghost use Rattle.domains.specs.Records.Answers.{Reads};
+ghost use Rattle.domains.specs.Records.Readings.{Reads};
 ghost use Rattle.domains.specs.Records.Nodes.{IsKeptNode, class_in, class_of, domain_in, domain_of};
 ghost use Rattle.domains.specs.Records.Nodes.{folder_in, is_root, node_in, node_of_body, number_at};
 ghost use Rattle.domains.specs.Records.Nodes.{owner_in, root_at};

@@ -5,7 +5,7 @@ use Rattle.edge_traits.specs.Causes.{Rose}
 use Rattle.edge_traits.proofs.CauseLemmas.{rose_since}
 use Rattle.flush_journal.specs.Files.{Content, content}
 use Rattle.flush_journal.specs.Frames.{need_of}
-use Rattle.flush_journal.specs.Moments.{Leaves}
+use Rattle.flush_journal.specs.Moments.{CrashLeaves}
 use Rattle.flush_journal.specs.Records.{Held, Record, put_all}
 use Rattle.flush_journal.specs.Standing.{HasEither, HoldsEither, IsOwed, IsSettled, disk_of, end_of, pending_of, with_batch}
 use Rattle.flush_journal.specs.Tries.{Tries, Writes}
@@ -65,7 +65,7 @@ module _ {D W : Type 0} {met : Ghosts D} (tells : Held → W → Type 0) (j : Jo
   recut built now cut (owed c rs o t u w) = owed c rs o t u (cut (put_all rs c.held) w)
 
   -- before any call
-  still : ((c : List ℕ) → met.left_since (disk_of j) (met.moment (disk_of j)) c → met.images (disk_of j) c) → IsBacked tells j building says ws → Leaves met (disk_of j) (disk_of j) (HoldsOne tells ws)
+  still : ((c : List ℕ) → met.left_since (disk_of j) (met.moment (disk_of j)) c → met.images (disk_of j) c) → IsBacked tells j building says ws → CrashLeaves met (disk_of j) (disk_of j) (HoldsOne tells ws)
   still only_now backed = no_call met (disk_of j) (HoldsOne tells ws) (λ c left. each_image backed c (only_now c left))
 
 -- ---- why a batch was refused
@@ -109,8 +109,8 @@ module _ {D W : Type 0} {met : Ghosts D} (tells : Held → W → Type 0) (old ne
   stays_owed building says ws e is honest (settled c s t w) = ok_not_err r tt e (IsBacked tells new building says ws) (none s.idle) is
   stays_owed building says ws e is honest (owed c rs o t u w) = owed c rs (on_err r (IsOwed new c rs) e is (writes honest c rs o).err) t u w
 
-  settling : (building : List Record) (says : Held → Type 0) (ws : List W) → met.honest → IsBacked tells old building says ws → Leaves met (disk_of old) (disk_of new) (HoldsOne tells ws)
-  settling building says ws honest (settled c s t w) = subst (λ (j : Journal D met). Leaves met (disk_of old) (disk_of j) (HoldsOne tells ws)) (sym (untouched s.idle))
+  settling : (building : List Record) (says : Held → Type 0) (ws : List W) → met.honest → IsBacked tells old building says ws → CrashLeaves met (disk_of old) (disk_of new) (HoldsOne tells ws)
+  settling building says ws honest (settled c s t w) = subst (λ (j : Journal D met). CrashLeaves met (disk_of old) (disk_of j) (HoldsOne tells ws)) (sym (untouched s.idle))
       (still tells old building says ws (λ c left. only_now (disk_of old) c honest left) (settled c s t w))
   settling building says ws honest (owed c rs o t u w) = weaker met (disk_of old) (disk_of new) (HasEither c (with_batch c rs)) (HoldsOne tells ws) (λ image has. either image (either_held c rs image has)) (writes honest c rs o).moments where
     either : (image : List ℕ) → HoldsEither c.held (put_all rs c.held) image → HoldsOne tells ws image
@@ -199,8 +199,8 @@ module _ {D W : Type 0} {met : Ghosts D} (tells : Held → W → Type 0) (old ne
           (subst says (sym (with_batch-held c built)) said_now)
       by (Err e) wr = owed c built wr.err (inr t) (inl (told (put_all built c.held) said_now)) said_now
 
-    moments : met.honest → (ws : List W) → IsBacked tells old building said ws → Leaves met (disk_of old) (disk_of new) (HoldsOne tells (now ∷ ws))
-    moments honest ws (owed c rs o t u w) = none_some (pending_of old) rs (Leaves met (disk_of old) (disk_of new) (HoldsOne tells (now ∷ ws))) idle o.pending
+    moments : met.honest → (ws : List W) → IsBacked tells old building said ws → CrashLeaves met (disk_of old) (disk_of new) (HoldsOne tells (now ∷ ws))
+    moments honest ws (owed c rs o t u w) = none_some (pending_of old) rs (CrashLeaves met (disk_of old) (disk_of new) (HoldsOne tells (now ∷ ws))) idle o.pending
     moments honest ws (settled c s t w) = weaker met (disk_of old) (disk_of new) (HasEither c (with_batch c built)) (HoldsOne tells (now ∷ ws)) (λ image has. either image (either_held c built image has)) (writes honest c s).moments where
       either : (image : List ℕ) → HoldsEither c.held (put_all built c.held) image → HoldsOne tells (now ∷ ws) image
       either image (inl h) = (c.held, h, inr t)

@@ -10,7 +10,7 @@ use Rattle.edge_traits.specs.Causes.{Rose}
 use Rattle.edge_traits.specs.declared.disk.Disk.{Ghosts}
 use Rattle.flush_journal.specs.Files.{Content, held}
 use Rattle.flush_journal.specs.Frames.{need_of}
-use Rattle.flush_journal.specs.Moments.{Leaves}
+use Rattle.flush_journal.specs.Moments.{CrashLeaves}
 use Rattle.flush_journal.specs.Records.{Held, Record, put_all}
 use Rattle.flush_journal.specs.Tries.{one_more}
 use Rattle.flush_journal.specs.declared.report.Report.{Report}
@@ -67,7 +67,7 @@ MayRefuseKeeping old new Exists = ⊥
 pub record Keeps {D W T : Type 0} {met : Ghosts D} (tells : Held → W → Type 0) (old new : Journal D met) (building built : List Record) (said says : Held → Type 0) (now : W)
     (result : Result T Why) : Type 0 where
   pub backed : met.honest → (ws : List W) → IsBacked tells old building said ws → IsBacked tells new built says (worlds_after ws now result)
-  pub crash : met.honest → (ws : List W) → IsBacked tells old building said ws → Leaves met (disk_of old) (disk_of new) (HoldsOne tells (now ∷ ws))
+  pub crash : met.honest → (ws : List W) → IsBacked tells old building said ws → CrashLeaves met (disk_of old) (disk_of new) (HoldsOne tells (now ∷ ws))
   pub idle : OnOk result (pending_of new ≡ None)
   pub disk : SameDisk met (disk_of old) (disk_of new)
   pub cause : IfErr result (MayRefuseKeeping old new)

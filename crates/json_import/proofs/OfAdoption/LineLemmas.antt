@@ -120,15 +120,15 @@ kept_literal name t s = kept_where _ _ t (λ h.
 abbrev EndOf : List ℕ → List ℕ → Type 0
 EndOf t r = (k : ℕ) × (r ≡ drop k t)
 
-abbrev Leaves : List ℕ → Option (List ℕ) → Type 0
-Leaves t None = Unit {0}
-Leaves t (Some r) = EndOf t r
+abbrev LeavesEnd : List ℕ → Option (List ℕ) → Type 0
+LeavesEnd t None = Unit {0}
+LeavesEnd t (Some r) = EndOf t r
 
-further : (t u : List ℕ) (o : Option (List ℕ)) → EndOf t u → Leaves u o → Leaves t o
+further : (t u : List ℕ) (o : Option (List ℕ)) → EndOf t u → LeavesEnd u o → LeavesEnd t o
 further t u None e h = tt
 further t u (Some r) e h = (e.0 + h.0, h.1 ∙ ap (drop h.0) e.1 ∙ drop-drop h.0 e.0 t)
 
-one_way : (t : List ℕ) (b : Bool) (x y : Option (List ℕ)) → Leaves t x → Leaves t y → Leaves t (cond b x y)
+one_way : (t : List ℕ) (b : Bool) (x y : Option (List ℕ)) → LeavesEnd t x → LeavesEnd t y → LeavesEnd t (cond b x y)
 one_way t true x y p q = p
 one_way t false x y p q = q
 
@@ -136,22 +136,22 @@ optional : (t : List ℕ) (b : Bool) → EndOf t (cond b (drop 1 t) t)
 optional t true = (1, refl)
 optional t false = (0, refl)
 
-digits : (t : List ℕ) → Leaves t (after_digits t)
+digits : (t : List ℕ) → LeavesEnd t (after_digits t)
 digits t = one_way t (prefix_len is_ascii_digit t == 0) None _ tt (prefix_len is_ascii_digit t, refl)
 
-next : (t : List ℕ) (f : List ℕ → Option (List ℕ)) → ((u : List ℕ) → Leaves u (f u)) → (o : Option (List ℕ)) → Leaves t o → Leaves t (option_and_then f o)
+next : (t : List ℕ) (f : List ℕ → Option (List ℕ)) → ((u : List ℕ) → LeavesEnd u (f u)) → (o : Option (List ℕ)) → LeavesEnd t o → LeavesEnd t (option_and_then f o)
 next t f g None h = tt
 next t f g (Some r) h = further t r (f r) h (g r)
 
-fraction : (t : List ℕ) → Leaves t (after_fraction t)
+fraction : (t : List ℕ) → LeavesEnd t (after_fraction t)
 fraction t = one_way t (head t == 46) _ (Some t) (further t (drop 1 t) _ (1, refl) (digits (drop 1 t))) (0, refl)
 
-exponent : (t : List ℕ) → Leaves t (after_exponent t)
+exponent : (t : List ℕ) → LeavesEnd t (after_exponent t)
 exponent t =
     let u = drop 1 t in
     one_way t ((head t == 101) || (head t == 69)) _ (Some t) (further t u _ (1, refl) (further u (after_sign u) _ (optional u _) (digits (after_sign u)))) (0, refl)
 
-number_leaves : (t : List ℕ) → Leaves t (after_number t)
+number_leaves : (t : List ℕ) → LeavesEnd t (after_number t)
 unfolding after_number
 number_leaves t =
     let u = after_minus t in
@@ -192,7 +192,7 @@ module _ (x : ℕ) (xs : List ℕ) (is : class x ≡ other) where
   abbrev now : Token
   now = word (x ∷ (xs ++ feed))
 
-  kept_number : (o : Option (List ℕ)) → after_number (x ∷ xs) ≡ o → Leaves (x ∷ xs) o → IsKept (number_before (x ∷ xs) o) now
+  kept_number : (o : Option (List ℕ)) → after_number (x ∷ xs) ≡ o → LeavesEnd (x ∷ xs) o → IsKept (number_before (x ∷ xs) o) now
   kept_number None e h = inl refl
   kept_number (Some r) e h = at (ends_word r) refl where
     at : (b : Bool) → ends_word r ≡ b → IsKept (cond b (number (take (length (x ∷ xs) - length r) (x ∷ xs))) bad) now
@@ -224,18 +224,18 @@ IsKeptLexeme (token t) m = (u : Token) × (m ≡ token u) × IsKept t u
 IsKeptLexeme comma m = m ≡ comma
 IsKeptLexeme colon m = m ≡ colon
 
-abbrev AreKept : List Lexeme → List Lexeme → Type 0
-AreKept [] ms = ms ≡ []
-AreKept (l ∷ ls) [] = ⊥
-AreKept (l ∷ ls) (m ∷ ms) = IsKeptLexeme l m × AreKept ls ms
+abbrev AreKeptLexemes : List Lexeme → List Lexeme → Type 0
+AreKeptLexemes [] ms = ms ≡ []
+AreKeptLexemes (l ∷ ls) [] = ⊥
+AreKeptLexemes (l ∷ ls) (m ∷ ms) = IsKeptLexeme l m × AreKeptLexemes ls ms
 
 itself : (l : Lexeme) → IsKeptLexeme l l
 itself (token t) = (t, refl, inr refl)
 itself comma = refl
 itself colon = refl
 
-bytes_kept : (m : Mode) (c : Class) (x : ℕ) (xs : List ℕ) → class x ≡ c → ((n : Mode) → AreKept (lex n xs) (lex n (xs ++ feed)))
-    → AreKept (lex_byte m c x xs (λ n. lex n xs)) (lex_byte m c x (xs ++ feed) (λ n. lex n (xs ++ feed)))
+bytes_kept : (m : Mode) (c : Class) (x : ℕ) (xs : List ℕ) → class x ≡ c → ((n : Mode) → AreKeptLexemes (lex n xs) (lex n (xs ++ feed)))
+    → AreKeptLexemes (lex_byte m c x xs (λ n. lex n xs)) (lex_byte m c x (xs ++ feed) (λ n. lex n (xs ++ feed)))
 bytes_kept between quote x xs is h = ((_, refl, kept_text _ _ (content_grows plain xs)), h in_string)
 bytes_kept between backslash x xs is h = ((_, refl, inl refl), h in_word)
 bytes_kept between operator x xs is h = (itself (operator_lexeme x), h between)
@@ -253,7 +253,7 @@ bytes_kept in_string space x xs is h = h in_string
 bytes_kept in_string other x xs is h = h in_string
 bytes_kept in_escape c x xs is h = h in_string
 
-lex_kept : (xs : List ℕ) (m : Mode) → AreKept (lex m xs) (lex m (xs ++ feed))
+lex_kept : (xs : List ℕ) (m : Mode) → AreKeptLexemes (lex m xs) (lex m (xs ++ feed))
 unfolding lex
 lex_kept [] between = refl
 lex_kept [] in_word = refl
@@ -287,7 +287,7 @@ module _ (k l : Place → List Token) (h : (n : Place) → ArePrintable (k n) �
   placed p null b fine = allowed (may_begin p) null k l after_value h fine
   placed p bad b fine = refl
 
-same_colon : (ls ms : List Lexeme) → AreKept ls ms → begins_colon ms ≡ begins_colon ls
+same_colon : (ls ms : List Lexeme) → AreKeptLexemes ls ms → begins_colon ms ≡ begins_colon ls
 same_colon [] ms h = ap begins_colon h
 same_colon (l ∷ ls) [] h = absurd h
 same_colon (token t ∷ ls) (m ∷ ms) h = ap (λ n. begins_colon (n ∷ ms)) h.0.1
@@ -303,7 +303,7 @@ token_stays p t u ls ms (inl is) colons h fine =
 token_stays p t u ls ms (inr same) colons h fine =
     (λ i. place_token p (same i) (colons i) (λ n. punctuate n ms)) ∙ placed (λ n. punctuate n ls) (λ n. punctuate n ms) h p t (begins_colon ls) fine
 
-stays : (ls ms : List Lexeme) → AreKept ls ms → (p : Place) → ArePrintable (punctuate p ls) → punctuate p ms ≡ punctuate p ls
+stays : (ls ms : List Lexeme) → AreKeptLexemes ls ms → (p : Place) → ArePrintable (punctuate p ls) → punctuate p ms ≡ punctuate p ls
 unfolding punctuate
 stays [] ms h p fine = ap (punctuate p) h
 stays (l ∷ ls) [] h p fine = absurd h

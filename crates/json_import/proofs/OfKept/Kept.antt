@@ -6,7 +6,7 @@ use Rattle.edge_traits.specs.Causes.{Rose}
 use Rattle.edge_traits.specs.declared.disk.Disk.{Ghosts}
 use Rattle.flush_journal.specs.Batches.{records}
 use Rattle.flush_journal.specs.Files.{Content, content}
-use Rattle.flush_journal.specs.Moments.{Leaves, LeavesSince}
+use Rattle.flush_journal.specs.Moments.{CrashLeaves, CrashLeavesSince}
 use Rattle.flush_journal.specs.Records.{Held, Record, put_record}
 use Rattle.flush_journal.specs.Standing.{HoldsEither, IsSettled, disk_of, pending_of, with_batch}
 use Rattle.flush_journal.specs.declared.journal.Journal.{Journal}
@@ -22,7 +22,7 @@ use Rattle.service_core.specs.Records.{DescribesWorld, WorldSays, WorldStillSays
 use Rattle.service_core.specs.Steps.{World}
 use Rattle.service_core.specs.Worlds.{State, seen}
 use Rattle.json_import.specs.Kept.Documents.{adopted}
-use Rattle.json_import.specs.Kept.Imports.{BeginsAlone, HasCauseOf, HoldsOneOf, IsDiskFault, CameTo, KeepsAdopted}
+use Rattle.json_import.specs.Kept.Imports.{BeginsAlone, HasCauseOf, HoldsOneOf, IsImportDiskFault, CameTo, KeepsAdopted}
 use Rattle.json_import.specs.Kept.Parts.{IsAdopted, IsAdoptedFrom, CameToFrom, IsKeptFrom, kept_outcome}
 use Rattle.json_import.specs.declared.kept.outcome.Outcome.{Outcome}
 use Rattle.json_import.specs.declared.kept.outcome.Outcome.TheVariants.{Unopened, Unbegun, Unread, Refused, NoMemory, Unkept, Adopted}
@@ -47,7 +47,7 @@ pub cause_of_keeping : (before now : ℕ) (last : Result ℕ Why) (counts : Coun
 cause_of_keeping before now (Ok n) counts later = later
 cause_of_keeping before now (Err why) counts later = later
 
-pub fault_of_keeping : {D : Type 0} {met : Ghosts D} (j : Journal D met) (s : State) (after : D) (last : Result ℕ Why) (counts : Counts) → IsKeptFrom j s after last → IsDiskFault (kept_outcome last counts)
+pub fault_of_keeping : {D : Type 0} {met : Ghosts D} (j : Journal D met) (s : State) (after : D) (last : Result ℕ Why) (counts : Counts) → IsKeptFrom j s after last → IsImportDiskFault (kept_outcome last counts)
     → Rose (met.faults (disk_of j)) (met.faults after)
 fault_of_keeping j s after (Ok n) counts k is = absurd is
 fault_of_keeping {D} {met} j s after (Err why) counts k is =
@@ -74,7 +74,7 @@ module _ {D : Type 0} (met : Ghosts D) (before : D) (j : Journal D met) (s : Sta
     only = λ honest. let o = on honest in (o.0, o.1, λ image left. has_run o.0 o.2.begun image (here image left));
     images = λ honest image left. let o = on honest in
         (put_record run o.0.held, held-content image (with_batch o.0 (run ∷ [])) (has_run o.0 o.2.begun image (here image left)), o.2.begun.describes);
-    crash = λ honest. let o = on honest in (o.0, o.1, subst (λ (d : D). LeavesSince met before d (HoldsEither o.0.held (put_record run o.0.held))) (sym same) o.2.crash);
+    crash = λ honest. let o = on honest in (o.0, o.1, subst (λ (d : D). CrashLeavesSince met before d (HoldsEither o.0.held (put_record run o.0.held))) (sym same) o.2.crash);
   } where
     here : (image : List ℕ) → met.images after image → met.images (disk_of j) image
     here image left = subst (λ (d : D). met.images d image) same left
@@ -131,11 +131,11 @@ module _ {D : Type 0} (met : Ghosts D) (before : D) (j : Journal D met) (s : Sta
     of_begun c b file (inr (inl old)) = inr (inl old)
     of_begun c b file (inr (inr now)) = inr (inr (inl (put_record run c.held, now, b.describes)))
 
-    crash_of : met.honest → (c : Content) → IsBegunSince met before j s c → LeavesSince met before after (HoldsOneOf c.held (seen s) new)
+    crash_of : met.honest → (c : Content) → IsBegunSince met before j s c → CrashLeavesSince met before after (HoldsOneOf c.held (seen s) new)
     crash_of honest c b = joined met before (disk_of j) after (IsLeft c)
         (weaker met before (disk_of j) (λ file. met.images before file ⊎ HoldsEither c.held (put_record run c.held) file) (IsLeft c) (of_begun c b.begun) b.crash)
-        (subst (λ (d : D). Leaves met (disk_of j) d (IsLeft c)) (sym k.disk)
-        (subst (λ (x : Journal D met). Leaves met (disk_of x) (disk_of k.ended.journal) (IsLeft c)) k.journal
+        (subst (λ (d : D). CrashLeaves met (disk_of j) d (IsLeft c)) (sym k.disk)
+        (subst (λ (x : Journal D met). CrashLeaves met (disk_of x) (disk_of k.ended.journal) (IsLeft c)) k.journal
         (weaker met (disk_of k.begun.journal) (disk_of k.ended.journal) (HoldsOne TellsWorld (as_kept k.kept ∷ as_kept s ∷ [])) (IsLeft c) (λ file one. inr (inr (one_of_two file one)))
         (k.keeps.keeps.crash honest (as_kept s ∷ []) (backed c b.begun)))))
 

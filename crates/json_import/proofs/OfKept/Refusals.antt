@@ -23,7 +23,7 @@ use Rattle.edge_traits.specs.SourceTexts.Texts.{IsLongText, IsTaken, IsWholeText
 use Rattle.edge_traits.specs.declared.source_texts.reading.TextFault.{TextFault}
 use Rattle.edge_traits.specs.declared.source_texts.reading.TextFault.TheVariants as text
 use Rattle.json_import.specs.Kept.Documents.{IsDocument}
-use Rattle.json_import.specs.Kept.Imports.{CameTo, HasCauseOf, IsDiskFault}
+use Rattle.json_import.specs.Kept.Imports.{CameTo, HasCauseOf, IsImportDiskFault}
 use Rattle.json_import.specs.Kept.Parts.{CameToFrom, IsUnadopted, IsUnloaded, of_adoption, of_begin, of_document, of_text, outcome_of}
 use Rattle.json_import.specs.declared.kept.reading.Unadopted.{Unadopted}
 use Rattle.json_import.specs.declared.kept.reading.Unadopted.TheVariants as unadopted
@@ -39,7 +39,7 @@ pub cause_unstarted : (faults : ℕ) (why : BeginFault) → HasCauseOf faults fa
 cause_unstarted faults (begin.Unopened refusal) = refl
 cause_unstarted faults (begin.Unbegun refusal) = refl
 
-pub fault_unstarted : (why : BeginFault) → IsDiskFault (of_begin why) → IsOfDisk why
+pub fault_unstarted : (why : BeginFault) → IsImportDiskFault (of_begin why) → IsOfDisk why
 fault_unstarted (begin.Unopened refusal) h = h
 fault_unstarted (begin.Unbegun refusal) h = h
 
@@ -93,7 +93,7 @@ cause_of_refusal lb la before now w path unadopted.Unread h later = h
 cause_of_refusal lb la before now w path unadopted.Refused h later = later
 cause_of_refusal lb la before now w path unadopted.NoMemory h later = later
 
-pub no_disk_fault : (e : Unadopted) → IsDiskFault (outcome_of e) → ⊥
+pub no_disk_fault : (e : Unadopted) → IsImportDiskFault (outcome_of e) → ⊥
 no_disk_fault unadopted.Unread h = h
 no_disk_fault unadopted.Refused h = h
 no_disk_fault unadopted.NoMemory h = h

@@ -19,7 +19,7 @@ use Rattle.service_core.specs.Journals.Opening.{IsOf}
 use Rattle.service_core.specs.declared.journals.beginning.BeginFault.TheVariants as begin
 use Rattle.service_core.specs.declared.journals.faults.OpenFault.TheVariants as fault
 use Rattle.flush_journal.specs.Keepings.Keepings.{IsNewKeeping}
-use Rattle.flush_journal.specs.Moments.{LeavesSince}
+use Rattle.flush_journal.specs.Moments.{CrashLeavesSince}
 use Rattle.service_core.specs.Journals.Begun.{IsRecovered, IsUnstarted}
 use Rattle.service_core.specs.KeptWorlds.{KeepsWorld, HoldsWorld}
 use Rattle.service_core.specs.Records.{run_record}
@@ -43,7 +43,7 @@ pub record BeginsAlone {D : Type 0} (met : Ghosts D) (before after : D) (first :
   pub recovered : met.honest → IsOf (met.reads before) (λ c. IsRecovered c.held first)
   pub only : met.honest → IsOf (met.reads before) (λ c. (image : List ℕ) → met.images after image → content image ≡ Ok (with_batch c (run_record first.register ∷ [])))
   pub images : met.honest → (image : List ℕ) → met.images after image → HoldsWorld first image
-  pub crash : met.honest → IsOf (met.reads before) (λ c. LeavesSince met before after (HoldsEither c.held (put_record (run_record first.register) c.held)))
+  pub crash : met.honest → IsOf (met.reads before) (λ c. CrashLeavesSince met before after (HoldsEither c.held (put_record (run_record first.register) c.held)))
 
 -- ---- a document that was adopted
 
@@ -68,7 +68,7 @@ pub record KeepsAdopted {D : Type 0} (met : Ghosts D) (before after : D) (path o
   pub disk : after ≡ disk_of ended.journal
   pub images : met.honest → (image : List ℕ) → met.images after image → HoldsWorld first image ⊎ HoldsWorld (adopted first path owner loaded) image
   pub whole : met.honest → OnOk last ((image : List ℕ) → met.images after image → HoldsWorld (adopted first path owner loaded) image)
-  pub crash : met.honest → IsOf (met.reads before) (λ c. LeavesSince met before after (HoldsOneOf c.held first (adopted first path owner loaded)))
+  pub crash : met.honest → IsOf (met.reads before) (λ c. CrashLeavesSince met before after (HoldsOneOf c.held first (adopted first path owner loaded)))
 
 -- ---- what an import came to
 
@@ -90,8 +90,8 @@ HasCauseOf before now Unread = Rose before now
 HasCauseOf before now outcome = before ≤ now
 
 -- the disk had a fault
-abbrev pub IsDiskFault : Outcome → Type 0
-IsDiskFault (Unopened refusal) = refusal ≡ fault.DiskFault
-IsDiskFault (Unbegun refusal) = refusal ≡ why.DiskFault
-IsDiskFault (Unkept refusal) = refusal ≡ why.DiskFault
-IsDiskFault outcome = ⊥
+abbrev pub IsImportDiskFault : Outcome → Type 0
+IsImportDiskFault (Unopened refusal) = refusal ≡ fault.DiskFault
+IsImportDiskFault (Unbegun refusal) = refusal ≡ why.DiskFault
+IsImportDiskFault (Unkept refusal) = refusal ≡ why.DiskFault
+IsImportDiskFault outcome = ⊥

@@ -3,7 +3,7 @@ ghost use Rattle.edge_traits.specs.Causes.{Rose};
 ghost use Rattle.flush_journal.specs.Standing.{disk_of};
 ghost use Rattle.flush_journal.specs.Unchanged.{SameDisk};
 ghost use Rattle.flush_journal.specs.declared.why.Why.{Why};
-ghost use Rattle.json_import.specs.Kept.Imports.{HasCauseOf, IsDiskFault, CameTo};
+ghost use Rattle.json_import.specs.Kept.Imports.{HasCauseOf, IsImportDiskFault, CameTo};
 ghost use Rattle.json_import.specs.Kept.Parts.{CameToFrom, IsKeptFrom, kept_outcome};
 
 use crate::adoption::Counts;
@@ -36,7 +36,7 @@ pub fn import_domain<S: Source, D: Disk>(
     ensures same { SameDisk D.Disk disk result.disk }
 
     // The disk had a fault only where its count rose.
-    ensures disk_fault { IsDiskFault result.outcome
+    ensures disk_fault { IsImportDiskFault result.outcome
         → Rose (D.faults disk) (D.faults result.disk) }
 {
     images_are_kept::<D, World>();
@@ -62,7 +62,7 @@ fn import_begun<S: Source, D: Disk>(
         (S.left input.old) (S.left input.new) result.outcome }
     ensures causes { HasCauseOf (S.faults input.old) (S.faults input.new) result.outcome }
     ensures same { SameDisk D.Disk (disk_of journal) result.disk }
-    ensures disk_fault { IsDiskFault result.outcome
+    ensures disk_fault { IsImportDiskFault result.outcome
         → Rose (D.faults (disk_of journal)) (D.faults result.disk) }
 {
     match adopt_input(alloc, path, owner, input, &mut world) {
@@ -84,7 +84,7 @@ fn keep_adopted<D: Disk>(
     ensures kept { (last : Result ℕ Why) × (result.outcome ≡ kept_outcome last counts)
         × IsKeptFrom journal world result.disk last }
     ensures same { SameDisk D.Disk (disk_of journal) result.disk }
-    ensures disk_fault { IsDiskFault result.outcome
+    ensures disk_fault { IsImportDiskFault result.outcome
         → Rose (D.faults (disk_of journal)) (D.faults result.disk) }
 {
     objects_are_whole(&world);

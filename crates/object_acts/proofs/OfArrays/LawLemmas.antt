@@ -34,7 +34,7 @@ use Rattle.object_ops.specs.declared.ops.Part.TheVariants as part
 use Rattle.object_ops.specs.declared.refusals.Refusal.{Refusal}
 use Rattle.object_ops.specs.declared.refusals.Refusal.TheVariants.{TooMany}
 use Rattle.object_ops.specs.declared.replies.Reply.TheVariants.{Done, Refused}
-use Rattle.object_ops.specs.Answers.{nothing, only}
+use Rattle.object_ops.specs.Replies.{nothing, only}
 use Rattle.object_acts.specs.Arrays.Faults.{most_bytes}
 use Rattle.object_acts.specs.Arrays.Arrays.{bytes_for, bytes_read, bytes_written, dims_taken, nested_by, or_refused, part_read, part_tree, points_read, points_read_in, points_tree, points_written, selected_by, shape_changed, slab_written, tree_written, value_read, value_written}
 

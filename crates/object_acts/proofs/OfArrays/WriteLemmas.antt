@@ -21,7 +21,7 @@ use Rattle.object_ops.specs.declared.refusals.Refusal.{Refusal}
 use Rattle.object_ops.specs.declared.refusals.Refusal.TheVariants.{TooMany}
 use Rattle.object_ops.specs.declared.replies.Reply.{Reply}
 use Rattle.object_ops.specs.declared.replies.Reply.TheVariants.{Done, Refused}
-use Rattle.object_ops.specs.Answers.{nothing}
+use Rattle.object_ops.specs.Replies.{nothing}
 use Rattle.object_acts.specs.Arrays.Faults.{most_bytes, value_refusal}
 use Rattle.object_acts.specs.Arrays.Arrays.{bytes_for, bytes_read, bytes_written, or_refused, points_written, slab_written, tree_written, value_written}
 use Rattle.object_acts.specs.Arrays.Writes.{Region, CanWrite, points_region, region_of, slab_region}

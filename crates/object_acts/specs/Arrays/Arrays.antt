@@ -26,7 +26,7 @@ use Rattle.object_ops.specs.declared.replies.Reply.{Reply}
 use Rattle.object_ops.specs.declared.replies.Reply.TheVariants.{Done, Refused}
 use Rattle.object_ops.specs.declared.refusals.Refusal.{Refusal}
 use Rattle.object_ops.specs.declared.refusals.Refusal.TheVariants.{TooMany}
-use Rattle.object_ops.specs.Answers.{nothing, only}
+use Rattle.object_ops.specs.Replies.{nothing, only}
 use Rattle.object_acts.specs.Arrays.Faults.{most_bytes, slab_refusal, point_refusal, dims_refusal, value_refusal}
 
 -- how many bytes so many elements have

@@ -8,7 +8,7 @@ use Rattle.object_ops.specs.declared.ops.Part.{Part}
 use Rattle.object_ops.specs.declared.refusals.Refusal.{Refusal}
 use Rattle.object_ops.specs.declared.replies.Reply.{Reply}
 use Rattle.object_acts.specs.Arrays.Writes.{Region, region_of}
-use Rattle.object_ops.specs.Answers.{was_done}
+use Rattle.object_ops.specs.Replies.{was_done}
 
 -- the request was done: it wasn't refused, and memory didn't run out
 abbrev pub IsDone : {E : Type 0} → Result Reply E → Type 0

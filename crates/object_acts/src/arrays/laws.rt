@@ -18,7 +18,7 @@ ghost use Rattle.object_ops.specs.declared.ops.Part.TheVariants as part;
 ghost use Rattle.object_ops.specs.declared.refusals.Refusal.{Refusal};
 ghost use Rattle.object_ops.specs.declared.refusals.Refusal.TheVariants.{TooMany};
 ghost use Rattle.object_ops.specs.declared.replies.Reply.TheVariants.{Done, Refused};
-ghost use Rattle.object_ops.specs.Answers.{nothing, only};
+ghost use Rattle.object_ops.specs.Replies.{nothing, only};
 ghost use Rattle.point_select.specs.declared.TheConstants.{MAX_POINTS};
 ghost use Rattle.hyperslab.specs.declared.TheConstants.{MAX_SELECTED};
 ghost use Rattle.object_acts.specs.declared.arrays.TheConstants.{MAX_BYTES};

@@ -12,7 +12,7 @@ ghost use Rattle.hyperslab.specs.Selected.{IsSlab, SlabIn, extents as extents_of
 ghost use Rattle.hdf_values.specs.Nested.{AreEncoded};
 ghost use Rattle.point_select.specs.Faults.{points_of};
 ghost use Rattle.chunk_store.specs.Marks.{IsTracked, touches};
-ghost use Rattle.object_ops.specs.Answers.{Follows, was_done};
+ghost use Rattle.object_ops.specs.Replies.{Follows, was_done};
 ghost use Rattle.object_acts.specs.Arrays.Stops.{Tells, settled};
 ghost use Rattle.object_acts.specs.Arrays.Arrays.{bytes_read, tree_written, slab_written, points_written};
 ghost use Rattle.object_acts.specs.Arrays.Arrays.{value_written, shape_changed};

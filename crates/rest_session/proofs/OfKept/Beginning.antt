@@ -5,7 +5,7 @@ use Rattle.edge_traits.specs.declared.disk.Disk.{Ghosts}
 use Rattle.flush_journal.specs.Batches.{records}
 use Rattle.flush_journal.specs.Files.{Content}
 use Rattle.flush_journal.specs.Keepings.Keepings.{IsBacked, settled}
-use Rattle.flush_journal.specs.Moments.{Leaves, LeavesSince}
+use Rattle.flush_journal.specs.Moments.{CrashLeaves, CrashLeavesSince}
 use Rattle.flush_journal.specs.Records.{Record, put_record}
 use Rattle.flush_journal.specs.Standing.{HoldsEither, disk_of, end_of, with_batch}
 use Rattle.flush_journal.specs.declared.journal.Journal.{Journal}
@@ -23,7 +23,7 @@ use Rattle.service_core.specs.declared.journals.beginning.BeginFault.TheVariants
 use Rattle.rest_session.specs.Links.Links.{IsFront, spellings}
 use Rattle.rest_session.specs.Sessions.{IsServed, Served}
 use Rattle.rest_session.specs.Stood.{HoldsStood, IsStretch, StoodSince}
-use Rattle.rest_session.specs.Kept.Sessions.{HasCausesOf, HoldsHeld, IsDiskFault, IsEnded, IsLinkKept, of_begin}
+use Rattle.rest_session.specs.Kept.Sessions.{HasCausesOf, HoldsHeld, IsEnded, IsLinkKept, IsSessionDiskFault, of_begin}
 use Rattle.rest_session.specs.declared.kept.outcome.Closed.{Closed}
 use Rattle.rest_session.specs.declared.kept.outcome.Outcome.TheVariants as outcome
 use Rattle.rest_session.proofs.OfLinks.Progress.{replays_joined}
@@ -69,10 +69,10 @@ module _ {D : Type 0} (met : Ghosts D) (before : D) (j : Journal D met) (v : Sta
       of_begun file (inr (inr now)) = inr (inr (as_kept v, (put_record (run_record v.register) c.held, now, told_first c b), stood_first first final taken whole))
 
       -- since the disk as it was, up to the end of the link that was served
-      left_since : (after : D) → k.kept ≡ 0 → Leaves met (disk_of k.journal) after (HoldsStood first final taken k.kept) → LeavesSince met before after (HoldsHeld c.held first final taken)
+      left_since : (after : D) → k.kept ≡ 0 → CrashLeaves met (disk_of k.journal) after (HoldsStood first final taken k.kept) → CrashLeavesSince met before after (HoldsHeld c.held first final taken)
       left_since after none later = joined met before (disk_of j) after IsLeft
           (weaker met before (disk_of j) (λ file. met.images before file ⊎ HoldsEither c.held (put_record (run_record v.register) c.held) file) IsLeft of_begun b.crash)
-          (subst (λ (x : Journal D met). Leaves met (disk_of x) after IsLeft) same
+          (subst (λ (x : Journal D met). CrashLeaves met (disk_of x) after IsLeft) same
           (weaker met (disk_of k.journal) after (HoldsStood first final taken k.kept) IsLeft
           (λ file holds. inr (inr (subst (λ (n : ℕ). HoldsStood first final taken n file) none holds))) later))
 
@@ -96,6 +96,6 @@ pub causes_unserved : (read written : ℕ) (why : BeginFault) → HasCausesOf re
 causes_unserved read written (begin.Unopened refusal) = (refl, refl)
 causes_unserved read written (begin.Unbegun refusal) = (refl, refl)
 
-pub fault_unserved : (why : BeginFault) → IsDiskFault (of_begin why) → IsOfDisk why
+pub fault_unserved : (why : BeginFault) → IsSessionDiskFault (of_begin why) → IsOfDisk why
 fault_unserved (begin.Unopened refusal) h = h
 fault_unserved (begin.Unbegun refusal) h = h

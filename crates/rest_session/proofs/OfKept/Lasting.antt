@@ -6,7 +6,7 @@ use Rattle.edge_traits.specs.Causes.{Rose}
 use Rattle.edge_traits.specs.declared.disk.Disk.{Ghosts}
 use Rattle.flush_journal.specs.Batches.{records}
 use Rattle.flush_journal.specs.Files.{held}
-use Rattle.flush_journal.specs.Moments.{Leaves}
+use Rattle.flush_journal.specs.Moments.{CrashLeaves}
 use Rattle.flush_journal.specs.Records.{Held}
 use Rattle.flush_journal.specs.Standing.{disk_of, numbers_of, pending_of}
 use Rattle.flush_journal.specs.Unchanged.{SameDisk}
@@ -20,7 +20,7 @@ use Rattle.service_core.specs.Steps.{World}
 use Rattle.service_core.specs.Worlds.{State}
 use Rattle.rest_session.specs.Sessions.{Served}
 use Rattle.service_core.specs.KeptWorlds.{KeepsWorld, TellsWorld, HoldsWorld}
-use Rattle.rest_session.specs.Stood.{AreKept, AreOfStood, HoldsStood, IsOfStood, StoodSince}
+use Rattle.rest_session.specs.Stood.{AreOfStood, HoldsStood, IsBackedByStood, IsOfStood, StoodSince}
 use Rattle.flush_journal.proofs.OfKeepings.Backing.{none_some}
 use Rattle.rest_session.proofs.WaitingRecords.{AllWaiting, all_built}
 
@@ -69,7 +69,7 @@ module _ {D : Type 0} {met : Ghosts D} (first final : Served met) (taken : List 
         (all_built (IsCutRecord final.world) (IsOfStood first final taken final.keeping.kept) (λ r is. (as_kept final.world, are.now, is.stands)) (pending_of final.keeping.journal)
         (records final.keeping.building) are.waiting are.building (numbers_of final.keeping.journal) (numbers_of k.journal) (pending_of k.journal) (records k.building) h.batch).0
 
-  module _ (honest : met.honest) (are : AreKept first final taken) where
+  module _ (honest : met.honest) (are : IsBackedByStood first final taken) where
     stood_in : (least : ℕ) → least ≤ final.keeping.kept → (image : List ℕ) (m : Held) → held image ≡ Some m → (worlds : List World) → AllByRecursion (StoodSince first final taken final.keeping.kept) worlds
         → TellsOne TellsWorld worlds m → HoldsStood first final taken least image
     stood_in least le image m e [] all told = absurd told
@@ -80,8 +80,8 @@ module _ {D : Type 0} {met : Ghosts D} (first final : Served met) (taken : List 
     stands_now least le image m e told = (as_kept w, (m, e, told), subst (StoodSince first final taken least) (sym keeps.same) (are.now least le))
 
     -- from a moment of the link up to the keeping after its end
-    pub left_then : (u : Served met) → u.keeping.kept ≤ final.keeping.kept → Leaves met (disk_of u.keeping.journal) (disk_of final.keeping.journal) (HoldsStood first final taken u.keeping.kept)
-        → Leaves met (disk_of u.keeping.journal) (disk_of k.journal) (HoldsStood first final taken u.keeping.kept)
+    pub left_then : (u : Served met) → u.keeping.kept ≤ final.keeping.kept → CrashLeaves met (disk_of u.keeping.journal) (disk_of final.keeping.journal) (HoldsStood first final taken u.keeping.kept)
+        → CrashLeaves met (disk_of u.keeping.journal) (disk_of k.journal) (HoldsStood first final taken u.keeping.kept)
     left_then u le left = joined met (disk_of u.keeping.journal) (disk_of final.keeping.journal) (disk_of k.journal) (HoldsStood first final taken u.keeping.kept) left
         (weaker met (disk_of final.keeping.journal) (disk_of k.journal) (HoldsOne TellsWorld (as_kept w ∷ are.worlds)) (HoldsStood first final taken u.keeping.kept) stood
         (keeps.keeps.crash honest are.worlds are.backed)) where
@@ -89,7 +89,7 @@ module _ {D : Type 0} {met : Ghosts D} (first final : Served met) (taken : List 
           stood image (m, e, inl told) = stands_now u.keeping.kept (omega (arith, le, are.within)) image m e told
           stood image (m, e, inr told) = stood_in u.keeping.kept le image m e are.worlds are.each told
 
-  module _ (honest : met.honest) (are : AreKept first final taken) (holds : (worlds : List World) → IsBacked TellsWorld k.journal (records k.building) (WorldSays w) worlds → (image : List ℕ)
+  module _ (honest : met.honest) (are : IsBackedByStood first final taken) (holds : (worlds : List World) → IsBacked TellsWorld k.journal (records k.building) (WorldSays w) worlds → (image : List ℕ)
       → met.images (disk_of k.journal) image → HoldsOne TellsWorld worlds image) where
     pub image_stood : (image : List ℕ) → met.images (disk_of k.journal) image → HoldsStood first final taken k.kept image
     image_stood image left = by last keeps (holds (worlds_after are.worlds (as_kept w) last) (keeps.keeps.backed honest are.worlds are.backed) image left) where

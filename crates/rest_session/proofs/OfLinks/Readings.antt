@@ -10,7 +10,7 @@ use Rattle.http_wire.proofs.MessageLemmas.{message_unique}
 use Rattle.rest_session.specs.declared.links.end.TheConstants.{BUDGET}
 use Rattle.rest_session.specs.declared.links.end.LinkEnd.{LinkEnd}
 use Rattle.rest_session.specs.declared.links.end.LinkEnd.TheVariants.{Closed, Cut, Ended, ReadFault, WriteFault, Budget, NoMemory}
-use Rattle.rest_session.specs.Links.Links.{Step, AllSpelled, AllOpen, spellings, IsEnd, IsCounted, IsTranscript, IsPeaceful, IsUndisturbed}
+use Rattle.rest_session.specs.Links.Links.{Step, AllSpelled, AllOpen, spellings, IsEnd, IsCounted, IsTranscript, IsPeaceful, IsOfBytes}
 
 -- two readings of one stream are one
 pub same_reading : (ms ns : List RequestMessage) (x y : List ℕ) → AllOpen ms → AllOpen ns → HasNoMessage x → HasNoMessage y
@@ -114,7 +114,7 @@ closing_first step w v tail sent left behind m (inr s) spelled opened e =
 
 -- where a link ends by the bytes alone, no message follows that would leave it open
 no_message_follows : {W : Type 0} (step : Step W) (w v : W) (tail sent left behind : List ℕ) (m : RequestMessage)
-    (more n : ℕ) (end : LinkEnd) → IsEnd step w tail sent (Some left) v end → IsCounted n end → IsUndisturbed end
+    (more n : ℕ) (end : LinkEnd) → IsEnd step w tail sent (Some left) v end → IsCounted n end → IsOfBytes end
     → IsSpelled m → closes m ≡ false → tail ++ left ≡ spelling m ++ behind → n + (1 + more) ≤ BUDGET → ⊥
 no_message_follows step w v tail sent left behind m more n Closed s counted calm spelled opened e room =
     closing_first step w v tail sent left behind m s spelled opened e
@@ -128,7 +128,7 @@ no_message_follows step w v tail sent left behind m more n Budget s counted calm
 no_message_follows step w v tail sent left behind m more n NoMemory s counted calm spelled opened e room = absurd calm
 
 none_follow : {W : Type 0} (step : Step W) (w v : W) (tail sent left behind : List ℕ) (more : List RequestMessage)
-    (n : ℕ) (end : LinkEnd) → IsEnd step w tail sent (Some left) v end → IsCounted n end → IsUndisturbed end → AllOpen more
+    (n : ℕ) (end : LinkEnd) → IsEnd step w tail sent (Some left) v end → IsCounted n end → IsOfBytes end → AllOpen more
     → tail ++ left ≡ spellings more ++ behind → n + length more ≤ BUDGET → more ≡ []
 none_follow step w v tail sent left behind [] n end s counted calm a e room = refl
 none_follow step w v tail sent left behind (m ∷ more) n end s counted calm a e room =
@@ -146,7 +146,7 @@ at_most n NoMemory c = omega (arith, c)
 
 -- the one reading goes on behind the other's messages, where that one's link had ended: so it does not go on
 goes_not_on : {W : Type 0} (step : Step W) (w v : W) (taken sent left behind : List ℕ) (end : LinkEnd)
-    (s : IsTranscript step w taken sent (Some left) v end) (ms more : List RequestMessage) → length ms ≤ BUDGET → IsUndisturbed end → AllOpen more
+    (s : IsTranscript step w taken sent (Some left) v end) (ms more : List RequestMessage) → length ms ≤ BUDGET → IsOfBytes end → AllOpen more
     → ms ≡ s.messages ++ more → s.tail ++ left ≡ spellings more ++ behind → ms ≡ s.messages
 goes_not_on step w v taken sent left behind end s ms more room calm a e tail =
     let none = none_follow step s.mid v s.tail s.last left behind more (length s.messages) end s.ends s.counted calm a tail
@@ -156,7 +156,7 @@ goes_not_on step w v taken sent left behind end s ms more room calm a e tail =
 -- the messages are the same, in whatever pieces the bytes come
 pub same_messages : {W : Type 0} (step : Step W) (u v w x : W) (taken sent left others written remaining : List ℕ)
     (end other : LinkEnd) (t : IsTranscript step u taken sent (Some left) v end) (s : IsTranscript step w others written (Some remaining) x other)
-    → taken ++ left ≡ others ++ remaining → IsUndisturbed end → IsUndisturbed other → t.messages ≡ s.messages
+    → taken ++ left ≡ others ++ remaining → IsOfBytes end → IsOfBytes other → t.messages ≡ s.messages
 same_messages step u v w x taken sent left others written remaining end other t s e calm quiet =
     let whole = one_goes_on t.messages s.messages (t.tail ++ left) (s.tail ++ remaining) t.opened s.opened
     (sym (append_assoc (spellings t.messages) t.tail left) ∙ sym (ap (λ l. l ++ left) t.bytes) ∙ e

@@ -1,5 +1,5 @@
 -- What a session over a disk does.
---     IsBegun c first      a session begins with it, and with nothing to be written
+--     IsServedFrom c first      a session begins with it, and with nothing to be written
 --     IsLinkKept first after ..      a link was served from a world on, and what changed was kept
 --     IsEnded before after .. outcome      what a session came to
 use Rattle.std.specs.Prelude.{◌≡◌, ◌⊎◌, ℕ, ◌+◌, List, [], ◌∷◌, length, Option, Some, Result, Err, OnOk}
@@ -9,7 +9,7 @@ use Rattle.access_lists.specs.Tokens.Bearer.{TokenTable}
 use Rattle.edge_traits.specs.declared.disk.Disk.{Ghosts}
 use Rattle.flush_journal.specs.Files.{Content, held}
 use Rattle.flush_journal.specs.Frames.{frame_of}
-use Rattle.flush_journal.specs.Moments.{Leaves, LeavesSince}
+use Rattle.flush_journal.specs.Moments.{CrashLeaves, CrashLeavesSince}
 use Rattle.flush_journal.specs.Keepings.Keepings.{IsNewKeeping}
 use Rattle.flush_journal.specs.Records.{Held, Record}
 use Rattle.flush_journal.specs.Standing.{disk_of, end_of, pending_of}
@@ -36,7 +36,7 @@ use Rattle.rest_session.specs.declared.kept.outcome.Outcome.TheVariants as outco
 -- ---- the world at the begin of a session
 
 -- the world that a file's content holds is served, all of it is kept, and the journal ends behind the record of its run
-pub record IsBegun {D : Type 0} {met : Ghosts D} (c : Content) (first : Served met) : Type 0 where
+pub record IsServedFrom {D : Type 0} {met : Ghosts D} (c : Content) (first : Served met) : Type 0 where
   pub recovered : IsRecovered c.held (seen first.world)
   pub kept : IsKept first.world
   pub end : end_of first.keeping.journal ≡ c.end + length (frame_of (run_record first.world.register ∷ []))
@@ -71,8 +71,8 @@ pub record IsLinkKept {D : Type 0} {met : Ghosts D} (first : Served met) (after 
   pub all : OnOk last (closed.kept ≡ closed.front)
   pub waits : (rs : List Record) → pending_of keeping.journal ≡ Some rs → AllByRecursion (IsOfStood first final taken closed.kept) rs
   pub stretch : IsStretch first final taken first final
-  pub crash : met.honest → (u v : Served met) → IsStretch first final taken u v → Leaves met (disk_of u.keeping.journal) (disk_of v.keeping.journal) (HoldsStood first v taken u.keeping.kept)
-  pub last_crash : met.honest → (u : Served met) → IsStretch first final taken u final → Leaves met (disk_of u.keeping.journal) after (HoldsStood first final taken u.keeping.kept)
+  pub crash : met.honest → (u v : Served met) → IsStretch first final taken u v → CrashLeaves met (disk_of u.keeping.journal) (disk_of v.keeping.journal) (HoldsStood first v taken u.keeping.kept)
+  pub last_crash : met.honest → (u : Served met) → IsStretch first final taken u final → CrashLeaves met (disk_of u.keeping.journal) after (HoldsStood first final taken u.keeping.kept)
   pub images : met.honest → (image : List ℕ) → met.images after image → HoldsStood first final taken closed.kept image
   pub whole : met.honest → OnOk last ((image : List ℕ) → met.images after image → HoldsWorld (as_kept final.world) image)
 
@@ -85,8 +85,8 @@ IsEnded met before after tokens lb la hb ha (Unopened why) =
     MayRefuseOpening met.honest (met.reads before) (met.faults before) (met.faults after) why × (met.honest → SameBytes met before after) × (la ≡ lb) × (ha ≡ hb)
 IsEnded met before after tokens lb la hb ha (Unbegun why) = IsUnbegun met before after why × (la ≡ lb) × (ha ≡ hb)
 IsEnded met before after tokens lb la hb ha (outcome.Served closed last) =
-    (first : Served met) × (first.tokens ≡ tokens) × (met.honest → IsOf (met.reads before) (λ c. IsBegun c first))
-    × (kept : IsLinkKept first after lb la hb ha closed last) × (met.honest → IsOf (met.reads before) (λ c. LeavesSince met before after (HoldsHeld c.held first kept.final kept.taken)))
+    (first : Served met) × (first.tokens ≡ tokens) × (met.honest → IsOf (met.reads before) (λ c. IsServedFrom c first))
+    × (kept : IsLinkKept first after lb la hb ha closed last) × (met.honest → IsOf (met.reads before) (λ c. CrashLeavesSince met before after (HoldsHeld c.held first kept.final kept.taken)))
 
 -- no count of the link fell, and each fault was counted
 abbrev pub HasCausesOf : ℕ → ℕ → ℕ → ℕ → Outcome → Type 0
@@ -95,10 +95,10 @@ HasCausesOf read_before read_now write_before write_now (Unbegun why) = (read_no
 HasCausesOf read_before read_now write_before write_now (outcome.Served closed last) = HasCauses read_before read_now write_before write_now closed.end
 
 -- the disk had a fault
-abbrev pub IsDiskFault : Outcome → Type 0
-IsDiskFault (Unopened refusal) = refusal ≡ fault.DiskFault
-IsDiskFault (Unbegun refusal) = refusal ≡ why.DiskFault
-IsDiskFault (outcome.Served closed last) = last ≡ Err why.DiskFault
+abbrev pub IsSessionDiskFault : Outcome → Type 0
+IsSessionDiskFault (Unopened refusal) = refusal ≡ fault.DiskFault
+IsSessionDiskFault (Unbegun refusal) = refusal ≡ why.DiskFault
+IsSessionDiskFault (outcome.Served closed last) = last ≡ Err why.DiskFault
 
 -- ---- a run that was not begun
 

@@ -110,11 +110,11 @@ IsPeaceful Budget = ⊥
 IsPeaceful NoMemory = ⊤
 
 -- an end that comes of the bytes alone
-abbrev pub IsUndisturbed : LinkEnd → Type 0
-IsUndisturbed Closed = ⊤
-IsUndisturbed (Cut unread) = ⊤
-IsUndisturbed (Ended fault) = ⊤
-IsUndisturbed ReadFault = ⊥
-IsUndisturbed WriteFault = ⊥
-IsUndisturbed Budget = ⊤
-IsUndisturbed NoMemory = ⊥
+abbrev pub IsOfBytes : LinkEnd → Type 0
+IsOfBytes Closed = ⊤
+IsOfBytes (Cut unread) = ⊤
+IsOfBytes (Ended fault) = ⊤
+IsOfBytes ReadFault = ⊥
+IsOfBytes WriteFault = ⊥
+IsOfBytes Budget = ⊤
+IsOfBytes NoMemory = ⊥

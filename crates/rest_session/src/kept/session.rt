@@ -7,7 +7,8 @@ ghost use Rattle.service_core.specs.Records.{as_kept};
 ghost use Rattle.flush_journal.specs.declared.why.Why.{Why};
 ghost use Rattle.rest_session.specs.Links.Links.{HasCauses};
 ghost use Rattle.edge_traits.specs.Causes.{Rose};
-ghost use Rattle.rest_session.specs.Kept.Sessions.{HasCausesOf, IsDiskFault, IsEnded, IsLinkKept};
+ghost use Rattle.rest_session.specs.Kept.Sessions.{HasCausesOf, IsEnded, IsLinkKept};
+ghost use Rattle.rest_session.specs.Kept.Sessions.{IsSessionDiskFault};
 ghost use Rattle.flush_journal.specs.Keepings.Keepings.{IsNewKeeping};
 ghost use Rattle.rest_session.specs.declared.kept.outcome.Closed.{Closed};
 
@@ -39,7 +40,7 @@ pub fn serve_disk<D: Disk, L: Link>(
     ensures same { SameDisk D.Disk disk result.disk }
 
     // The disk had a fault only where its count rose.
-    ensures disk_fault { IsDiskFault result.outcome
+    ensures disk_fault { IsSessionDiskFault result.outcome
         → Rose (D.faults disk) (D.faults result.disk) }
 {
     match begin_world(alloc, disk) {
@@ -75,7 +76,7 @@ fn serve_begun<D: Disk, L: Link>(
         (L.Sink.faults link.old) (L.Sink.faults link.new) closed.end }
     ensures names { L.Source.names link.new ≡ L.Source.names link.old }
     ensures same { SameDisk D.Disk (disk_of keeping.journal) result.disk }
-    ensures disk_fault { IsDiskFault result.outcome
+    ensures disk_fault { IsSessionDiskFault result.outcome
         → Rose (D.faults (disk_of keeping.journal)) (D.faults result.disk) }
 {
     what_is_kept_stood::<D>();

@@ -5,7 +5,7 @@ ghost use Rattle.rest_session.specs.declared.links.end.LinkEnd.{LinkEnd};
 ghost use Rattle.rest_session.specs.declared.links.end.LinkEnd.TheVariants.{Closed};
 ghost use Rattle.rest_session.specs.declared.links.end.TheConstants.{BUDGET};
 ghost use Rattle.rest_session.specs.Links.Links.{AllOpen, AllSpelled, spellings, Replays, IsTranscript};
-ghost use Rattle.rest_session.specs.Links.Links.{IsPeaceful, IsUndisturbed};
+ghost use Rattle.rest_session.specs.Links.Links.{IsOfBytes, IsPeaceful};
 
 use crate::links::service::Service;
 
@@ -47,7 +47,7 @@ pub fn pieces_do_not_matter<V: Service>()
         (end other : LinkEnd)
         → (t : IsTranscript V.step u taken sent (Some left) v end)
         → (s : IsTranscript V.step w others written (Some remaining) x other)
-        → taken ++ left ≡ others ++ remaining → IsUndisturbed end → IsUndisturbed other
+        → taken ++ left ≡ others ++ remaining → IsOfBytes end → IsOfBytes other
         → t.messages ≡ s.messages }
 {}
 

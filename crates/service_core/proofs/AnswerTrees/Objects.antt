@@ -20,7 +20,7 @@ use Rattle.groups_links.specs.declared.target.LinkTo.{LinkTo}
 use Rattle.groups_links.specs.declared.target.LinkTo.TheVariants.{Hard}
 use Rattle.groups_links.specs.Printed.{link_tree, links_list}
 use Rattle.chunk_store.specs.Grids.{Grid}
-use Rattle.object_ops.specs.Answers.{only}
+use Rattle.object_ops.specs.Replies.{only}
 use Rattle.object_ops.specs.declared.grants.Grant.{Grant}
 use Rattle.object_ops.specs.declared.grants.Step.{Step}
 use Rattle.object_ops.specs.declared.grants.Step.TheVariants.{Only, Link, Make as Making}
@@ -194,8 +194,8 @@ module _ {P : Data → Type 0} {Q : Object → Type 0} {G : Grid → Type 0} {S 
   abbrev pub AreAll : Objects → Type 0
   AreAll = Each (λ id o. Q o)
 
-  abbrev pub Leaves : Reply × Objects → Type 0
-  Leaves p = ReplyHas P p.0 × AreAll p.1
+  abbrev pub OutcomeHas : Reply × Objects → Type 0
+  OutcomeHas p = ReplyHas P p.0 × AreAll p.1
 
   stands : (o : Option Object) → ((x : Object) → o ≡ Some x → Q x) → At o
   stands None each = tt
@@ -206,11 +206,11 @@ module _ {P : Data → Type 0} {Q : Object → Type 0} {G : Grid → Type 0} {S 
   set_all m id (Some o) old new = each_insert (λ id o. Q o) m id o new old
 
   touched_leaves : (at : Option Id) (f : Id → Option Object → Reply × Option Object) (m : Objects)
-      → ((id : Id) (o : Option Object) → At o → Gives (f id o)) → AreAll m → Leaves (on_touched at f m)
+      → ((id : Id) (o : Option Object) → At o → Gives (f id o)) → AreAll m → OutcomeHas (on_touched at f m)
   touched_leaves None f m each h = (tt, h)
   touched_leaves (Some id) f m each h =
       let given = each id (get m id) (stands (get m id) (h id)) in
       (given.0, set_all m id (f id (get m id)).1 h given.1)
 
-  pub acted_leaves : (g : Grant) (op : Op) (s : Step) (m : Objects) → S op → AreAll m → Leaves (acted g op s m)
+  pub acted_leaves : (g : Grant) (op : Op) (s : Step) (m : Objects) → S op → AreAll m → OutcomeHas (acted g op s m)
   acted_leaves g op s m sound h = touched_leaves (touched g op s) (act g op s) m (λ id o. act_gives g op s id o sound) h

@@ -20,7 +20,7 @@ use Rattle.attributes.specs.AttributeTrees.{attribute_tree, attributes_list}
 use Rattle.groups_links.specs.declared.target.LinkTo.{LinkTo}
 use Rattle.groups_links.specs.Printed.{link_tree, links_list}
 use Rattle.chunk_store.specs.Grids.{Grid}
-use Rattle.object_ops.specs.Answers.{nothing, only}
+use Rattle.object_ops.specs.Replies.{nothing, only}
 use Rattle.object_ops.specs.declared.ops.LinkPlace.{LinkPlace}
 use Rattle.object_ops.specs.declared.ops.Make.{Make}
 use Rattle.object_ops.specs.declared.ops.Op.{Op}

@@ -23,25 +23,25 @@ use Rattle.service_core.specs.Steps.{IsAnswered, StopsAt, World, by_verdict, run
 use Rattle.service_core.proofs.ForgetLemmas.{get-without}
 use Rattle.service_core.specs.AnswerTrees.Bodies.{AnswerHas, VerdictHas}
 use Rattle.service_core.proofs.AnswerTrees.Catalogue.{decisions_have}
-use Rattle.service_core.proofs.AnswerTrees.Objects.{AreAll, Leaves, acted_leaves}
+use Rattle.service_core.proofs.AnswerTrees.Objects.{AreAll, OutcomeHas, acted_leaves}
 use Rattle.service_core.proofs.AnswerTrees.Trees.{Trees, either_way}
 use Rattle.object_acts.specs.Objects.{Objects}
-use Rattle.object_ops.specs.Answers.{was_done}
+use Rattle.object_ops.specs.Replies.{was_done}
 
 module _ {P : Data → Type 0} {Q : Object → Type 0} {G : Grid → Type 0} {S : Op → Type 0} (t : Trees P Q G S) where
-  taken_leaves : (g : Grant) (op : Op) (s : Option Step) (m : Objects) → S op → AreAll t m → Leaves t (step_taken g op s m)
+  taken_leaves : (g : Grant) (op : Op) (s : Option Step) (m : Objects) → S op → AreAll t m → OutcomeHas t (step_taken g op s m)
   taken_leaves g op None m sound h = (t.none, h)
   taken_leaves g op (Some s) m sound h = acted_leaves t g op s m sound h
 
-  run_leaves : (g : Grant) (op : Op) (p : Reply × Objects) (ts : List Turn) → S op → Leaves t p → Leaves t (run_on g op p ts)
+  run_leaves : (g : Grant) (op : Op) (p : Reply × Objects) (ts : List Turn) → S op → OutcomeHas t p → OutcomeHas t (run_on g op p ts)
   run_leaves g op p [] sound h = h
   run_leaves g op p (u ∷ us) sound h =
-      either_way (Leaves t) (was_done p.0) (run_leaves g op (step_taken g op u.step p.1) us sound (taken_leaves g op u.step p.1 sound h.1)) h
+      either_way (OutcomeHas t) (was_done p.0) (run_leaves g op (step_taken g op u.step p.1) us sound (taken_leaves g op u.step p.1 sound h.1)) h
 
   drops : (number : ℕ) (m : Objects) → AreAll t m → AreAll t (without_domain number m)
   drops number m h = λ id o e. h id o (stays (id.domain == number) (get m id) o (sym (get-without number m id) ∙ e))
 
-  served_leaves : (op : Op) (issue : Issue) (m : Objects) → S op → AreAll t m → Leaves t (served op issue m)
+  served_leaves : (op : Op) (issue : Issue) (m : Objects) → S op → AreAll t m → OutcomeHas t (served op issue m)
   served_leaves DropNode issue m sound h = (t.none, drops issue.grant.number m h)
   served_leaves op issue m sound h = run_leaves issue.grant op (started m) issue.left sound (t.none, h)
 

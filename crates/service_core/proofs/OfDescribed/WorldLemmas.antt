@@ -1,7 +1,7 @@
 -- A world that records describe.
 use Rattle.std.proofs.Common.{◌≡◌, ℕ, ◌+◌, ◌≤◌, ◌<◌, List, Option, Some, None, refl, sym, ap, subst, ◌∙◌}
 use Rattle.std.specs.FinMap.{get, same_map}
-use Rattle.flush_journal.specs.Records.{AreKept, Held}
+use Rattle.flush_journal.specs.Records.{Held, IsRecordMap}
 use Rattle.object_ids.specs.IdValues.{Id}
 use Rattle.object_ids.specs.Ids.{InRange}
 use Rattle.object_ids.proofs.IdOrders.{id_order_once, id_order_total}
@@ -24,7 +24,7 @@ use Rattle.service_core.proofs.OfDescribed.RegisterLemmas.{registers_are_one, re
 -- ---- no key at fault
 
 module _ (lanes_stand : (lanes lane run next : ℕ) (held : Held) (objects : Id → Option Object) → AreHeld lanes lane run next held objects → (key : List ℕ) → IsFault lanes lane run next held key → ⊥) where
-  module _ (held : Held) (run : ℕ) (w : World) (kept : AreKept held) (told : DescribesWorld held run w) where
+  module _ (held : Held) (run : ℕ) (w : World) (kept : IsRecordMap held) (told : DescribesWorld held run w) where
     given_to : (last next : ℕ) → IsRun held last → IsNextNumber held next → AreGivenUpTo last next w.objects
     given_to last next is_run is_next id o there = let given = told.given id o there in (
       subst (λ (n : ℕ). id.run ≤ n) (same_run held run last told.register.kept is_run) given.0,

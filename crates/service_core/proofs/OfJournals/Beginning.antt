@@ -21,7 +21,7 @@ use Rattle.register.specs.Kept.{all_kept, run_kept}
 use Rattle.service_core.specs.Records.{DescribesWorld, IsKept, IsWorldOf, OrNoMemory, WorldSays, run_record}
 use Rattle.service_core.specs.Steps.{World}
 use Rattle.service_core.specs.Worlds.{State, seen}
-use Rattle.flush_journal.specs.Moments.{Leaves, LeavesSince}
+use Rattle.flush_journal.specs.Moments.{CrashLeaves, CrashLeavesSince}
 use Rattle.edge_traits.proofs.CauseLemmas.{rose_since}
 use Rattle.service_core.specs.Journals.Begun.{IsBegun, IsOpened, IsRecovered, IsRunRefusal, IsRunRefused, IsUnbegun, IsUnstarted, IsUnwritten, MayRefuseRun, begun}
 use Rattle.service_core.specs.declared.journals.beginning.BeginFault.{BeginFault}
@@ -85,8 +85,8 @@ module _ {D : Type 0} {met : Ghosts D} (old new : Journal D met) (w : State) (e 
   run_images c s (inr h) image left = either_held c (run_record w.register ∷ []) image (h.err.each image left)
 
   pub run_crash : ((disk : D) (file : List ℕ) → met.honest → met.left_since disk (met.moment disk) file → met.images disk file) → met.honest → (c : Content) → IsSettled old c
-      → OrNoMemory (Err e) (new ≡ old) (Writes old new c (run_record w.register ∷ []) (Err e)) → Leaves met (disk_of old) (disk_of new) (HoldsEither c.held (put_record (run_record w.register) c.held))
-  run_crash only_now honest c s (inl h) = subst (λ (j : Journal D met). Leaves met (disk_of old) (disk_of j) (HoldsEither c.held (put_record (run_record w.register) c.held))) (sym h.1)
+      → OrNoMemory (Err e) (new ≡ old) (Writes old new c (run_record w.register ∷ []) (Err e)) → CrashLeaves met (disk_of old) (disk_of new) (HoldsEither c.held (put_record (run_record w.register) c.held))
+  run_crash only_now honest c s (inl h) = subst (λ (j : Journal D met). CrashLeaves met (disk_of old) (disk_of j) (HoldsEither c.held (put_record (run_record w.register) c.held))) (sym h.1)
       (no_call met (disk_of old) (HoldsEither c.held (put_record (run_record w.register) c.held))
       (λ file left. inl (held_still c s file (only_now (disk_of old) file honest left))))
   run_crash only_now honest c s (inr h) = weaker met (disk_of old) (disk_of new) (HasEither c (with_batch c (run_record w.register ∷ []))) (HoldsEither c.held (put_record (run_record w.register) c.held))
@@ -123,7 +123,7 @@ recovered_begun held w r = record {
 
 -- a run of calls behind one that changed no byte
 pub since_before : {D : Type 0} (met : Ghosts D) (before mid after : D) (P : List ℕ → Type 0) → ((disk : D) (file : List ℕ) → met.honest → met.left_since disk (met.moment disk) file → met.images disk file)
-    → met.honest → SameBytes met before mid → Leaves met mid after P → LeavesSince met before after P
+    → met.honest → SameBytes met before mid → CrashLeaves met mid after P → CrashLeavesSince met before after P
 since_before met before mid after P only_now honest same l = record {
   later = omega (arith, same.later, l.later);
   each = λ file left. ⊎_elim (λ was. inl (only_now before file honest (same.since (met.moment before) (omega arith) file was))) (λ p. inr p) (l.before (met.moment before) file same.later left);
@@ -157,7 +157,7 @@ module _ {D : Type 0} {met : Ghosts D} (old new : Journal D met) (w s : State) (
         describes = described kept (put_record (run_record s.register) c.held) said;
       }
 
-  pub begun_crash : Leaves met (disk_of old) (disk_of new) (HoldsEither c.held (put_record (run_record s.register) c.held))
+  pub begun_crash : CrashLeaves met (disk_of old) (disk_of new) (HoldsEither c.held (put_record (run_record s.register) c.held))
   begun_crash = weaker met (disk_of old) (disk_of new) (HasEither c (with_batch c (run_record w.register ∷ []))) (HoldsEither c.held (put_record (run_record s.register) c.held))
       (λ file has. subst (λ (r : Record). HoldsEither c.held (put_record r c.held) file) (sym same_record) (either_held c (run_record w.register ∷ []) file has)) writes.moments
 

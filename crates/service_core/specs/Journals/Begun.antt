@@ -8,7 +8,7 @@ use Rattle.std.specs.Prelude.{◌≡◌, ⊤, ℕ, ◌+◌, List, [], ◌∷◌,
 use Rattle.edge_traits.specs.declared.disk.Disk.{Ghosts}
 use Rattle.flush_journal.specs.Files.{Content, content}
 use Rattle.flush_journal.specs.Frames.{frame_of, need_of}
-use Rattle.flush_journal.specs.Moments.{Leaves, LeavesSince}
+use Rattle.flush_journal.specs.Moments.{CrashLeaves, CrashLeavesSince}
 use Rattle.flush_journal.specs.Records.{Held, put_record}
 use Rattle.flush_journal.specs.Refusals.{MayRefuse}
 use Rattle.flush_journal.specs.Standing.{HoldsEither, IsSettled, disk_of, end_of, with_batch}
@@ -60,7 +60,7 @@ pub record IsUnbegun {D : Type 0} (met : Ghosts D) (before after : D) (why : Why
   pub cause : MayRefuseRun world end (met.most before) (met.faults before) (met.faults after) why
   pub images : met.honest → (image : List ℕ) → met.images after image → IsOf (met.reads before) (λ c. HoldsEither c.held (put_record (run_record world.register) c.held) image)
   pub unwritten : met.honest → IsUnwritten why → (image : List ℕ) → met.images after image → IsOf (met.reads before) (λ c. content image ≡ Ok c)
-  pub crash : met.honest → IsOf (met.reads before) (λ c. LeavesSince met before after (HoldsEither c.held (put_record (run_record world.register) c.held)))
+  pub crash : met.honest → IsOf (met.reads before) (λ c. CrashLeavesSince met before after (HoldsEither c.held (put_record (run_record world.register) c.held)))
 
 -- the disk tells the world that a journal keeps
 pub record IsOpened {D : Type 0} {met : Ghosts D} (j : Journal D met) (w : State) (c : Content) : Type 0 where
@@ -88,7 +88,7 @@ pub record IsBegun {D : Type 0} {met : Ghosts D} (j : Journal D met) (s : State)
 -- so it is, and whatever a crash left since a disk as it was holds what was held, with that record or without it, but for an image of before
 pub record IsBegunSince {D : Type 0} (met : Ghosts D) (before : D) (j : Journal D met) (s : State) (c : Content) : Type 0 where
   pub begun : IsBegun j s c
-  pub crash : LeavesSince met before (disk_of j) (HoldsEither c.held (put_record (run_record s.register) c.held))
+  pub crash : CrashLeavesSince met before (disk_of j) (HoldsEither c.held (put_record (run_record s.register) c.held))
 
 -- ---- a run that was not begun
 
@@ -110,7 +110,7 @@ pub record IsRunRefused {D : Type 0} {met : Ghosts D} (j : Journal D met) (w : S
   pub cause : MayRefuseRun (seen w) (end_of j) (met.most (disk_of j)) (met.faults (disk_of j)) (met.faults after) why
   pub images : met.honest → (image : List ℕ) → met.images after image → (c : Content) → IsSettled j c → HoldsEither c.held (put_record (run_record w.register) c.held) image
   pub unwritten : met.honest → IsUnwritten why → (image : List ℕ) → met.images after image → (c : Content) → IsSettled j c → content image ≡ Ok c
-  pub crash : met.honest → (c : Content) → IsSettled j c → Leaves met (disk_of j) after (HoldsEither c.held (put_record (run_record w.register) c.held))
+  pub crash : met.honest → (c : Content) → IsSettled j c → CrashLeaves met (disk_of j) after (HoldsEither c.held (put_record (run_record w.register) c.held))
 
 abbrev pub IsRunRefusal : {D : Type 0} {met : Ghosts D} → Journal D met → State → D → BeginFault → Type 0
 IsRunRefusal j w after (Unopened why) = ⊥

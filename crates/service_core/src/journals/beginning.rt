@@ -3,7 +3,7 @@
 ghost use Rattle.std.specs.Prelude.{◌≡◌, None, MatchResult, IfErr, IfOk};
 ghost use Rattle.edge_traits.specs.Causes.{Rose};
 ghost use Rattle.flush_journal.specs.Files.{Content};
-ghost use Rattle.flush_journal.specs.Moments.{Leaves};
+ghost use Rattle.flush_journal.specs.Moments.{CrashLeaves};
 ghost use Rattle.flush_journal.specs.Records.{put_record};
 ghost use Rattle.flush_journal.specs.Standing.{HoldsEither, disk_of, pending_of};
 ghost use Rattle.flush_journal.specs.Unchanged.{SameDisk};
@@ -84,7 +84,7 @@ fn begin_opened<D: Disk>(
 ) -> Result<Begun<D>, BeginRefused<D>>
     requires idle { pending_of journal ≡ None }
     ensures begun { D.honest → IfOk result (λ b. (c : Content) → IsOpened journal world c
-        → IsBegun b.journal b.world c × Leaves D.Disk (disk_of journal) (disk_of b.journal)
+        → IsBegun b.journal b.world c × CrashLeaves D.Disk (disk_of journal) (disk_of b.journal)
         (HoldsEither c.held (put_record (run_record b.world.register) c.held))) }
     ensures idle { IfOk result (λ b. pending_of b.journal ≡ None) }
     ensures err { IfErr result (λ r. IsRunRefusal journal world r.disk r.why) }

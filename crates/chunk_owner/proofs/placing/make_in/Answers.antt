@@ -12,7 +12,7 @@ use Rattle.chunk_owner.proofs.AtIds.{object_tree-unmarked}
 use Rattle.chunk_owner.proofs.LaneLemmas.{home_others}
 use Rattle.chunk_owner.proofs.MarkLemmas.{new_mark}
 use Rattle.chunk_owner.proofs.placing.make_in.Goals as goal
-use Rattle.object_ops.specs.Answers.{was_done}
+use Rattle.object_ops.specs.Replies.{was_done}
 
 pub put-requires-clause-new : goal.put-requires-clause-new
 put-requires-clause-new c = sym (get-objects_of c.args.slots.now c.args.id) ∙ c.requires.new

@@ -1,7 +1,7 @@
 use Rattle.std.proofs.Common.{sym, ◌∙◌, subst}
 use Rattle.std.proofs.lemmas.Result.{on_ok_weaker}
 use Rattle.edge_traits.specs.Disks.{Only}
-use Rattle.flush_journal.specs.Markers.{Shut, IsLaid, OnlyHas}
+use Rattle.flush_journal.specs.Markers.{HasClosedMarker, IsLaid, OnlyHas}
 use Rattle.flush_journal.proofs.MarkerLemmas.{torn_behind, written_behind, laid_shut, images_behind}
 use Rattle.flush_journal.proofs.Moments.{one_call, joined}
 use Rattle.flush_journal.proofs.Results.{if_ok}
@@ -15,25 +15,25 @@ returns-in_err-write_at-clause-kept g c = λ h front place has. record {
 
 pub returns-in_err-write_at-clause-moments : goal.returns-in_err-write_at-clause-moments
 returns-in_err-write_at-clause-moments g c = λ h front place has.
-    one_call g.D.Disk c.args.disk.now c.write_at.new.self (Shut front) _
-    (λ i left. subst (Shut front) (sym (has.only i (g.met.D.Disk.only_now c.args.disk.now i h left))) has.now)
+    one_call g.D.Disk c.args.disk.now c.write_at.new.self (HasClosedMarker front) _
+    (λ i left. subst (HasClosedMarker front) (sym (has.only i (g.met.D.Disk.only_now c.args.disk.now i h left))) has.now)
     (c.write_at.ensures.time h)
     (images_behind front c.args.end place _ _ _ _ has (λ i left. left))
 
 pub returns-clause-kept : goal.returns-clause-kept
 returns-clause-kept g c = λ h front place has. record {
-  now = subst (Shut front) (sym (c.sync.ensures.reads h)) (laid_shut front c.args.end place _ _ (written_behind front c.args.end place _ _ _ has.now (c.in_ok-write_at.ensures.ok h)));
+  now = subst (HasClosedMarker front) (sym (c.sync.ensures.reads h)) (laid_shut front c.args.end place _ _ (written_behind front c.args.end place _ _ _ has.now (c.in_ok-write_at.ensures.ok h)));
   each = λ i left. images_behind front c.args.end place _ _ _ _ has (c.write_at.ensures.images h) i (c.sync.ensures.images h i left);
 }
 
 pub returns-clause-moments : goal.returns-clause-moments
 returns-clause-moments g c = λ h front place has.
     let behind = images_behind front c.args.end place _ _ _ _ has (c.write_at.ensures.images h) in
-    joined g.D.Disk c.args.disk.now c.write_at.new.self c.sync.new.self (Shut front)
-    (one_call g.D.Disk c.args.disk.now c.write_at.new.self (Shut front) _
-    (λ i left. subst (Shut front) (sym (has.only i (g.met.D.Disk.only_now c.args.disk.now i h left))) has.now)
+    joined g.D.Disk c.args.disk.now c.write_at.new.self c.sync.new.self (HasClosedMarker front)
+    (one_call g.D.Disk c.args.disk.now c.write_at.new.self (HasClosedMarker front) _
+    (λ i left. subst (HasClosedMarker front) (sym (has.only i (g.met.D.Disk.only_now c.args.disk.now i h left))) has.now)
     (c.write_at.ensures.time h) (images_behind front c.args.end place _ _ _ _ has (λ i left. left)))
-    (one_call g.D.Disk c.write_at.new.self c.sync.new.self (Shut front) _
+    (one_call g.D.Disk c.write_at.new.self c.sync.new.self (HasClosedMarker front) _
     (λ i left. behind i (g.met.D.Disk.only_now c.write_at.new.self i h left))
     (c.sync.ensures.time h) (λ i left. behind i (c.sync.ensures.images h i left)))
 
@@ -52,7 +52,7 @@ returns-in_err-write_at-clause-reads g c = λ h front place shut. torn_behind fr
 
 pub returns-clause-reads : goal.returns-clause-reads
 returns-clause-reads g c = λ h front place shut.
-    subst (Shut front) (sym (c.sync.ensures.reads h)) (laid_shut front c.args.end place _ _ (written_behind front c.args.end place _ _ _ shut (c.in_ok-write_at.ensures.ok h)))
+    subst (HasClosedMarker front) (sym (c.sync.ensures.reads h)) (laid_shut front c.args.end place _ _ (written_behind front c.args.end place _ _ _ shut (c.in_ok-write_at.ensures.ok h)))
 
 pub returns-clause-laid : goal.returns-clause-laid
 returns-clause-laid g c = λ h front place shut.

@@ -1,7 +1,7 @@
 use Rattle.std.proofs.Common.{inl, inr, sym, ◌∙◌, subst}
 use Rattle.std.proofs.lemmas.Result.{on_ok_weaker}
 use Rattle.edge_traits.specs.Disks.{Only}
-use Rattle.flush_journal.specs.Markers.{IsLaid, Opened, Either, OnlyHas}
+use Rattle.flush_journal.specs.Markers.{IsLaid, HasOpenMarker, Either, OnlyHas}
 use Rattle.flush_journal.proofs.MarkerLemmas.{torn_marker, written_marker, laid_shut, images_marker}
 use Rattle.flush_journal.proofs.Moments.{one_call, joined}
 use Rattle.flush_journal.proofs.Results.{if_ok}
@@ -41,9 +41,9 @@ pub returns-clause-ok : goal.returns-clause-ok
 returns-clause-ok g c = λ h front frame place has.
     let opened = written_marker front c.args.end place _ _ _ has.now (c.in_ok-write_at.ensures.ok h) in
     on_ok_weaker {P = Only (g.D.Disk.reads c.write_at.new.self) (g.D.Disk.images c.sync.new.self)}
-    {Q = OnlyHas (Opened front frame) (g.D.Disk.reads c.sync.new.self) (g.D.Disk.images c.sync.new.self)} c.sync.result
+    {Q = OnlyHas (HasOpenMarker front frame) (g.D.Disk.reads c.sync.new.self) (g.D.Disk.images c.sync.new.self)} c.sync.result
     (λ (only : Only (g.D.Disk.reads c.write_at.new.self) (g.D.Disk.images c.sync.new.self)). record {
-      now = subst (Opened front frame) (sym (c.sync.ensures.reads h)) opened;
+      now = subst (HasOpenMarker front frame) (sym (c.sync.ensures.reads h)) opened;
       only = λ i left. only i left ∙ sym (c.sync.ensures.reads h);
     }) (c.sync.ensures.ok h)
 
@@ -56,4 +56,4 @@ returns-clause-reads g c = λ h front frame place laid.
 
 pub returns-clause-opened : goal.returns-clause-opened
 returns-clause-opened g c = λ h front frame place laid.
-    if_ok c.sync.result _ (subst (Opened front frame) (sym (c.sync.ensures.reads h)) (written_marker front c.args.end place _ _ _ laid (c.in_ok-write_at.ensures.ok h)))
+    if_ok c.sync.result _ (subst (HasOpenMarker front frame) (sym (c.sync.ensures.reads h)) (written_marker front c.args.end place _ _ _ laid (c.in_ok-write_at.ensures.ok h)))

@@ -1,6 +1,6 @@
 use Rattle.std.proofs.Common.{◌∙◌, Option, sym, ap, subst}
 use Rattle.serde_json.specs.Read.{read}
-use Rattle.object_records.specs.Answers.{Reads}
+use Rattle.object_records.specs.Readings.{Reads}
 use Rattle.object_records.specs.Entries.{Entry, entry_of}
 use Rattle.object_records.proofs.ReadLemmas.{body_reads, not_a_text}
 use Rattle.object_records.proofs.reading.read_object.Goals as goal

@@ -4,7 +4,7 @@ use Rattle.chunk_owner.specs.Owners.Records.{LanesStillSay}
 use Rattle.service_core.specs.Turns.{AreReady}
 use Rattle.service_core.proofs.TurnLemmas.{SoFar}
 use Rattle.service_core.proofs.turns.run_turns.Given as goal
-use Rattle.object_ops.specs.Answers.{was_done}
+use Rattle.object_ops.specs.Replies.{was_done}
 
 abbrev pub invariant-turns : goal.invariant-turns
 invariant-turns l =

@@ -1,5 +1,5 @@
 use Rattle.std.proofs.Common.{sym, subst}
-use Rattle.object_ops.specs.Answers.{Follows}
+use Rattle.object_ops.specs.Replies.{Follows}
 use Rattle.chunk_owner.specs.Slots.Slots.{StillSays, objects_of}
 use Rattle.chunk_owner.specs.Lanes.{Lane}
 use Rattle.chunk_owner.specs.Acts.{acted, touched, IsTouchedIn}

@@ -1,7 +1,7 @@
 use Rattle.std.proofs.Common.{◌≡◌, ◌≤◌, ◌+◌, ◌++◌, ◌∷◌, [], length, drop, refl, sym, ap, subst, ◌∙◌, arith}
 use Rattle.std.proofs.lemmas.List.{length-drop, length_push}
 use Rattle.hyperslab.specs.declared.runs.Run.{Run}
-use Rattle.chunk_store.specs.StridedCopies.Strides.{AreCopied, AreKept, Fit}
+use Rattle.chunk_store.specs.StridedCopies.Strides.{AreCopied, AreOthersKept, Fit}
 use Rattle.chunk_store.specs.declared.strided_copies.copies.Strided.{Strided}
 use Rattle.chunk_store.specs.BoxCopies.Moves.{AreMovedTo, source_of, target_of}
 use Rattle.chunk_store.proofs.BoxCopies.MoveLemmas.{IsNext, next_run, moved_first, moved_next, moved_all}
@@ -54,15 +54,15 @@ loop-run-preserved c =
     let more : length (c.loop-run.yielded ++ c.in-Some.run' ∷ []) ≡ length c.loop-run.yielded + 1 = length_push c.loop-run.yielded x ∙ omega arith in
     let copied : AreCopied (target_of c.args.way c.in-Some.run') (source_of c.args.way c.in-Some.run') c.in-Some.run'.len c.args.size c.args.from.now c.copy_strided.new.out =
     subst (λ (s : Strided). AreCopied s (source_of way x) x.len size from new) c.target-to.ensures (subst (λ (s : Strided). AreCopied c.target-to.result s x.len size from new) c.source-at.ensures c.copy_strided.ensures.copied) in
-    let kept : AreKept (target_of c.args.way c.in-Some.run') c.in-Some.run'.len c.args.size c.loop-run.out c.copy_strided.new.out =
-    subst (λ (s : Strided). AreKept s x.len size c.loop-run.out new) c.target-to.ensures c.copy_strided.ensures.kept in
+    let kept : AreOthersKept (target_of c.args.way c.in-Some.run') c.in-Some.run'.len c.args.size c.loop-run.out c.copy_strided.new.out =
+    subst (λ (s : Strided). AreOthersKept s x.len size c.loop-run.out new) c.target-to.ensures c.copy_strided.ensures.kept in
     record {
       left = subst (λ m. drop m c.args.runs ≡ c.next.new.self) (sym more) at.left;
       few = omega (arith, more, at.there);
       moved = subst (λ m. AreMovedTo (target_of way) (source_of way) m c.args.runs size from c.args.out.now new) (sym more)
           (moved_next (target_of way) (source_of way) n c.args.runs size from c.args.out.now c.loop-run.out new at.there c.requires.distinct c.loop-run.invariant.moved
           (subst (λ (r : Run). AreCopied (target_of way r) (source_of way r) r.len size from new) at.is copied)
-          (subst (λ (r : Run). AreKept (target_of way r) r.len size c.loop-run.out new) at.is kept));
+          (subst (λ (r : Run). AreOthersKept (target_of way r) r.len size c.loop-run.out new) at.is kept));
       len = c.copy_strided.ensures.len ∙ c.loop-run.invariant.len;
     }
 

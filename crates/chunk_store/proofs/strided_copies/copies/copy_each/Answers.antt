@@ -1,5 +1,5 @@
 use Rattle.std.proofs.Common.{◌≡◌, ◌≤◌, ◌+◌, ◌*◌, length, ap, sym, ◌∙◌, subst, arith}
-use Rattle.chunk_store.specs.StridedCopies.Strides.{nth, AreCopied, AreKept}
+use Rattle.chunk_store.specs.StridedCopies.Strides.{nth, AreCopied, AreOthersKept}
 use Rattle.chunk_store.proofs.StridedCopies.StrideLemmas.{length-subslice, number_small, put_copied, put_kept}
 use Rattle.chunk_store.proofs.strided_copies.copies.copy_each.Goals as goal
 
@@ -21,6 +21,6 @@ loop-i-preserved c =
     record {
       copied = subst (AreCopied to at (i + 1) size c.args.from.now) (sym c.put.ensures)
           (put_copied to at i size c.args.from.now c.loop-i.out xs c.requires.apart c.loop-i.invariant.copied c.subslice-element.ensures inside room);
-      kept = subst (AreKept to (i + 1) size c.args.out.now) (sym c.put.ensures) (put_kept to i size c.args.out.now c.loop-i.out xs c.loop-i.invariant.kept len room);
+      kept = subst (AreOthersKept to (i + 1) size c.args.out.now) (sym c.put.ensures) (put_kept to i size c.args.out.now c.loop-i.out xs c.loop-i.invariant.kept len room);
       len = omega (arith, c.put.auto.bytes, c.loop-i.invariant.len);
     }

@@ -1,6 +1,6 @@
 use Rattle.std.proofs.Common.{◌≡◌, ◌≤◌, ◌+◌, ◌*◌, length, ap, sym, ◌∙◌, subst, arith}
 use Rattle.hdf_values.specs.Nested.{with_pieces}
-use Rattle.chunk_store.specs.StridedCopies.Strides.{AreCopied, AreKept}
+use Rattle.chunk_store.specs.StridedCopies.Strides.{AreCopied, AreOthersKept}
 use Rattle.chunk_store.proofs.StridedCopies.StrideLemmas.{length-subslice, fit_together, together_copied, together_kept}
 use Rattle.chunk_store.proofs.strided_copies.copies.copy_strided.Goals.{After-subslice}
 use Rattle.chunk_store.proofs.strided_copies.copies.copy_strided.Goals as goal
@@ -30,4 +30,4 @@ pub returns-then-at-eq1-clause-kept : goal.returns-then-at-eq1-clause-kept
 returns-then-at-eq1-clause-kept c =
     let a = c.args in
     let at = (goal.at.returns-then-at-eq1-clause-kept c).After-subslice in
-    subst (AreKept a.to a.many a.size a.out.now) (sym c.put.ensures) (together_kept a.to a.many a.size c.subslice.result.now a.out.now (omega arith) (long at) (room at))
+    subst (AreOthersKept a.to a.many a.size a.out.now) (sym c.put.ensures) (together_kept a.to a.many a.size c.subslice.result.now a.out.now (omega arith) (long at) (room at))

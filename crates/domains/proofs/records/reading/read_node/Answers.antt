@@ -1,7 +1,7 @@
 use Rattle.std.proofs.Common.{◌∙◌, Option, sym, ap, subst}
 use Rattle.serde_json.specs.Read.{read}
 use Rattle.domains.specs.declared.classes.Node.{Node}
-use Rattle.domains.specs.Records.Answers.{Reads}
+use Rattle.domains.specs.Records.Readings.{Reads}
 use Rattle.domains.proofs.OfRecords.ReadLemmas.{body_reads, not_a_text}
 use Rattle.domains.proofs.records.reading.read_node.Goals as goal
 

@@ -2,8 +2,8 @@ use Rattle.std.proofs.Common.{◌≡◌, ℕ, ◌+◌, List, length, Err, inl, r
 use Rattle.flush_journal.specs.declared.why.Why.TheVariants.{JournalFull}
 use Rattle.flush_journal.specs.Batches.{records}
 use Rattle.flush_journal.specs.Frames.{frame_of, need_of}
-use Rattle.flush_journal.specs.Markers.{Shut, Opened, Either, AllHave, OnlyHas, EndsShut, MarkerStands}
-use Rattle.flush_journal.specs.Moments.{Leaves}
+use Rattle.flush_journal.specs.Markers.{HasClosedMarker, HasOpenMarker, Either, AllHave, OnlyHas, EndsInClosedMarker, MarkerStands}
+use Rattle.flush_journal.specs.Moments.{CrashLeaves}
 use Rattle.flush_journal.specs.Refusals.{MayRefuse}
 use Rattle.flush_journal.proofs.MarkerLemmas.{all_have}
 use Rattle.flush_journal.proofs.JournalLemmas.{start_of, frame_ends, need_of-size}
@@ -22,10 +22,10 @@ returns-in-Err-clause-writes g c = λ h c' s.
       ok = tt;
       err = owed_by _ c' rs start.front start.is_front are refl
           (record { version = s.numbers.version; lanes = s.numbers.lanes; batches = s.numbers.batches; end = s.numbers.end })
-          (all_have (Shut start.front) (Either start.front (frame_of rs)) _ _ (λ b shut. inl shut) start.has);
+          (all_have (HasClosedMarker start.front) (Either start.front (frame_of rs)) _ _ (λ b shut. inl shut) start.has);
       moments = leaves_either c.args.self.now c' rs start.front start.is_front are disk disk
           (no_call g.D.Disk disk (Either start.front (frame_of rs))
-          (λ i left. inl (subst (Shut start.front) (sym (start.has.only i (g.met.D.Disk.only_now disk i h left))) start.has.now)));
+          (λ i left. inl (subst (HasClosedMarker start.front) (sym (start.has.only i (g.met.D.Disk.only_now disk i h left))) start.has.now)));
     }
 
 pub returns-in-Err-clause-tries : goal.returns-in-Err-clause-tries
@@ -50,7 +50,7 @@ invariant_of-self-in-Err-write_frame g c =
     record {
       version1 = c.args.self.now.version1;
       marker = λ h. subst (λ (l : List ℕ). MarkerStands c.args.self.now.numbers.end (length l) (g.D.Disk.reads c.write_frame.new.disk)) c.frame-2.ensures.bytes
-          (c.write_frame.ensures.stands h (subst EndsShut (sym c.frame-2.ensures.bytes) (frame_ends (records c.args.batch) some)));
+          (c.write_frame.ensures.stands h (subst EndsInClosedMarker (sym c.frame-2.ensures.bytes) (frame_ends (records c.args.batch) some)));
       some = some_batch (records c.args.batch) some;
     }
 
@@ -70,7 +70,7 @@ returns-in-Err-write_frame-clause-writes g c = λ h c' s.
           (subst (λ (l : List ℕ). AllHave (Either start.front l) (g.D.Disk.reads new) (g.D.Disk.images new)) c.frame-2.ensures.bytes
           (c.write_frame.ensures.kept h start.front place start.has));
       moments = leaves_either c.args.self.now c' rs start.front start.is_front are old new
-          (subst (λ (l : List ℕ). Leaves g.D.Disk old new (Either start.front l)) c.frame-2.ensures.bytes
+          (subst (λ (l : List ℕ). CrashLeaves g.D.Disk old new (Either start.front l)) c.frame-2.ensures.bytes
           (c.write_frame.ensures.moments h start.front place start.has));
     }
 
@@ -103,7 +103,7 @@ invariant_of-self-2 g c =
       };
       marker = λ h. subst (λ (n : ℕ). MarkerStands (old.numbers.end + length c.frame.result.now) n reads) (sym (none_owed old.pending c.requires.idle))
           (subst (λ (n : ℕ). MarkerStands (old.numbers.end + n) 0 reads) size
-          (c.in_default-write_frame.ensures.moved h (subst EndsShut (sym c.frame-2.ensures.bytes) (frame_ends rs some))));
+          (c.in_default-write_frame.ensures.moved h (subst EndsInClosedMarker (sym c.frame-2.ensures.bytes) (frame_ends rs some))));
       some = old.some;
     }
 
@@ -121,11 +121,11 @@ returns-clause-writes g c = λ h c' s.
           s.numbers.version s.numbers.lanes
           (ap (λ (n : ℕ). n + 1) s.numbers.batches)
           (λ i. s.numbers.end i + length (c.frame.ensures.bytes i))
-          (subst (λ (l : List ℕ). OnlyHas (Opened start.front l) (g.D.Disk.reads new) (g.D.Disk.images new)) c.frame-2.ensures.bytes
+          (subst (λ (l : List ℕ). OnlyHas (HasOpenMarker start.front l) (g.D.Disk.reads new) (g.D.Disk.images new)) c.frame-2.ensures.bytes
           (c.in_default-write_frame.ensures.ok h start.front place start.has));
       err = tt;
       moments = leaves_either c.args.self.now c' rs start.front start.is_front are old new
-          (subst (λ (l : List ℕ). Leaves g.D.Disk old new (Either start.front l)) c.frame-2.ensures.bytes
+          (subst (λ (l : List ℕ). CrashLeaves g.D.Disk old new (Either start.front l)) c.frame-2.ensures.bytes
           (c.write_frame.ensures.moments h start.front place start.has));
     }
 

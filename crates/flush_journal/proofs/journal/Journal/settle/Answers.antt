@@ -5,8 +5,8 @@ use Rattle.std.proofs.Math.Nat.{ℕ_set}
 use Rattle.flush_journal.specs.declared.why.Why.TheVariants.{JournalFull}
 use Rattle.flush_journal.specs.Batches.{records, owed_size}
 use Rattle.flush_journal.specs.Frames.{frame_of, need_of}
-use Rattle.flush_journal.specs.Markers.{Opened, Either, AllHave, OnlyHas, EndsShut, MarkerStands}
-use Rattle.flush_journal.specs.Moments.{Leaves}
+use Rattle.flush_journal.specs.Markers.{HasOpenMarker, Either, AllHave, OnlyHas, EndsInClosedMarker, MarkerStands}
+use Rattle.flush_journal.specs.Moments.{CrashLeaves}
 use Rattle.flush_journal.specs.Reports.{IsVersion1}
 use Rattle.flush_journal.specs.Refusals.{MayRefuse}
 use Rattle.flush_journal.proofs.ContentLemmas.{front_closed}
@@ -51,7 +51,7 @@ invariant_of-self-in-Err-write_again g c =
     record {
       version1 = old.version1;
       marker = λ h. subst (λ (n : ℕ). MarkerStands old.numbers.end n (g.D.Disk.reads c.write_again.new.disk)) (ap length c.frame-2.ensures.bytes ∙ ap owed_size (sym c.in-Some.is))
-          (c.write_again.ensures.stands h (subst EndsShut (sym c.frame-2.ensures.bytes) (frame_ends (records c.in-Some.batch) some)));
+          (c.write_again.ensures.stands h (subst EndsInClosedMarker (sym c.frame-2.ensures.bytes) (frame_ends (records c.in-Some.batch) some)));
       some = old.some;
     }
 
@@ -74,7 +74,7 @@ returns-in-Err-write_again-clause-writes g c = λ h c' rs s.
           (subst (λ (l : List ℕ). AllHave (Either s.resumable.front l) (g.D.Disk.reads new) (g.D.Disk.images new)) bytes
           (c.write_again.ensures.kept h s.resumable.front place has));
       moments = leaves_either old c' rs s.resumable.front is are old.disk new
-          (subst (λ (l : List ℕ). Leaves g.D.Disk old.disk new (Either s.resumable.front l)) bytes
+          (subst (λ (l : List ℕ). CrashLeaves g.D.Disk old.disk new (Either s.resumable.front l)) bytes
           (c.write_again.ensures.moments h s.resumable.front place has));
     }
 
@@ -106,7 +106,7 @@ invariant_of-self-2 g c =
         counted = omega (arith, old.version1.counted, need_of-size (records c.in-Some.batch) c.frame.result.now some c.frame.ensures.bytes);
       };
       marker = λ h. subst (λ (n : ℕ). MarkerStands (old.numbers.end + n) 0 (g.D.Disk.reads c.write_again.new.disk)) size
-          (c.in_default-write_again.ensures.moved h (subst EndsShut (sym c.frame-2.ensures.bytes) (frame_ends (records c.in-Some.batch) some)));
+          (c.in_default-write_again.ensures.moved h (subst EndsInClosedMarker (sym c.frame-2.ensures.bytes) (frame_ends (records c.in-Some.batch) some)));
       some = λ is. absurd (cc);
     }
 
@@ -128,11 +128,11 @@ returns-clause-writes g c = λ h c' rs s.
           s.numbers.version s.numbers.lanes
           (ap (λ (n : ℕ). n + 1) s.numbers.batches)
           (λ i. s.numbers.end i + size i)
-          (subst (λ (l : List ℕ). OnlyHas (Opened s.resumable.front l) (g.D.Disk.reads new) (g.D.Disk.images new)) bytes
+          (subst (λ (l : List ℕ). OnlyHas (HasOpenMarker s.resumable.front l) (g.D.Disk.reads new) (g.D.Disk.images new)) bytes
           (c.in_default-write_again.ensures.ok h s.resumable.front place has));
       err = tt;
       moments = leaves_either old c' rs s.resumable.front is are old.disk new
-          (subst (λ (l : List ℕ). Leaves g.D.Disk old.disk new (Either s.resumable.front l)) bytes
+          (subst (λ (l : List ℕ). CrashLeaves g.D.Disk old.disk new (Either s.resumable.front l)) bytes
           (c.write_again.ensures.moments h s.resumable.front place has));
     }
 

@@ -1,6 +1,6 @@
 use Rattle.std.proofs.Common.{sym, subst}
 use Rattle.service_core.specs.Worlds.{seen}
-use Rattle.json_import.specs.Kept.Imports.{HasCauseOf, IsDiskFault}
+use Rattle.json_import.specs.Kept.Imports.{HasCauseOf, IsImportDiskFault}
 use Rattle.json_import.specs.Kept.Parts.{CameToFrom}
 use Rattle.json_import.specs.declared.kept.outcome.Outcome.{Outcome}
 use Rattle.json_import.proofs.OfKept.Kept.{cause_of_keeping, from_keeping}
@@ -35,4 +35,4 @@ returns-in-Err-clause-causes g c =
     c.in-Err.why c.in-Err.ensures.err c.adopt_input.ensures.later)
 
 pub returns-in-Err-clause-disk_fault : goal.returns-in-Err-clause-disk_fault
-returns-in-Err-clause-disk_fault g c = λ is. absurd (no_disk_fault c.in-Err.why (subst IsDiskFault c.from.ensures is))
+returns-in-Err-clause-disk_fault g c = λ is. absurd (no_disk_fault c.in-Err.why (subst IsImportDiskFault c.from.ensures is))

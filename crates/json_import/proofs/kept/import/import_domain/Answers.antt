@@ -2,7 +2,7 @@ use Rattle.std.proofs.Common.{sym, subst}
 use Rattle.flush_journal.specs.Standing.{disk_of}
 use Rattle.flush_journal.proofs.Unchanged.{same_both}
 use Rattle.edge_traits.proofs.CauseLemmas.{rose_since}
-use Rattle.json_import.specs.Kept.Imports.{CameTo, HasCauseOf, IsDiskFault}
+use Rattle.json_import.specs.Kept.Imports.{CameTo, HasCauseOf, IsImportDiskFault}
 use Rattle.json_import.proofs.OfKept.Kept.{came_to_from}
 use Rattle.json_import.proofs.OfKept.Refusals.{cause_unstarted, fault_unstarted, not_started}
 use Rattle.json_import.proofs.kept.import.import_domain.Goals as goal
@@ -31,4 +31,4 @@ returns-in-Err-clause-causes g c =
     subst (HasCauseOf faults faults) (sym c.from.ensures) (cause_unstarted faults c.in-Err.field-0.why)
 
 pub returns-in-Err-clause-disk_fault : goal.returns-in-Err-clause-disk_fault
-returns-in-Err-clause-disk_fault g c = λ is. c.in-Err.ensures.disk_fault (fault_unstarted c.in-Err.field-0.why (subst IsDiskFault c.from.ensures is))
+returns-in-Err-clause-disk_fault g c = λ is. c.in-Err.ensures.disk_fault (fault_unstarted c.in-Err.field-0.why (subst IsImportDiskFault c.from.ensures is))

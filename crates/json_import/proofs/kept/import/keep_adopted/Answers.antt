@@ -2,7 +2,7 @@ use Rattle.std.proofs.Common.{sym, subst}
 use Rattle.flush_journal.specs.Standing.{disk_of}
 use Rattle.flush_journal.specs.Unchanged.{SameDisk}
 use Rattle.flush_journal.specs.declared.journal.Journal.{Journal}
-use Rattle.json_import.specs.Kept.Imports.{IsDiskFault}
+use Rattle.json_import.specs.Kept.Imports.{IsImportDiskFault}
 use Rattle.json_import.specs.Kept.Parts.{IsKeptFrom}
 use Rattle.json_import.proofs.OfKept.Kept.{fault_of_keeping}
 use Rattle.json_import.proofs.kept.import.keep_adopted.Goals as goal
@@ -59,4 +59,4 @@ returns-clause-disk_fault g c = λ is.
       };
       disk = c.into_disk.ensures;
     } in
-    fault_of_keeping c.args.journal c.args.world c.into_disk.result c.keep-last.result c.args.counts k (subst IsDiskFault c.kept_outcome.ensures is)
+    fault_of_keeping c.args.journal c.args.world c.into_disk.result c.keep-last.result c.args.counts k (subst IsImportDiskFault c.kept_outcome.ensures is)

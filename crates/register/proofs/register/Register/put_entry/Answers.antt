@@ -1,7 +1,7 @@
 use Rattle.std.proofs.Common.{◌≡◌, refl, sym, subst}
 use Rattle.domains.specs.Contents.{Contents}
 use Rattle.domains.specs.Changes.{entry_fault}
-use Rattle.object_ops.specs.Answers.{nothing}
+use Rattle.object_ops.specs.Replies.{nothing}
 use Rattle.object_ops.specs.declared.replies.Reply.TheVariants.{Done}
 use Rattle.register.specs.declared.verdicts.Verdict.TheVariants.{Answered}
 use Rattle.register.specs.Decided.{AreGivenOut, RegisterState, entry_put, passed}

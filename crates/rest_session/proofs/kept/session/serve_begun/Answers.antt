@@ -1,7 +1,7 @@
 use Rattle.std.proofs.Common.{ℕ, List, OnOk, refl, sym, subst, ◌∙◌}
 use Rattle.edge_traits.specs.Causes.{Rose}
 use Rattle.flush_journal.specs.Batches.{records}
-use Rattle.flush_journal.specs.Moments.{Leaves}
+use Rattle.flush_journal.specs.Moments.{CrashLeaves}
 use Rattle.flush_journal.specs.Standing.{disk_of}
 use Rattle.flush_journal.specs.Unchanged.{SameDisk}
 use Rattle.flush_journal.proofs.Unchanged.{same_both}
@@ -53,7 +53,7 @@ returns-clause-served g c =
             (c.what_waits_stood.ensures first final t.0 t.1 (g.L.Source.left c.serve_world-end.new.link) c.serve_world-end.result t.4 c.requires.new.waits c.requires.new.building c.requires.kept);
         stretch = c.what_is_kept_stood.ensures.stretch first final t.0 t.1 (g.L.Source.left c.serve_world-end.new.link) c.serve_world-end.result t.4;
         crash = λ honest u v is. c.what_is_kept_stood.ensures.crash first final u v t.0 is honest (c.requires.backed honest) c.requires.kept;
-        last_crash = λ honest u is. subst (λ (d : g.row.D.Denot). Leaves g.D.Disk (disk_of u.keeping.journal) d (HoldsStood first final t.0 u.keeping.kept)) (sym c.into_disk.ensures)
+        last_crash = λ honest u is. subst (λ (d : g.row.D.Denot). CrashLeaves g.D.Disk (disk_of u.keeping.journal) d (HoldsStood first final t.0 u.keeping.kept)) (sym c.into_disk.ensures)
             (left_then first final t.0 k w c.keep-last.result keeps honest
             (c.what_is_kept_stood.ensures.stood first final t.0 t.1 (g.L.Source.left c.serve_world-end.new.link) c.serve_world-end.result t.4 honest (c.requires.backed honest) c.requires.kept) u
             (c.what_is_kept_stood.ensures.onward first final u final t.0 is c.requires.kept)

@@ -3,7 +3,7 @@ use Rattle.flush_journal.specs.Standing.{disk_of, pending_of}
 use Rattle.flush_journal.specs.Unchanged.{SameDisk}
 use Rattle.flush_journal.specs.declared.journal.Journal.{Journal}
 use Rattle.flush_journal.proofs.Unchanged.{same_both}
-use Rattle.rest_session.specs.Kept.Sessions.{HasCausesOf, IsDiskFault, IsEnded}
+use Rattle.rest_session.specs.Kept.Sessions.{HasCausesOf, IsEnded, IsSessionDiskFault}
 use Rattle.rest_session.proofs.OfKept.Beginning.{backed_first, causes_unserved, fault_unserved, not_served, served_since}
 use Rattle.rest_session.proofs.kept.session.serve_disk.Goals as goal
 
@@ -49,4 +49,4 @@ returns-in-Err-clause-causes g c =
     subst (HasCausesOf read read written written) (sym c.from.ensures) (causes_unserved read written c.in-Err.field-0.why)
 
 pub returns-in-Err-clause-disk_fault : goal.returns-in-Err-clause-disk_fault
-returns-in-Err-clause-disk_fault g c = λ is. c.in-Err.ensures.disk_fault (fault_unserved c.in-Err.field-0.why (subst IsDiskFault c.from.ensures is))
+returns-in-Err-clause-disk_fault g c = λ is. c.in-Err.ensures.disk_fault (fault_unserved c.in-Err.field-0.why (subst IsSessionDiskFault c.from.ensures is))

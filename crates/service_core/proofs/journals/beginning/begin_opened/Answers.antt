@@ -1,5 +1,5 @@
 use Rattle.std.proofs.Common.{[], ◌∷◌, sym, subst}
-use Rattle.flush_journal.specs.Moments.{Leaves}
+use Rattle.flush_journal.specs.Moments.{CrashLeaves}
 use Rattle.flush_journal.specs.Records.{put_record}
 use Rattle.flush_journal.specs.Standing.{HoldsEither, disk_of, end_of}
 use Rattle.service_core.specs.Journals.Begun.{MayRefuseRun}
@@ -26,6 +26,6 @@ returns-in-Err-clause-err g c = record {
       (subst (λ (d : g.row.D.Denot). g.D.Disk.images d image) c.into_disk.ensures left);
   unwritten = λ honest nothing image left content' settled'. run_unwritten c.args.journal c.begin_run.new.journal c.args.world c.in-Err.why c.in-Err.ensures.tries nothing content' settled' image
       (subst (λ (d : g.row.D.Denot). g.D.Disk.images d image) c.into_disk.ensures left);
-  crash = λ honest content' settled'. subst (λ (d : g.row.D.Denot). Leaves g.D.Disk (disk_of c.args.journal) d (HoldsEither content'.held (put_record (run_record c.args.world.register) content'.held)))
+  crash = λ honest content' settled'. subst (λ (d : g.row.D.Denot). CrashLeaves g.D.Disk (disk_of c.args.journal) d (HoldsEither content'.held (put_record (run_record c.args.world.register) content'.held)))
       (sym c.into_disk.ensures) (run_crash c.args.journal c.begin_run.new.journal c.args.world c.in-Err.why g.met.D.Disk.only_now honest content' settled' (c.in-Err.ensures.writes honest content' settled'));
 }

@@ -7,25 +7,26 @@ use std::io::Read;
 /// a fault. It owns its reader and holds no end that is lent, so the trait's empty list of names is right for it, as it is
 /// for the sources and sinks over std.
 #[derive(Drop)]
-pub struct Opened<R: Read> {
+pub struct OptionalFile<R: Read> {
     reader: Option<R>,
     count: FaultCount,
 }
 
-impl<R: Read> Opened<R> {
+impl<R: Read> OptionalFile<R> {
     /// The file, where it was opened, with no fault yet.
-    pub fn new(reader: Option<R>) -> Opened<R>
-        ensures left { ⟦<Opened<R> as Source>⟧.left result ≡ option_and_then R.remaining reader }
-        ensures faults { ⟦<Opened<R> as Source>⟧.faults result ≡ 0 }
+    pub fn new(reader: Option<R>) -> OptionalFile<R>
+        ensures left { ⟦<OptionalFile<R> as Source>⟧.left result
+            ≡ option_and_then R.remaining reader }
+        ensures faults { ⟦<OptionalFile<R> as Source>⟧.faults result ≡ 0 }
     {
-        Opened {
+        OptionalFile {
             reader,
             count: FaultCount::new(),
         }
     }
 }
 
-impl<R: Read> Source for Opened<R> {
+impl<R: Read> Source for OptionalFile<R> {
     ghost left = { λ s. option_and_then R.remaining s.reader };
 
     ghost faults = { λ s. s.count };
