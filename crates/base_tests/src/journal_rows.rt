@@ -43,9 +43,15 @@ const AGAIN: &str = "append 61=31,62=32,63=33,61=34 -> ok;append 63=35,62= -> ok
 fn batches_stand_one_behind_another(rt: HostRuntime) -> Result<(), Fail> {
     let alloc = rt.alloc();
     let disk = lead(&rt, disk_of(alloc, &EMPTY, 1000, &[])?, TWO_BATCHES)?;
-    assert_eq!(rt; content_text(alloc, disk)?.as_str(), "134 2: [1]=[0, 0, 0, 5] ");
+    assert_eq!(rt;
+        content_text(alloc, disk)?.as_str(),
+        "134 2: [1]=[0, 0, 0, 5] "
+    );
     let disk = lead(&rt, disk_of(alloc, &EMPTY, 1000, &[])?, AGAIN)?;
-    assert_eq!(rt; content_text(alloc, disk)?.as_str(), "94 2: [97]=[52] [99]=[53] ");
+    assert_eq!(rt;
+        content_text(alloc, disk)?.as_str(),
+        "94 2: [97]=[52] [99]=[53] "
+    );
     lead(&rt, disk_of(alloc, &EMPTY, 120, &[])?, FULL)?;
     Ok(())
 }

@@ -78,7 +78,7 @@ pub fn write_frame<D: Disk>(disk: &mut D, end: u64, frame: &[u8]) -> Result<(), 
     ensures ok { D.honest → (front : List ℕ) → length front ≡ end
         → OnlyHas (HasClosedMarker front) (D.reads disk.old) (D.images disk.old)
         → OnOk result
-            (OnlyHas (HasOpenMarker front frame.now) (D.reads disk.new) (D.images disk.new)) }
+        (OnlyHas (HasOpenMarker front frame.now) (D.reads disk.new) (D.images disk.new)) }
     ensures stands { D.honest → EndsInClosedMarker frame.now
         → MarkerStands end (length frame.now) (D.reads disk.new) }
     ensures moved { D.honest → EndsInClosedMarker frame.now
@@ -120,7 +120,7 @@ pub fn write_again<D: Disk>(disk: &mut D, end: u64, frame: &[u8]) -> Result<(), 
     ensures ok { D.honest → (front : List ℕ) → length front ≡ end
         → AllHave (Either front frame.now) (D.reads disk.old) (D.images disk.old)
         → OnOk result
-            (OnlyHas (HasOpenMarker front frame.now) (D.reads disk.new) (D.images disk.new)) }
+        (OnlyHas (HasOpenMarker front frame.now) (D.reads disk.new) (D.images disk.new)) }
     ensures stands { D.honest → EndsInClosedMarker frame.now
         → MarkerStands end (length frame.now) (D.reads disk.new) }
     ensures moved { D.honest → EndsInClosedMarker frame.now

@@ -75,7 +75,7 @@ pub no_id : (text : List ℕ) → ((id : Id) → InRange id → text_of_id id �
 no_id text none = none_told text _ refl none
 
 -- what a text is read as is the id that it is
-pub id_told : (text : List ℕ) (found : Option Id) → IfSome found InRange → IfSome found (λ id. text_of_id id ≡ text)
+pub id_found : (text : List ℕ) (found : Option Id) → IfSome found InRange → IfSome found (λ id. text_of_id id ≡ text)
     → IfNone found ((id : Id) → InRange id → text_of_id id ≢ text) → found ≡ id_of text
-id_told text None range some none = sym (no_id text none)
-id_told text (Some id) range some none = sym (id_read text id range some)
+id_found text None range some none = sym (no_id text none)
+id_found text (Some id) range some none = sym (id_read text id range some)

@@ -17,7 +17,6 @@ use Rattle.containers.proofs.Plain.{halves}
 use Rattle.containers.proofs.TextMaps.PutLemmas.{apart_push, apart_empty, Apart, entries_same}
 
 module _ {X : Type 0} where
-
   free : (most : ℕ) (m : FinMap text_order X) (name : List ℕ) → get m name ≡ None → len m < most → put_fault most m name ≡ None
   free most m name none room =
       let limit : Option PutFault = (if nat_lt (len m) most then None else Some Limit) in

@@ -1,6 +1,8 @@
 //! Records beside a good world's: which of them are at fault, and what is made of the others.
 
-use crate::worlds::{bytes_of, installed, keep, new_journal, push, push_words, read_back, recovered};
+use crate::worlds::{
+    bytes_of, installed, keep, new_journal, push, push_words, read_back, recovered,
+};
 use flush_journal::{Batch, Recovered};
 use register::InstallFault;
 use service_core::World;

@@ -2,7 +2,7 @@
 use Rattle.std.proofs.Common.{◌≡◌, ℕ, suc, ◌≤◌, List, [], ◌∷◌, length, T, Bool, true, false, cond, ◌&&◌, nat_le, Option, Some, None, option_map, option_and_then, Ordering, is_eq, is_lt, refl, sym, ap, subst, arith, ◌∙◌}
 use Rattle.std.specs.Cmp.{Equal-is}
 use Rattle.std.specs.Ordering.{eq_by_cmp}
-use Rattle.std.specs.FinMap.{entries, entries_sorted, find, from_sorted, entries-from_sorted, get-entries, get-from_entries, get-from_sorted, is_sorted, len-entries, same_map}
+use Rattle.std.specs.FinMap.{entries, entries_sorted, find, from_sorted, entries-from_sorted, get-entries, is_sorted, len-entries}
 use Rattle.std.specs.FinMap.Entries.{below_all}
 use Rattle.std.specs.List.{AllByRecursion}
 use Rattle.std.proofs.lemmas.Bool.{le-leb}
@@ -22,7 +22,7 @@ use Rattle.domains.specs.Records.Lists.{entry_in, entry_of, list_in}
 use Rattle.containers.proofs.Plain.{halves}
 use Rattle.containers.proofs.TextMaps.TextOrders.{greater}
 use Rattle.containers.specs.Options.{only_if}
-use Rattle.containers.proofs.TextMaps.PutLemmas.{apart_empty, put_entries}
+use Rattle.containers.proofs.TextMaps.PutLemmas.{put_entries}
 
 abbrev pub Row : Type 0
 Row = List ℕ × Rights
@@ -76,10 +76,9 @@ rows_rise (e ∷ es) up = together (below_all text_order e.0 es) (is_sorted text
 
 rows_of_map : (es : List Row) → T (is_sorted text_order es) → entries (map_of es) ≡ es
 rows_of_map es rising =
-    let sorted : map_of es ≡ from_sorted es =
-    put_on [] es rising (apart_empty es)
-    ∙ same_map nat_list_cmp_total exact_texts _ _ (λ q. get-from_entries nat_list_cmp_total es q ∙ sym (get-from_sorted text_order es q rising)) in
-    ap entries sorted ∙ entries-from_sorted text_order es rising
+    let m : Entries = from_sorted es in
+    let own : entries m ≡ es = entries-from_sorted text_order es rising in
+    ap (λ (l : List Row). entries (map_of l)) (sym own) ∙ ap entries (put_entries m) ∙ own
 
 found_named : (es : List Row) (q : List ℕ) (entry : Rights) → AreNamed es → find text_order q es ≡ Some entry → is_name (length q) q ≡ true
 found_named [] q entry named there = let both : None ≡ Some entry = there in absurd (cc)

@@ -387,10 +387,10 @@ module _ {X Y : Type 0} (text : List ℕ → List ℕ) (h : X → Y) where
       below_front : (es : List (List ℕ × X)) → AllByRecursion (λ e. text_order (text first) (text e.0) ≡ Less) es
           → T (below_all text_order (text first) (map (λ e. (text e.0, h e.1)) es))
       below_front [] all = tt
-      below_front (e ∷ es) all = both_tests text h _ _ (is_less text h _ all.0) (below_front es all.1)
+      below_front (e ∷ es) all = both_tests _ _ (is_less text h _ all.0) (below_front es all.1)
 
       sorted : T (is_sorted text_order ((text first, h x) ∷ map (λ e. (text e.0, h e.1)) (entries (remove m first))))
-      sorted = both_tests text h _ _
+      sorted = both_tests _ _
           (below_front (entries (remove m first)) (each_entry (λ k y. text_order (text first) (text k) ≡ Less) (remove m first) (λ k y e. front k (ap is_some e))))
           (moved_sorted text h (remove m first) moves)
 

@@ -46,7 +46,7 @@ pub fn adopt(
     // A domain of this owner with the number and the root's id that were next; besides, only serials were drawn.
     ensures domain { OnOk result (get world.new.register.catalogue.nodes path.now
         ≡ Some (new_domain world.old.register.catalogue.next world.old.register.run
-            world.old.register.serial owner.now)) }
+        world.old.register.serial owner.now)) }
     ensures register { OnOk result (world.new.register
         ≡ register_adopted world.old.register path.now owner.now loaded) }
 

@@ -56,7 +56,7 @@ module _ {D : Type 0} (met : Ghosts D) (before : D) (j : Journal D met) (v : Sta
         (settled (with_batch c (run_record v.register ∷ [])) b.begun.settled (inl told_first) b.begun.says))
 
   module _ (tokens : TokenTable) where
-    abbrev first : Served met
+    abbrev pub first : Served met
     first = record { tokens = tokens; world = v; keeping = k }
 
     module _ (final : Served met) (taken : List ℕ) (whole : IsStretch first final taken first final) (c : Content) (b : IsBegunSince met before j v c) where
