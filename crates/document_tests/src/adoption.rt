@@ -37,18 +37,18 @@ fn import(
 }
 
 /// Whether the domain 2 has an object that was made in the run 1.
-fn is_there(world: &World, kind: Kind, serial: u64) -> bool {
+fn is_there(world: &World, kind: Kind, serial: u8) -> bool {
     let id = ObjectId {
         kind,
         domain: 2,
         run: 1,
-        serial,
+        serial: u64::from(serial),
     };
     world.object(&id).is_some()
 }
 
 /// The root, then doc, log and raw, then d and t.
-static MADE: [(Kind, u64); 6] = [
+static MADE: [(Kind, u8); 6] = [
     (Kind::Group, 1),
     (Kind::Group, 2),
     (Kind::Group, 3),

@@ -199,15 +199,21 @@ fn a_world_settles_after_each_failing_call(rt: HostRuntime) -> Result<(), Fail> 
 const ONE: &str =
     r#"alice|/home/lab|PUT|/datasets/d~01/value|{"start":[4],"stop":[5],"value":[300]}|200 {}"#;
 
-#[test]
-fn one_changed_element_is_one_record(rt: HostRuntime) -> Result<(), Fail> {
-    let mut world = opened(&rt);
-    let mut journal = first_journal(&rt, Vec::new(rt.alloc()));
-    try_rows(&rt, &mut world, BEGIN)?;
+/// A world with 10,000 groups, kept in a journal.
+fn many_groups(rt: &(impl Abort + AllocGlobal)) -> Result<(World, Journal<MemDisk>), Fail> {
+    let mut world = opened(rt);
+    let mut journal = first_journal(rt, Vec::new(rt.alloc()));
+    try_rows(rt, &mut world, BEGIN)?;
     let group = "alice|/home/lab|POST|/groups|{}|201 ..\n";
     let groups = group.repeat(rt.alloc(), 9_999)?;
-    try_rows(&rt, &mut world, groups.as_str().trim_end())?;
-    keep(&rt, &mut world, &mut journal);
+    try_rows(rt, &mut world, groups.as_str().trim_end())?;
+    keep(rt, &mut world, &mut journal);
+    Ok((world, journal))
+}
+
+#[test]
+fn one_changed_element_is_one_record(rt: HostRuntime) -> Result<(), Fail> {
+    let (mut world, mut journal) = many_groups(&rt)?;
     let before = journal.report().end;
     try_rows(&rt, &mut world, ONE)?;
     keep(&rt, &mut world, &mut journal);
