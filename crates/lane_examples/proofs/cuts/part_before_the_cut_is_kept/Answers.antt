@@ -1,0 +1,10 @@
+use Rattle.lane_examples.proofs.CutRuns.{late_runs, opened_is}
+use Rattle.lane_examples.specs.Cuts.{after_late, cut_late, opened, start}
+use Rattle.std.proofs.Common.{true}
+use Rattle.lane_examples.proofs.cuts.part_before_the_cut_is_kept.Goals as goal
+
+pub returns-clause-run : goal.returns-clause-run
+returns-clause-run c = late_runs true
+
+pub returns-clause-kept : goal.returns-clause-kept
+returns-clause-kept c = c.events_keep.ensures.images start opened (after_late true) (cut_late true) opened_is (late_runs true)

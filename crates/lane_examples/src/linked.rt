@@ -1,0 +1,22 @@
+//! Objects in two lanes, which are linked from a group and then made.
+
+use lane_histories::{Lanes, ReadyLanes};
+
+/// The objects of each lane, and the next id.
+pub struct LinkedObjects;
+
+impl Lanes for LinkedObjects {
+    ghost use Rattle.lane_examples.specs.Links.{contents, links};
+
+    ghost service = { links };
+
+    ghost contents = { contents };
+}
+
+impl ReadyLanes for LinkedObjects {
+    ghost use Rattle.lane_examples.specs.Links.{links, readiness};
+
+    ghost service = { links };
+
+    ghost readiness = { readiness };
+}

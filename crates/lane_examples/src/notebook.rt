@@ -1,0 +1,42 @@
+//! Notes in two lanes, and one right to write them.
+
+ghost use Rattle.std.specs.Prelude.{◌≡◌, ℕ, List};
+ghost use Rattle.lane_examples.specs.Marks.{MarkedNotes, marking};
+ghost use Rattle.lane_examples.specs.Notes.{Held};
+ghost use Rattle.lane_histories.specs.Since.{CutsMarked, IsSince};
+
+use lane_histories::{Lanes, MarkedLanes, cuts_tell_the_lane};
+
+/// The notes of each lane, and whether more may be written.
+pub struct Notebook;
+
+impl Lanes for Notebook {
+    ghost use Rattle.lane_examples.specs.Notes.{contents, notes};
+
+    ghost service = { notes };
+
+    ghost contents = { contents };
+}
+
+/// The same, whose lanes know whether they changed since their last cut.
+pub struct MarkedNotebook;
+
+impl MarkedLanes for MarkedNotebook {
+    ghost use Rattle.lane_examples.specs.Marks.{marking};
+    ghost use Rattle.lane_examples.specs.Notes.{contents, notes};
+
+    ghost service = { notes };
+
+    ghost contents = { contents };
+
+    ghost marking = { marking };
+}
+
+/// A lane that was since what the journal was told last is told by its next cut as it stands.
+pub fn marked_lane_is_cut()
+    ensures { (l : ℕ) (o : List ℕ) (old new : MarkedNotes) (before after : Held)
+        → IsSince marking l o old → before.written l ≡ o → CutsMarked marking l old new before after
+        → after.written l ≡ old.written }
+{
+    cuts_tell_the_lane::<MarkedNotebook>();
+}

@@ -1,0 +1,16 @@
+pub mod Services
+pub mod Histories
+pub mod TicketOrder
+pub mod Legal
+pub mod Replays
+pub mod Replies
+pub mod PlainReplays
+pub mod Kept
+pub mod Cuts
+pub mod JournalContents
+pub mod KeptContents
+pub mod Desks
+pub mod Core
+pub mod Ready
+pub mod Since
+pub mod Laws
