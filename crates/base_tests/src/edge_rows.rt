@@ -3,8 +3,8 @@
 use crate::tables::{column, number};
 use edge_traits::source_texts::{TextFault, read_text};
 use edge_traits::{
-    Disk, Door, Failed, FileDisk, Link, MemDisk, MemDoor, MemLink, MemSink, MemSource, Sink,
-    Source, StdSink, StdSource, write_all,
+    Disk, Door, FailStop, Failed, FileDisk, Link, MemDisk, MemDoor, MemLink, MemSink, MemSource,
+    Sink, Source, StdSink, StdSource, write_all,
 };
 use std::alloc::{AllocError, Global};
 use std::fs;
@@ -167,6 +167,53 @@ fn a_disk_fails_at_its_numbers_and_stays_as_it_was(rt: HostRuntime) -> Result<()
     assert!(rt; disk.write_at(4, b"e") == Ok(()));
     assert!(rt; disk.sync() == Ok(()));
     assert!(rt; disk.bytes() == b"abcde".as_slice());
+    Ok(())
+}
+
+/// What the calls of a disk do, by letters: `s` syncs, `r` reads, `l` tells the length.
+fn called<D: Disk>(disk: &mut D, call: char) -> bool {
+    let mut buf = [0; 4];
+    match call {
+        's' => disk.sync().is_ok(),
+        'r' => disk.read_at(0, &mut buf).is_ok(),
+        _ => disk.length().is_ok(),
+    }
+}
+
+/// Calls of a disk whose third call fails, with what each does where a failed sync is kept in mind.
+const CALLS: [(char, bool); 9] = [
+    ('s', true),
+    ('l', true),
+    ('s', false),
+    ('s', false),
+    ('r', true),
+    ('s', false),
+    ('l', true),
+    ('s', false),
+    ('s', false),
+];
+
+#[test]
+fn a_disk_whose_sync_failed_syncs_no_more(rt: HostRuntime) -> Result<(), Fail> {
+    let alloc = rt.alloc();
+    let inner = MemDisk::new(alloc, b"abcd".to_vec(alloc)?, 8, [2].to_vec(alloc)?)?;
+    let mut disk = FailStop::new(inner);
+    for (call, done) in CALLS {
+        assert!(rt; called(&mut disk, call) == done, "{call}");
+    }
+    Ok(())
+}
+
+#[test]
+fn a_disk_is_written_and_read_after_its_sync_failed(rt: HostRuntime) -> Result<(), Fail> {
+    let alloc = rt.alloc();
+    let inner = MemDisk::new(alloc, b"abcd".to_vec(alloc)?, 8, [0].to_vec(alloc)?)?;
+    let mut disk = FailStop::new(inner);
+    assert!(rt; disk.sync() == Err(Failed));
+    assert!(rt; disk.write_at(4, b"e") == Ok(()));
+    assert!(rt; disk.sync() == Err(Failed));
+    assert_eq!(rt; read_at(alloc, &mut disk, 2)?.as_str(), "cde");
+    assert!(rt; disk.disk().bytes() == b"abcde".as_slice());
     Ok(())
 }
 

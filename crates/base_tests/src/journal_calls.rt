@@ -41,6 +41,14 @@ pub fn created<D: Disk + Drop>(disk: D, lanes: u32) -> Result<Journal<D>, Why> {
     }
 }
 
+/// A new journal on a disk with a first batch, for at most 16 lanes.
+pub fn created_with<D: Disk + Drop>(disk: D, lanes: u32, batch: Batch) -> Result<Journal<D>, Why> {
+    match Journal::create_with(disk, lanes.clamp(1, 16), batch) {
+        Ok(journal) => Ok(journal),
+        Err(refused) => Err(refused.why),
+    }
+}
+
 /// Appends a batch where none is pending.
 pub fn appended<D: Disk>(journal: &mut Journal<D>, batch: Batch) -> Result<(), Why> {
     if journal.pending() {

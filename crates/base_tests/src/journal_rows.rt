@@ -1,10 +1,10 @@
 //! Journals on disks in memory and over files.
 
 use crate::journal_calls::{
-    appended, batch_of, crashed, created, disk_of, lead, opened, records_of,
+    appended, batch_of, crashed, created, created_with, disk_of, lead, opened, records_of,
 };
 use crate::tables::{column, number, unhex};
-use edge_traits::{FileDisk, MemDisk};
+use edge_traits::{FailStop, FileDisk, MemDisk};
 use flush_journal::{Batch, Report, Why};
 use std::alloc::Global;
 use std::fs;
@@ -93,6 +93,33 @@ fn a_journal_is_made_only_where_none_stands(rt: HostRuntime) -> Result<(), Fail>
     Ok(())
 }
 
+/// A row a line: the room of a disk, its bytes, and what making a journal with a batch of 19 bytes does there.
+const WITH_BATCH: &str = "1000||1 to 35
+36||1 to 35
+35||JournalFull { end: 16, need: 20, room: 35 }
+16||JournalFull { end: 16, need: 20, room: 16 }
+16|687364736a726e31|Exists
+1000|687364736a726e3120616e64206d6f7265|Exists
+1000|487364736a726e3120616e64206d6f7265|1 to 35";
+
+#[test]
+fn a_journal_is_made_with_its_first_batch(rt: HostRuntime) -> Result<(), Fail> {
+    let alloc = rt.alloc();
+    for row in WITH_BATCH.lines() {
+        let bytes = unhex(&rt, column(row, 1));
+        let disk = disk_of(alloc, bytes.as_slice(), number(&rt, column(row, 0)), &[])?;
+        let made = match created_with(disk, 16, batch_of(&rt, "01=07")?) {
+            Ok(journal) => {
+                let report = journal.report();
+                format!(in alloc; "{} to {}", report.batches, report.end)?
+            }
+            Err(why) => format!(in alloc; "{why:?}")?,
+        };
+        assert!(rt; made.as_str() == column(row, 2), "{row} gave {made}");
+    }
+    Ok(())
+}
+
 /// Whether what a crash leaves, whatever it keeps, has the old record or the new one.
 fn has_old_or_new(alloc: Global, disk: &MemDisk, most: u64) -> Result<bool, Fail> {
     for kept in 0..most {
@@ -136,6 +163,24 @@ fn a_settle_after_each_failing_call_holds_the_batch(rt: HostRuntime) -> Result<(
         let disk = lead(&rt, disk_of(alloc, &OLD, 1000, &[call])?, calls)?;
         let left = content_text(alloc, crashed(&disk, 0)?)?;
         assert_eq!(rt; left.as_str(), "58 2: [1]=[0, 0, 0, 5] ", "{call}");
+    }
+    Ok(())
+}
+
+#[test]
+fn nothing_is_kept_after_a_failed_sync(rt: HostRuntime) -> Result<(), Fail> {
+    let alloc = rt.alloc();
+    for call in [FIRST_CALL + 1, FIRST_CALL + 3] {
+        let disk = FailStop::new(disk_of(alloc, &OLD, 1000, &[call])?);
+        let (mut journal, _) = opened(alloc, disk)?;
+        let batch = batch_of(&rt, "01=00000005")?;
+        assert!(rt;
+            appended(&mut journal, batch) == Err(Why::DiskFault),
+            "{call}"
+        );
+        for _ in 0..3u8 {
+            assert!(rt; journal.settle() == Err(Why::DiskFault), "{call}");
+        }
     }
     Ok(())
 }

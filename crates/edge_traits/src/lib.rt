@@ -7,6 +7,7 @@
 
 mod disk;
 mod door;
+mod fail_stop;
 mod failed;
 mod faults;
 mod file_disk;
@@ -25,6 +26,7 @@ mod std_source;
 
 pub use disk::Disk;
 pub use door::Door;
+pub use fail_stop::FailStop;
 pub use failed::Failed;
 pub use faults::FaultCount;
 pub use file_disk::FileDisk;

@@ -59,7 +59,7 @@ payload_of-framed p =
     ap (λ (l : List ℕ). take (length (framed p) - 9) l) (ap (drop 8) (append_assoc (eight_bytes (length p)) p (0 ∷ [])) ∙ drop_at (eight_bytes (length p)) (p ++ 0 ∷ []) 8 (length-eight_bytes (length p)))
     ∙ take_at p (0 ∷ []) (length (framed p) - 9) (omega (arith, length-framed p))
 
-framed_records-framed : (p : List ℕ) → framed_records (framed p) ≡ unwrap_or (records_of p) []
+pub framed_records-framed : (p : List ℕ) → framed_records (framed p) ≡ unwrap_or (records_of p) []
 unfolding framed_records
 framed_records-framed p = ap (λ (l : List ℕ). unwrap_or (records_of l) []) (payload_of-framed p)
 

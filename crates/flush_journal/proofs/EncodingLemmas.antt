@@ -19,7 +19,7 @@ pub bytes_each : (bytes : List ℕ) → AreBytes bytes → Bytes bytes
 bytes_each [] h = tt
 bytes_each (b ∷ bytes) h = (h 0, bytes_each bytes (λ i. h (suc i)))
 
-bytes_at : (bytes : List ℕ) → Bytes bytes → (i : ℕ) → get_or bytes i 0 < 256
+pub bytes_at : (bytes : List ℕ) → Bytes bytes → (i : ℕ) → get_or bytes i 0 < 256
 bytes_at [] h i = omega arith
 bytes_at (b ∷ bytes) h zero = h.0
 bytes_at (b ∷ bytes) h (suc i) = bytes_at bytes h.1 i

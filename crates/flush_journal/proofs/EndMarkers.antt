@@ -9,7 +9,7 @@ use Rattle.flush_journal.specs.Markers.{HasClosedMarker, HasOpenMarker, Either, 
 pub seam : (front : List ℕ) (marker : ℕ) (tail : List ℕ) (end : ℕ) → length front ≡ end → slice_index (front ++ marker ∷ tail) end ≡ marker
 seam front marker tail end place = ap (λ (n : ℕ). get_or (front ++ marker ∷ tail) n 0) (sym place) ∙ get_or-append_seam front marker tail 0
 
--- where no frame stands the marker is shut
+-- where no frame stands the marker is closed
 pub shut_of_stands : (end : ℕ) (bytes : List ℕ) → MarkerStands end 0 bytes → (length (take end bytes) ≡ end) × HasClosedMarker (take end bytes) bytes
 shut_of_stands end bytes stands = (
   length-take-le end bytes (omega (arith, stands.inside)),
@@ -74,14 +74,14 @@ pub moved_of_stands : (end size : ℕ) (bytes : List ℕ) → MarkerStands end s
 moved_of_stands end size bytes stands is_open =
     let whole = stands.whole is_open in record { inside = whole.1; whole = λ again. absurd (whole.2 again) }
 
--- a shut marker with no frame behind it
+-- a closed marker with no frame behind it
 pub shut_stands : (end size : ℕ) (bytes : List ℕ) → MarkerStands end size bytes → slice_index bytes end ≢ 1 → MarkerStands end 0 bytes
 shut_stands end size bytes stands shut = record { inside = stands.inside; whole = λ is_open. absurd (shut is_open) }
 
 pub shut_long : (front bytes : List ℕ) (end : ℕ) → length front ≡ end → HasClosedMarker front bytes → end < length bytes
 shut_long front bytes end place shut = omega (arith, place, ap length shut.3, length-append front (shut.0 ∷ shut.1))
 
--- after a sync and a look at the marker, which was found shut
+-- after a sync and a look at the marker, which was found closed
 pub found_shut : (front frame r0 r1 r2 : List ℕ) (i1 i2 : List ℕ → Type 0) (end : ℕ) → length front ≡ end → Either front frame r0 → r1 ≡ r0 → r2 ≡ r1
     → Only r0 i1 → LeavesNoMore i1 i2 → slice_index r1 end ≢ 1 → OnlyHas (HasClosedMarker front) r2 i2
 found_shut front frame r0 r1 r2 i1 i2 end place either e1 e2 only fewer shut = record {

@@ -14,11 +14,14 @@ pub mod NumberLemmas
 pub mod PayloadLemmas
 pub mod ReadLemmas
 pub mod NewLemmas
+pub mod FirstLemmas
 pub mod EncodingLemmas
 pub mod HeaderLemmas
+pub mod BatchFronts
 pub mod BlockLemmas
 pub mod LayoutLemmas
 pub mod KeptLemmas
 pub mod PutLemmas
+pub mod ByteLemmas
 pub mod OfCuts
 pub mod OfKeepings

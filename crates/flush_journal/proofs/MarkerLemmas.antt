@@ -19,7 +19,7 @@ module _ (front : List ℕ) (end : ℕ) (place : length front ≡ end) where
   behind_marker : (marker : ℕ) (tail : List ℕ) → drop (end + 1) (front ++ marker ∷ tail) ≡ tail
   behind_marker marker tail = ap (drop (end + 1)) (marker_split front marker tail) ∙ drop_at (front ++ marker ∷ []) tail (end + 1) (omega (arith, front_size front marker, place))
 
-  -- a write behind the marker that was torn leaves the marker shut
+  -- a write behind the marker that was torn leaves the marker closed
   pub torn_behind : (n : ℕ) (old new : List ℕ) → HasClosedMarker front old → Torn (end + 1) n old new → HasClosedMarker front new
   torn_behind n old new shut torn =
       let same : take (end + 1) new ≡ front ++ shut.0 ∷ [] = torn.before ∙ ap (take (end + 1)) shut.3 ∙ front_and_marker shut.0 shut.1 in (
@@ -40,11 +40,11 @@ module _ (front : List ℕ) (end : ℕ) (place : length front ≡ end) where
             ∙ append_assoc (front ++ shut.0 ∷ []) frame rest ∙ sym (marker_split front shut.0 (frame ++ rest)),
       )
 
-  -- a laid frame's marker is shut
+  -- a laid frame's marker is closed
   pub laid_shut : (frame bytes : List ℕ) → IsLaid front frame bytes → HasClosedMarker front bytes
   laid_shut frame bytes laid = (laid.0, frame ++ laid.1, laid.2, laid.3)
 
-  -- a write of the marker that was torn leaves it open or shut
+  -- a write of the marker that was torn leaves it open or closed
   pub torn_marker : (frame old new : List ℕ) → IsLaid front frame old → Torn end 1 old new → Either front frame new
   torn_marker frame old new laid torn =
       let long : length old ≡ end + 1 + length (frame ++ laid.1) = ap length laid.3 ∙ length-append front (laid.0 ∷ (frame ++ laid.1)) ∙ omega (arith, place) in

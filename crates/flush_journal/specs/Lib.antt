@@ -10,6 +10,7 @@ pub mod Records
 pub mod Refusals
 pub mod Standing
 pub mod Tries
+pub mod Firsts
 pub mod Unchanged
 pub mod Readers
 pub use Rattle.edge_traits.specs.Disks

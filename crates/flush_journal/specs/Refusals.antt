@@ -2,6 +2,8 @@
 use Rattle.std.specs.Prelude.{◌≡◌, ◌≢◌, ℕ, ◌+◌, ◌<◌, List, [], ◌∷◌, ◌++◌, take, Result, Ok, Err}
 use Rattle.edge_traits.specs.Causes.{Rose}
 use Rattle.flush_journal.specs.Files.{magic}
+use Rattle.flush_journal.specs.Frames.{frame_size}
+use Rattle.flush_journal.specs.Records.{Record}
 use Rattle.flush_journal.specs.declared.why.Why.{Why}
 use Rattle.flush_journal.specs.declared.why.Why.TheVariants.{DiskFault, NotAJournal, JournalFull, Exists, NoMemory}
 
@@ -23,14 +25,22 @@ IsWriteAnswer end need room before now (Err why) = MayRefuse end need room befor
 abbrev pub NoMagic : Type 0 → List ℕ → Type 0
 NoMagic told file = told → take 8 file ≢ magic
 
--- Making a journal may be refused so: where one stands, else where there is no room for the header and a marker, and by a fault only
--- where the count rose.
+-- Making a journal may be refused so: where one stands, else where there is no room for so many bytes behind a place, with these
+-- numbers, and by a fault only where the count rose.
+abbrev pub MayRefuseNew : (end need : ℕ) → Type 0 → List ℕ → (room before now : ℕ) → Why → Type 0
+MayRefuseNew end need told file room before now DiskFault = Rose before now
+MayRefuseNew end need told file room before now Exists = told → take 8 file ≡ magic
+MayRefuseNew end need told file room before now (JournalFull e n r) = (e ≡ end) × (n ≡ need) × (r ≡ room) × (room < end + need) × NoMagic told file
+MayRefuseNew end need told file room before now (NotAJournal at) = ⊥
+MayRefuseNew end need told file room before now NoMemory = ⊥
+
+-- without a batch: the header and the marker behind it
 abbrev pub MayRefuseCreate : Type 0 → List ℕ → (room before now : ℕ) → Why → Type 0
-MayRefuseCreate told file room before now DiskFault = Rose before now
-MayRefuseCreate told file room before now Exists = told → take 8 file ≡ magic
-MayRefuseCreate told file room before now (JournalFull e n r) = (e ≡ 0) × (n ≡ 17) × (r ≡ room) × (room < 17) × NoMagic told file
-MayRefuseCreate told file room before now (NotAJournal at) = ⊥
-MayRefuseCreate told file room before now NoMemory = ⊥
+MayRefuseCreate = MayRefuseNew 0 17
+
+-- with a first batch: the batch and the marker before it, behind the header
+abbrev pub MayRefuseFirst : List Record → Type 0 → List ℕ → (room before now : ℕ) → Why → Type 0
+MayRefuseFirst rs = MayRefuseNew 16 (1 + frame_size rs)
 
 -- a new journal's bytes
 abbrev pub new_file : ℕ → List ℕ

@@ -1,8 +1,8 @@
 // Records that are to be written in one piece.
-ghost use Rattle.std.specs.Prelude.{◌≡◌, ℕ, ◌+◌, ◌-◌, ◌^◌, ◌<◌, ◌≤◌, ◌↔◌, [], ◌∷◌, ◌++◌, length, drop, max};
-ghost use Rattle.std.specs.Prelude.{vec_len, vec_capacity, IsTrue, IsOk, OnOk, OnErr, Some};
-ghost use Rattle.flush_journal.specs.Frames.{frame_of, framed, framed_records, payload_of, record_size};
-ghost use Rattle.flush_journal.specs.Records.{Record, encoded, encoded_all, records_of};
+ghost use Rattle.std.specs.Prelude.{◌≡◌, ℕ, ◌+◌, ◌-◌, ◌^◌, ◌<◌, ◌≤◌, ◌↔◌, List, [], ◌∷◌, ◌++◌, length, take, drop, max};
+ghost use Rattle.std.specs.Prelude.{vec_len, vec_capacity, IsTrue, IsOk, OnOk, OnErr, Some, All};
+ghost use Rattle.flush_journal.specs.Frames.{frame_of, frame_size, framed, framed_records, payload_of, record_size, HasFront};
+ghost use Rattle.flush_journal.specs.Records.{Record, IsRecord, encoded, encoded_all, records_of};
 
 use std::alloc::{AllocError, Global};
 
@@ -18,6 +18,7 @@ const BESIDE: usize = FRONT + 1;
 pub struct Batch {
     frame: Vec<u8>,
     ghost whole: { frame.items ≡ frame_of (framed_records frame.items) },
+    ghost sound: { All IsRecord (framed_records frame.items) },
 }
 
 impl Batch {
@@ -71,6 +72,29 @@ impl Batch {
         Ok(())
     }
 
+    /// How many bytes the batch takes, with its length in front and its marker behind; 0 where it has no record. It
+    /// takes no memory.
+    pub fn size(&self) -> usize
+        ensures { result ≡ frame_size (records self.now) }
+    {
+        self.frame.len()
+    }
+
+    /// Takes the last records off again, so that the batch has the size that it had before they were pushed. It takes
+    /// no memory, and no room is lost.
+    pub fn truncate(&mut self, size: usize)
+        requires { HasFront (records self.old) size }
+        ensures front { (front back : List Record) → records self.old ≡ front ++ back
+            → size ≡ frame_size front → records self.new ≡ front }
+        ensures keeps { spare self.old ≤ spare self.new }
+    {
+        if size < BESIDE {
+            self.frame.clear();
+        } else {
+            cut_frame(&mut self.frame, size);
+        }
+    }
+
     /// The bytes as they are written.
     pub(crate) fn frame(&self) -> &[u8]
         ensures bytes { result.now ≡ frame_of (records self.now) }
@@ -90,6 +114,13 @@ pub fn record_size(key_length: usize, body_length: usize) -> usize
 {
     8 + key_length + body_length
 }
+
+/// A batch may be handed to another thread.
+pub fn batch_is_sent(batch: &Batch) {
+    is_sent(batch);
+}
+
+fn is_sent<T: Send>(_value: &T) {}
 
 // Takes room in a frame for so many more bytes of payload.
 fn reserve_frame(frame: &mut Vec<u8>, bytes: usize) -> Result<(), AllocError>
@@ -151,6 +182,18 @@ fn set_front(bytes: &mut [u8], front: [u8; 8])
     ensures { bytes.new ≡ front ++ drop 8 bytes.old }
 {
     bytes[..FRONT].copy_from_slice(&front);
+}
+
+// Keeps the front of a payload, so that the frame has this size.
+fn cut_frame(frame: &mut Vec<u8>, size: usize)
+    requires some { 9 ≤ size }
+    requires inside { size ≤ length frame.old.items }
+    ensures items { frame.new.items ≡ framed (take (size - 9) (drop 8 frame.old.items)) }
+    ensures len { vec_len frame.new ≡ size }
+    ensures capacity { vec_capacity frame.new ≡ vec_capacity frame.old }
+{
+    frame.truncate(size - 1);
+    close_frame(frame);
 }
 
 // Adds a record to a frame where there is room.

@@ -9,9 +9,10 @@ ghost use Rattle.flush_journal.specs.Reports.{IsVersion1};
 ghost use Rattle.flush_journal.specs.Unchanged.{SameBytes, SameDisk, TornFront};
 ghost use Rattle.flush_journal.specs.Records.{Record};
 ghost use Rattle.flush_journal.specs.Reading.{MayRefuseReading};
-ghost use Rattle.flush_journal.specs.Refusals.{NoMagic, MayRefuseCreate};
+ghost use Rattle.flush_journal.specs.Refusals.{NoMagic, MayRefuseCreate, MayRefuseFirst, MayRefuseNew};
+ghost use Rattle.flush_journal.specs.Frames.{frame_size};
 
-use crate::create::write_new;
+use crate::create::{NEW_SIZE, write_new};
 use crate::header::{HEADER_SIZE, VERSION};
 use crate::markers::{write_again, write_frame};
 use crate::read::read_journal;
@@ -46,7 +47,8 @@ fn check_room(end: u64, size: u64, room: u64) -> Result<(), Why>
 }
 
 impl<D: Disk> Journal<D> {
-    ghost use Rattle.flush_journal.specs.Standing.{disk_of, numbers_of, pending_of, Numbers, IsSettled, IsOwed};
+    ghost use Rattle.flush_journal.specs.Standing.{disk_of, numbers_of, pending_of, with_batch, Numbers, IsSettled, IsOwed};
+    ghost use Rattle.flush_journal.specs.Firsts.{MakesFirst};
     ghost use Rattle.flush_journal.specs.Tries.{Tries, Writes};
 
     /// Makes a journal for so many lanes, without a batch, on a disk. After `Ok` whatever a crash leaves is it; a crash
@@ -57,7 +59,7 @@ impl<D: Disk> Journal<D> {
     /// `Exists` where the disk begins with a journal's first bytes, else `JournalFull` where there is no room for a
     /// header and a marker; `DiskFault` where the disk had a fault. All but the last leave the disk as it was, and where
     /// it begins with a journal's first bytes each does. Never more than the first 17 bytes are touched.
-    pub fn create(mut disk: D, lanes: u32) -> Result<Journal<D>, JournalRefused<D>>
+    pub fn create(disk: D, lanes: u32) -> Result<Journal<D>, JournalRefused<D>>
         requires some { 1 ≤ lanes }
         requires few { lanes ≤ 16 }
         ensures settled { D.honest → IfOk result (λ j. IsSettled j (fresh lanes)) }
@@ -76,7 +78,77 @@ impl<D: Disk> Journal<D> {
         ensures why { IfErr result (λ r. MayRefuseCreate D.honest (D.reads disk) (D.most disk)
             (D.faults disk) (D.faults r.disk) r.why) }
     {
-        match write_new(&mut disk, lanes) {
+        Journal::create_for(disk, lanes, 0, NEW_SIZE)
+    }
+
+    /// Makes a journal for so many lanes with a first batch, on a disk. After `Ok` whatever a crash leaves is it.
+    ///
+    /// # Errors
+    ///
+    /// Those of `create`, but `JournalFull` where there is no room for the header and the whole batch with its markers,
+    /// told as for an append behind the header. All but `DiskFault` leave the disk as it was, and where it begins with a
+    /// journal's first bytes each does. Behind a fault the first 17 bytes may be torn, or a journal stands without a
+    /// batch or with this one; a crash leaves no more.
+    pub fn create_with(disk: D, lanes: u32, batch: Batch) -> Result<Journal<D>, JournalRefused<D>>
+        requires some { 1 ≤ lanes }
+        requires few { lanes ≤ 16 }
+        ensures settled { D.honest → IfOk result (λ j.
+            IsSettled j (with_batch (fresh lanes) (records batch))) }
+        ensures numbers { IfOk result (λ j. Numbers j (with_batch (fresh lanes) (records batch))) }
+        ensures idle { IfOk result (λ j. pending_of j ≡ None) }
+        ensures room { OnOk result (17 + frame_size (records batch) ≤ D.most disk) }
+        ensures none { OnOk result (NoMagic D.honest (D.reads disk)) }
+        ensures same { MatchResult result (λ j. SameDisk D.Disk disk (disk_of j))
+            (λ r. SameDisk D.Disk disk r.disk) }
+        ensures refused { D.honest → IfErr result (λ r. r.why ≢ Why.DiskFault
+            → SameBytes D.Disk disk r.disk) }
+        ensures found { D.honest → take 8 (D.reads disk) ≡ magic
+            → IfErr result (λ r. SameBytes D.Disk disk r.disk) }
+        ensures moments { D.honest → MatchResult result
+            (λ j. MakesFirst D.Disk lanes (records batch) disk (disk_of j))
+            (λ r. MakesFirst D.Disk lanes (records batch) disk r.disk) }
+        ensures why { IfErr result (λ r. MayRefuseFirst (records batch) D.honest (D.reads disk)
+            (D.most disk) (D.faults disk) (D.faults r.disk) r.why) }
+    {
+        let need = batch.frame().len() as u64 + 1;
+        let mut journal = Journal::create_for(disk, lanes, HEADER_SIZE, need)?;
+        match journal.append(batch) {
+            Ok(()) => Ok(journal),
+            Err(why) => Err(JournalRefused {
+                disk: journal.into_disk(),
+                why,
+            }),
+        }
+    }
+
+    // Makes a journal without a batch, where so many bytes fit behind a place.
+    fn create_for(
+        mut disk: D,
+        lanes: u32,
+        end: u64,
+        need: u64,
+    ) -> Result<Journal<D>, JournalRefused<D>>
+        requires some { 1 ≤ lanes }
+        requires few { lanes ≤ 16 }
+        requires header { 17 ≤ end + need }
+        requires small { end + need < 2 ^ 64 }
+        ensures settled { D.honest → IfOk result (λ j. IsSettled j (fresh lanes)) }
+        ensures numbers { IfOk result (λ j. Numbers j (fresh lanes)) }
+        ensures idle { IfOk result (λ j. pending_of j ≡ None) }
+        ensures room { OnOk result (end + need ≤ D.most disk) }
+        ensures none { OnOk result (NoMagic D.honest (D.reads disk)) }
+        ensures same { MatchResult result (λ j. SameDisk D.Disk disk (disk_of j))
+            (λ r. SameDisk D.Disk disk r.disk) }
+        ensures refused { D.honest → IfErr result (λ r. r.why ≢ Why.DiskFault
+            → SameBytes D.Disk disk r.disk) }
+        ensures found { D.honest → take 8 (D.reads disk) ≡ magic
+            → IfErr result (λ r. SameBytes D.Disk disk r.disk) }
+        ensures front { D.honest → MatchResult result (λ j. TornFront D.Disk 17 disk (disk_of j))
+            (λ r. TornFront D.Disk 17 disk r.disk) }
+        ensures why { IfErr result (λ r. MayRefuseNew end need D.honest (D.reads disk)
+            (D.most disk) (D.faults disk) (D.faults r.disk) r.why) }
+    {
+        match write_new(&mut disk, lanes, end, need) {
             Ok(()) => Ok(Journal {
                 disk,
                 numbers: Report {
@@ -199,6 +271,8 @@ impl<D: Disk> Journal<D> {
             → Tries self.old self.new rs result }
         ensures idle { pending_of self.old ≡ None → result ≡ Ok tt }
         ensures untouched { pending_of self.old ≡ None → self.new ≡ self.old }
+        ensures settled { OnOk result (pending_of self.new ≡ None) }
+        ensures stays { OnErr result (pending_of self.new ≡ pending_of self.old) }
         ensures same { SameDisk D.Disk (disk_of self.old) (disk_of self.new) }
     {
         let Some(batch) = &self.pending else {

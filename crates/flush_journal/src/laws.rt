@@ -1,10 +1,13 @@
 // What bytes mean, in other words than the reading of them.
-ghost use Rattle.std.specs.Prelude.{◌≡◌, ◌≢◌, ◌↔◌, ℕ, List, ◌∷◌, ◌++◌, Some, Ok, Err, All};
+ghost use Rattle.std.specs.Prelude.{◌≡◌, ◌≢◌, ◌↔◌, ◌⊎◌, ◌<◌, ℕ, List, ◌∷◌, ◌++◌, length, take, Some, Ok, Err, All};
 ghost use Rattle.std.specs.FinMap as map;
 ghost use Rattle.flush_journal.specs.Records.{Record, IsRecord, AreBytes, Held, kept_body, records_of, encoded_all, put_all};
-ghost use Rattle.flush_journal.specs.Files.{Content, content};
+ghost use Rattle.flush_journal.specs.Files.{Content, content, magic};
+ghost use Rattle.flush_journal.specs.Moments.{CrashLeaves};
 ghost use Rattle.flush_journal.specs.Standing.{with_batch, HasEither, HoldsEither};
 ghost use Rattle.flush_journal.specs.Blocks.{IsJournal, IsFault};
+
+use edge_traits::Disk;
 
 /// A payload is some records exactly where it is their encoding, and a payload can have each of them.
 pub fn payload_is_encoding()
@@ -22,6 +25,25 @@ pub fn journal_or_fault()
     ensures read { (bytes : List ℕ) (c : Content) → IsJournal bytes c → content bytes ≡ Ok c }
     ensures fault { (bytes : List ℕ) (at : ℕ) → AreBytes bytes
         → ((content bytes ≡ Err at) ↔ IsFault bytes at) }
+{}
+
+/// A journal's file begins with the magic, its end lies inside, and where the file is bytes each key and body that it
+/// holds is.
+pub fn content_lies_inside()
+    ensures magic { (bytes : List ℕ) (c : Content) → content bytes ≡ Ok c → take 8 bytes ≡ magic }
+    ensures end { (bytes : List ℕ) (c : Content) → content bytes ≡ Ok c → c.end < length bytes }
+    ensures bytes { (bytes : List ℕ) (c : Content) (key body : List ℕ) → AreBytes bytes
+        → content bytes ≡ Ok c → map.get c.held key ≡ Some body
+        → AreBytes key × AreBytes body }
+{}
+
+/// Where each moment of a run of calls leaves the one content or the other, and each of a run that goes on from there
+/// the other or a third, each moment of both leaves one of the three.
+pub fn runs_join<D: Disk>()
+    ensures { (before between after : D) (a b c : Content)
+        → CrashLeaves D.Disk before between (HasEither a b)
+        → CrashLeaves D.Disk between after (HasEither b c)
+        → CrashLeaves D.Disk before after (λ file. HasEither a b file ⊎ HasEither b c file) }
 {}
 
 /// Of records that are put into a map, in order, the last of a key says what stands there: its body, or nothing

@@ -18,9 +18,12 @@ mod recovered;
 mod report;
 mod why;
 
-pub use batch::{Batch, record_size};
+pub use batch::{Batch, batch_is_sent, record_size};
 pub use journal::Journal;
-pub use laws::{content_tells_map, journal_or_fault, last_record_wins, payload_is_encoding};
+pub use laws::{
+    content_lies_inside, content_tells_map, journal_or_fault, last_record_wins,
+    payload_is_encoding, runs_join,
+};
 pub use recovered::{Body, Recovered};
 pub use report::Report;
 pub use why::{JournalRefused, Why};

@@ -1,7 +1,6 @@
 -- How a keeping goes on.
-use Rattle.std.proofs.Common.{◌≡◌, ◌≢◌, inl, inr, ℕ, ◌+◌, ◌<◌, ◌≤◌, List, [], ◌∷◌, Option, Some, None, Result, Ok, Err, OnOk, OnErr, IfErr, refl, sym, ap, subst, ◌∙◌, arith}
+use Rattle.std.proofs.Common.{◌≡◌, ◌≢◌, inl, inr, ℕ, ◌+◌, ◌<◌, List, [], ◌∷◌, Option, Some, None, Result, Ok, Err, OnOk, OnErr, IfErr, refl, sym, ap, subst, ◌∙◌, arith}
 use Rattle.edge_traits.specs.declared.disk.Disk.{Ghosts}
-use Rattle.edge_traits.specs.Causes.{Rose}
 use Rattle.edge_traits.proofs.CauseLemmas.{rose_since}
 use Rattle.flush_journal.specs.Files.{Content, content}
 use Rattle.flush_journal.specs.Frames.{need_of}

@@ -1,10 +1,8 @@
-use Rattle.std.proofs.Common.{ap, sym, ◌∙◌}
-use Rattle.flush_journal.specs.Frames.{framed_records, frame_of}
-use Rattle.flush_journal.proofs.BatchLemmas.{no_records}
+use Rattle.flush_journal.proofs.BatchFronts.{nothing_kept}
 use Rattle.flush_journal.proofs.batch.Batch.new.Goals as goal
 
 pub invariant_of-result : goal.invariant_of-result
-invariant_of-result c = record { whole = c.new.ensures.items ∙ ap frame_of (sym (ap framed_records c.new.ensures.items ∙ no_records)) }
+invariant_of-result c = let kept = nothing_kept _ c.new.ensures.items in record { whole = kept.whole; sound = kept.sound }
 
 pub returns : goal.returns
-returns c = ap framed_records c.new.ensures.items ∙ no_records
+returns c = (nothing_kept _ c.new.ensures.items).records

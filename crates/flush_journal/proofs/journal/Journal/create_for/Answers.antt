@@ -1,7 +1,7 @@
 use Rattle.std.proofs.Common.{refl, ◌∙◌, ap}
 use Rattle.flush_journal.specs.Files.{content}
 use Rattle.flush_journal.proofs.NewLemmas.{new_content}
-use Rattle.flush_journal.proofs.journal.Journal.create.Goals as goal
+use Rattle.flush_journal.proofs.journal.Journal.create_for.Goals as goal
 
 pub returns-in-Ok-clause-settled : goal.returns-in-Ok-clause-settled
 returns-in-Ok-clause-settled g c = λ h. record {
