@@ -33,10 +33,8 @@ pub fn decide(list: &AccessList, caller: &Caller, right: Right) -> bool
 fn own_gives(list: &AccessList, user: &Option<Name>, right: Right) -> Option<bool>
     ensures { result ≡ option_map (holds right) (own_entry list.now user.now) }
 {
-    match user {
-        Some(name) => entry_gives(list.get(name), right),
-        None => None,
-    }
+    let name = user.as_ref()?;
+    entry_gives(list.get(name), right)
 }
 
 // Whether one of the groups' entries has the right.
@@ -74,8 +72,6 @@ fn default_gives(list: &AccessList, right: Right) -> bool
 fn entry_gives(entry: Option<Rights>, right: Right) -> Option<bool>
     ensures { result ≡ option_map (holds right) entry }
 {
-    match entry {
-        Some(rights) => Some(rights.holds(right)),
-        None => None,
-    }
+    let rights = entry?;
+    Some(rights.holds(right))
 }

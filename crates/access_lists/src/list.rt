@@ -145,10 +145,7 @@ impl AccessList {
     pub(crate) fn entry(&self, text: &str) -> Option<Rights>
         ensures { result ≡ map.get self.now text.now }
     {
-        match self.entries.get(text) {
-            Some(rights) => Some(*rights),
-            None => None,
-        }
+        self.entries.get(text).copied()
     }
 
     // The names with their entries, in the order of the names' bytes.

@@ -76,9 +76,7 @@ impl TokenTable {
     fn shown(&self, value: &[u8]) -> Option<&Caller>
         ensures { option_copied result ≡ option_and_then (map.get self.now) (bearer_token value.now) }
     {
-        match bearer_token(value) {
-            Some(token) => self.caller(token),
-            None => None,
-        }
+        let token = bearer_token(value)?;
+        self.caller(token)
     }
 }
