@@ -2,10 +2,11 @@
 use Rattle.std.proofs.Common.{◌≡◌, ℕ, Bool, true, false, cond, List, Option, Some, None, IsSome, refl, sym, ap, subst, ◌∙◌, ◌⊎◌, inl, inr}
 use Rattle.std.specs.List.{AllByRecursion}
 use Rattle.shapes.specs.Shapes.{LiesIn}
+use Rattle.chunk_store.specs.Buffers.{IsNoted}
 use Rattle.chunk_store.specs.Cells.{put}
 use Rattle.chunk_store.specs.Grids.{Grid, IsWhole}
 use Rattle.chunk_store.specs.Indexes.{IsIndex}
-use Rattle.chunk_store.specs.Marks.{Stored, AreIndexes, state, in_grid, touches, IsNoted, MarksBegun, MarksWritten, MarksResized, after_resize, cleared}
+use Rattle.chunk_store.specs.Marks.{Stored, AreIndexes, state, in_grid, touches, MarksWritten, MarksResized, after_resize, cleared}
 use Rattle.chunk_store.proofs.KeyLemmas.{put_cases}
 use Rattle.chunk_store.proofs.ChunkLemmas.{index_here}
 use Rattle.chunk_store.proofs.TrackLemmas.{touched_grid}
@@ -26,8 +27,8 @@ noted_from h i touched o p inside noted there = elim noted [
   | inr new ↦ inr (inside new.1)
 ]
 
-pub indexes_begun : (s t : Stored) (ats : List (List ℕ)) → t.grid.chunk ≡ s.grid.chunk → IsWhole s.grid → AllByRecursion (λ at. LiesIn at s.grid.shape) ats → MarksBegun s ats t → AreIndexes s → AreIndexes t
-indexes_begun s t ats same w each marks =
+pub indexes_noted : (s t : Stored) (ats : List (List ℕ)) → t.grid.chunk ≡ s.grid.chunk → IsWhole s.grid → AllByRecursion (λ at. LiesIn at s.grid.shape) ats → ((i : List ℕ) → IsNoted (touches s.grid.chunk ats i) (state s i) (state t i)) → AreIndexes s → AreIndexes t
+indexes_noted s t ats same w each marks =
     indexes_from s t same (λ i. noted_from s.grid i (touches s.grid.chunk ats i) (state s i) (state t i) (λ t. index_here s.grid i w (touched_grid s.grid ats i w each t)) (marks i))
 
 written_from : (h : Grid) (i : List ℕ) (touched : Bool) (o : Option Bool) → (touched ≡ true → IsIndex h.chunk i) → IsFrom h i o (cond touched (Some true) o)

@@ -13,6 +13,8 @@ mod MarkLemmas
 mod ArrayLemmas
 mod ValueLemmas
 pub mod BufferLemmas
+mod GrowthLemmas
+mod ChangeLemmas
 pub mod TouchLemmas
 mod ChunkBoxLemmas
 pub mod SlabLemmas
@@ -21,9 +23,11 @@ mod TurnLemmas
 mod StretchLemmas
 mod PlaceWalkLemmas
 mod PointLemmas
+mod AdditionLemmas
 mod AccessLemmas
 mod EntryLemmas
 mod TruncationLemmas
+mod ChunkRowLemmas
 mod PartLemmas
 pub mod BoxCopies
 pub mod StridedCopies

@@ -22,9 +22,10 @@ use Rattle.chunk_layout.specs.Chunks.{quotients}
 use Rattle.chunk_store.specs.Cells.{put}
 use Rattle.shapes.specs.declared.Shape.{Shape}
 use Rattle.std.specs.declared.alloc.AllocError.{AllocError}
-use Rattle.chunk_store.specs.Buffers.{flags_of, has_cell, when_cleared}
+use Rattle.chunk_store.specs.Buffers.{IsNoted, has_cell, when_cleared}
+use Rattle.chunk_store.specs.Changes.{marked}
 use Rattle.chunk_store.specs.declared.buffers.Held.{Held}
-use Rattle.chunk_store.specs.Marks.{IsNoted, is_after, is_later, touches, keeps, keeps_axis}
+use Rattle.chunk_store.specs.Marks.{is_after, is_later, touches, keeps, keeps_axis}
 use Rattle.chunk_store.proofs.KeyLemmas.{put_cases}
 use Rattle.chunk_store.proofs.NextLemmas.{less_apart, same_order}
 
@@ -203,11 +204,11 @@ least_axes least k h = elim (cases_lt (length k) (length least)) [
   | inr high ↦ high
 ]
 
-module _ (test : Option Bool → Bool) (after : Option (List ℕ)) (start : Bound (List ℕ)) where
-  abbrev later : List (List ℕ × Held) → List (List ℕ × Bool)
-  later es = filter (is_later test after) (flags_of es)
+module _ {X : Type 0} (flag : List ℕ × X → Bool) (test : Option Bool → Bool) (after : Option (List ℕ)) (start : Bound (List ℕ)) where
+  abbrev later : List (List ℕ × X) → List (List ℕ × Bool)
+  later es = filter (is_later test after) (marked flag es)
 
-  abbrev from_start : List (List ℕ × Held) → List (List ℕ × Held)
+  abbrev from_start : List (List ℕ × X) → List (List ℕ × X)
   from_start es = entries_between list_order start Unbounded es
 
   not_later : (a t q : Bool) → (a ≡ true → q ≡ true) → q ≡ false → (t && a) ≡ false
@@ -215,24 +216,24 @@ module _ (test : Option Bool → Bool) (after : Option (List ℕ)) (start : Boun
   not_later false true q h off = refl
   not_later false false q h off = refl
 
-  pub later_kept : (es : List (List ℕ × Held)) → All (λ k. is_after after k ≡ true → range_contains list_order start Unbounded k ≡ true) (keys_of es) → later (from_start es) ≡ later es
+  pub later_kept : (es : List (List ℕ × X)) → All (λ k. is_after after k ≡ true → range_contains list_order start Unbounded k ≡ true) (keys_of es) → later (from_start es) ≡ later es
   later_kept [] low = refl
   later_kept (e ∷ es) low =
-      let flag : List ℕ × Bool = (e.0, e.1.dirty) in
+      let mark : List ℕ × Bool = (e.0, flag e) in
       let rest = later_kept es (All-tail (λ k. is_after after k ≡ true → range_contains list_order start Unbounded k ≡ true) e.0 (keys_of es) low) in
       elim (cases_Bool (range_contains list_order start Unbounded e.0)) [
         | inl on ↦
             ap (λ b. later (cond b (e ∷ from_start es) (from_start es))) on
-            ∙ ap (λ xs. cond (is_later test after flag) (flag ∷ xs) xs) rest
+            ∙ ap (λ xs. cond (is_later test after mark) (mark ∷ xs) xs) rest
         | inr off ↦
-            let gone = not_later (is_after after e.0) (test (Some e.1.dirty)) (range_contains list_order start Unbounded e.0) (All-head (λ k. is_after after k ≡ true → range_contains list_order start Unbounded k ≡ true) e.0 (keys_of es) low) off in
-            ap (λ b. later (cond b (e ∷ from_start es) (from_start es))) off ∙ rest ∙ sym (ap (λ b. cond b (flag ∷ later es) (later es)) gone)
+            let gone = not_later (is_after after e.0) (test (Some (flag e))) (range_contains list_order start Unbounded e.0) (All-head (λ k. is_after after k ≡ true → range_contains list_order start Unbounded k ≡ true) e.0 (keys_of es) low) off in
+            ap (λ b. later (cond b (e ∷ from_start es) (from_start es))) off ∙ rest ∙ sym (ap (λ b. cond b (mark ∷ later es) (later es)) gone)
       ]
 
-pub later_behind : (test : Option Bool → Bool) (a least : List ℕ) (es : List (List ℕ × Held)) → length a ≤ length least → All (λ k. is_gt (list_order least k) ≡ false) (keys_of es)
-    → filter (is_later test (Some a)) (flags_of (entries_between list_order (Excluded a) Unbounded es)) ≡ filter (is_later test (Some a)) (flags_of es)
-later_behind test a least es few low =
-    later_kept test (Some a) (Excluded a) es (λ j d h later. ap (λ b. b && true) (behind_after a (get_or (keys_of es) j d) (omega (arith, few, least_axes least (get_or (keys_of es) j d) (low j d h))) later))
+pub later_behind : {X : Type 0} (flag : List ℕ × X → Bool) (test : Option Bool → Bool) (a least : List ℕ) (es : List (List ℕ × X)) → length a ≤ length least → All (λ k. is_gt (list_order least k) ≡ false) (keys_of es)
+    → filter (is_later test (Some a)) (marked flag (entries_between list_order (Excluded a) Unbounded es)) ≡ filter (is_later test (Some a)) (marked flag es)
+later_behind flag test a least es few low =
+    later_kept flag test (Some a) (Excluded a) es (λ j d h later. ap (λ b. b && true) (behind_after a (get_or (keys_of es) j d) (omega (arith, few, least_axes least (get_or (keys_of es) j d) (low j d h))) later))
 
-pub later_all : (test : Option Bool → Bool) (after : Option (List ℕ)) (es : List (List ℕ × Held)) → filter (is_later test after) (flags_of (entries_between list_order Unbounded Unbounded es)) ≡ filter (is_later test after) (flags_of es)
-later_all test after es = later_kept test after Unbounded es (λ j d h later. refl)
+pub later_all : {X : Type 0} (flag : List ℕ × X → Bool) (test : Option Bool → Bool) (after : Option (List ℕ)) (es : List (List ℕ × X)) → filter (is_later test after) (marked flag (entries_between list_order Unbounded Unbounded es)) ≡ filter (is_later test after) (marked flag es)
+later_all flag test after es = later_kept flag test after Unbounded es (λ j d h later. refl)

@@ -177,14 +177,20 @@ module _ (test : Option Bool → Bool) (none : test None ≡ false) where
   meant_index : (s : Stored) (i : List ℕ) → AreIndexes s → test (state s i) ≡ true → IsIndex s.grid.chunk i
   meant_index s i indexes meant = indexes i (meant_some (state s i) meant)
 
-  by_rank : (s : Stored) (after : Option (List ℕ)) (r : Option (List ℕ)) → AreIndexes s → IsFirstLater s.marks after r → IsNext (λ i. test (state s i)) after r
-  by_rank s after None indexes on = on
-  by_rank s after (Some i) indexes on =
-      (on.0, on.1, λ j later meant. λ g. on.2 j later meant (same_order i j ((meant_index s i indexes on.0).rank ∙ sym (meant_index s j indexes meant).rank) ∙ g))
+  -- entries by which the same chunks are meant
+  module _ (s : Stored) (marks : List (List ℕ × Bool)) (indexes : AreIndexes s) (same : (i : List ℕ) → told marks i ≡ test (state s i)) where
+    by_rank : (after : Option (List ℕ)) (r : Option (List ℕ)) → IsFirstLater marks after r → IsNext (λ i. test (state s i)) after r
+    by_rank after None on = λ i later. sym (same i) ∙ on i later
+    by_rank after (Some i) on =
+        let meant = sym (same i) ∙ on.0 in
+        (meant, on.1, λ j later known. λ g. on.2 j later (same j ∙ known) (same_order i j ((meant_index s i indexes meant).rank ∙ sym (meant_index s j indexes known).rank) ∙ g))
+
+    pub next_told : (after : Option (List ℕ)) → IsStrictlySortedBy list_order (keys_of marks) → IsNext (λ i. test (state s i)) after (first_key (filter (is_later test after) marks))
+    next_told after sorted = by_rank after (first_key (filter (is_later test after) marks)) (first_later marks after sorted)
 
   -- the first entry that is meant and comes later is the next chunk
   pub next_from : (s : Stored) (after : Option (List ℕ)) → AreIndexes s → IsStrictlySortedBy list_order (keys_of s.marks) → IsNext (λ i. test (state s i)) after (first_key (filter (is_later test after) s.marks))
-  next_from s after indexes sorted = by_rank s after (first_key (filter (is_later test after) s.marks)) indexes (first_later s.marks after sorted)
+  next_from s after indexes sorted = next_told s s.marks indexes (λ i. refl) after sorted
 
   pub next_known : (s : Stored) (after : Option (List ℕ)) (r : Option (List ℕ)) → IsNext (λ i. test (state s i)) after r → IfSome r (λ i. IsSome (state s i))
   next_known s after None on = tt

@@ -1,8 +1,13 @@
 -- The parts of an array, and what callers see of them after each call.
-use Rattle.std.proofs.Common.{◌≡◌, ℕ, ◌*◌, ◌<◌, ◌≤◌, Bool, true, false, cond, is_some, bytes_eq, List, [], ◌∷◌, length, get_or, option_map, Option, Some, None, IsSome, IfSome, refl, sym, ap, subst, ◌∙◌, inl, inr, arith}
+use Rattle.std.proofs.Common.{◌≡◌, ℕ, ◌*◌, ◌<◌, ◌≤◌, ◌&&◌, not, Bool, true, false, cond, is_some, bytes_eq, List, [], ◌∷◌, length, get_or, option_map, Option, Some, None, IsSome, IfSome, refl, sym, ap, subst, ◌∙◌, inl, inr, arith}
 use Rattle.std.specs.Option.{option_map_or}
 use Rattle.std.specs.List.{AllByRecursion, flat_map}
 use Rattle.std.specs.Map.{keys_of, lookup}
+use Rattle.std.specs.BTreeMap.{BTreeMap}
+use Rattle.std.specs.List.Sorted.{IsStrictlySortedBy}
+use Rattle.containers.specs.ShortLists.Order.{list_order}
+use Rattle.chunk_store.specs.Additions.{Adds, AreNew}
+use Rattle.chunk_store.proofs.AdditionLemmas.{key_there, keys_once, length-keys}
 use Rattle.std.specs.declared.vec.Vec.{Vec}
 use Rattle.std.specs.declared.alloc.Global.{Global}
 use Rattle.std.proofs.lemmas.Bool.{cases_Bool}
@@ -25,25 +30,25 @@ use Rattle.chunk_layout.specs.Layouts.{Fits}
 use Rattle.chunk_layout.proofs.CellLemmas.{chunk_count, offset_below}
 use Rattle.chunk_layout.proofs.DefaultLemmas.{fits_chunk}
 use Rattle.chunk_store.specs.Parts.{IsBuffered, stored_in}
-use Rattle.chunk_store.specs.Buffers.{AreFull, IsFrame, IsFull, IsGrown, IsWritten, bytes_at, chunk_bytes, flag_at, flags_of, has_cell, when_cleared}
+use Rattle.chunk_store.specs.Buffers.{AreFull, IsFrame, IsFull, IsGrown, IsNoted, IsWritten, bytes_at, chunk_bytes, flag_at, flags_of, has_cell, when_cleared}
 use Rattle.chunk_store.specs.Cells.{find_in, has, put}
 use Rattle.chunk_store.specs.Grids.{Grid, IsWhole, all_fill, blank_of, resized_to, reads, tabulated, value_at, writes, written}
 use Rattle.chunk_store.specs.Indexes.{IsIndex}
 use Rattle.chunk_store.specs.Kept.{given_fill}
-use Rattle.chunk_store.specs.Marks.{Stored, AreIndexes, IsChunkOf, IsNoted, IsTracked, MarksBegun, MarksResized, MarksWritten, after_resize, body_of, cleared, content, cut, in_grid, keeps, shown, state, touches, with_chunk}
+use Rattle.chunk_store.specs.Marks.{Stored, AreIndexes, IsChunkOf, IsTracked, MarksResized, MarksWritten, after_resize, body_of, cleared, content, cut, in_grid, keeps, shown, state, touches, with_chunk}
 use Rattle.chunk_store.specs.Picked.{picked, PicksIn}
 use Rattle.chunk_store.specs.declared.buffers.Frame.{Frame}
 use Rattle.chunk_store.specs.declared.buffers.Held.{Held}
 use Rattle.chunk_store.specs.declared.picks.Picks.{Picks}
-use Rattle.chunk_store.proofs.ArrayLemmas.{indexes_begun, indexes_cleared, indexes_resized, indexes_put, indexes_written, noted_flagged}
+use Rattle.chunk_store.proofs.ArrayLemmas.{indexes_cleared, indexes_noted, indexes_resized, indexes_put, indexes_written, noted_flagged}
 use Rattle.chunk_store.proofs.ChunkLemmas.{body_some, bytes_there, fill_same, index_here}
 use Rattle.chunk_store.proofs.CutLemmas.{cut_tracked, grid_here, lies_rank, made_tracked}
 use Rattle.chunk_store.proofs.GridLemmas.{reads_same, tabulated_same, value-tabulated}
 use Rattle.chunk_store.proofs.InstallLemmas.{cell_there, flat_pieces, install_tracked}
-use Rattle.chunk_store.proofs.KeptLemmas.{resized_same, given_blank, given_same, read_view, same_rank, same_view, whole_of, write_view}
+use Rattle.chunk_store.proofs.KeptLemmas.{resized_is, resized_same, given_blank, given_same, read_view, same_rank, same_view, whole_of, write_view}
 use Rattle.chunk_store.proofs.KeyLemmas.{put_cases, put_through}
 use Rattle.chunk_store.proofs.PickLemmas.{picked_inside}
-use Rattle.chunk_store.proofs.TrackLemmas.{begun_tracked, cell_of_chunk, rank_of, resize_tracked, write_tracked, written_other}
+use Rattle.chunk_store.proofs.TrackLemmas.{cell_of_chunk, rank_of, resize_tracked, same_tracked, stays_in, touched_grid, write_tracked, written_other}
 use Rattle.chunk_store.proofs.WriteLemmas.{read_encoded, written_each, written_on}
 use Rattle.json_trees.proofs.ListLemmas.{all_weaker}
 use Rattle.chunk_store.proofs.BufferLemmas.{Chunks}
@@ -125,11 +130,6 @@ reads_encoded h p w on =
     (read_encoded h.kind value w.kind.formed (λ at. cond_holds (IsEncoded h.kind) (lies_in at h.shape) (value_at h at) (blank_of h.kind h.fill) (λ lies. w.values at (lies_told at h.shape lies)) (λ off. w.blank)) ats)
 
 -- ---- what calls do, as callers see it
-
-pub record Begins (a : Stored) (ats : List (List ℕ)) (t : Stored) : Type 0 where
-  pub kept : t.grid ≡ a.grid
-  pub begun : MarksBegun a ats t
-  pub tracked : (held : List ℕ → List ℕ) → IsTracked held a → IsTracked held t
 
 pub record Writes (a : Stored) (ats : List (List ℕ)) (bytes : List ℕ) (t : Stored) : Type 0 where
   pub done : t.grid ≡ writes a.grid ats bytes
@@ -277,6 +277,9 @@ module _ (e : Elem) (s : Shape) (given : Bool) (f : Frame) where
       pub same_indexes : AreIndexes a
       same_indexes = subst AreIndexes is known_indexes
 
+      pub same_size : cell_count f.layout.chunk * f.size ≡ cell_count a.grid.chunk * size_of a.grid.kind
+      same_size = ap (λ k. cell_count f.layout.chunk * k) kept.sized ∙ ap (λ (x : Stored). cell_count x.grid.chunk * size_of x.grid.kind) is
+
       pub cell_tested : (i : List ℕ) → has_cell f.layout.chunk s i ≡ in_grid a.grid i
       cell_tested i = ap (λ (x : Stored). in_grid x.grid i) is
 
@@ -293,14 +296,22 @@ module _ (e : Elem) (s : Shape) (given : Bool) (f : Frame) where
       pub picks_read : (p : Picks) → PicksIn p s → flat_map (bytes_at m f) (picked p s) ≡ reads a.grid (picked p a.grid.shape)
       picks_read p on = read_view a.grid e s f.layout.chunk (given_fill given f.blank.items) (bytes_at m f) (ap (λ x. x.grid) is) p on
 
+    pub touched_cell : (ats : List (List ℕ)) → AllByRecursion (λ at. LiesIn at s) ats → (i : List ℕ) → touches f.layout.chunk ats i ≡ true → has_cell f.layout.chunk s i ≡ true
+    touched_cell ats each i t = touched_grid old.grid ats i whole_grid each t
+
+    pub stays_inside : (t : Shape) (dims : List ℕ) → IsResized s dims t → (i : List ℕ) → has_cell f.layout.chunk s i ≡ true → keeps i f.layout.chunk (dims_of s) (dims_of t) ≡ true → has_cell f.layout.chunk t i ≡ true
+    stays_inside t dims re i here stays =
+        let same : keeps i f.layout.chunk (dims_of s) dims ≡ true = ap (λ ds. keeps i f.layout.chunk (dims_of s) ds) (sym (dims_again s t dims re)) ∙ stays in
+        ap (λ x. has_cell f.layout.chunk x i) (resized_is s t dims re) ∙ stays_in old.grid dims i t whole_grid re here same
+
     -- ---- chunks that came, with blanks alone
 
     module _ (ats : List (List ℕ)) (n : Chunks) (each : AllByRecursion (λ at. LiesIn at s) ats) (grown : IsGrown m n f ats) where
       abbrev with_more : Stored
       with_more = stored_in e s given f n
 
-      grown_begun : MarksBegun old ats with_more
-      grown_begun = λ i. noted_by (touches f.layout.chunk ats i) (state old i) (state with_more i) (state_flag m i) (state_flag n i) (grown.noted i)
+      grown_noted : (i : List ℕ) → IsNoted (touches f.layout.chunk ats i) (state old i) (state with_more i)
+      grown_noted = λ i. noted_by (touches f.layout.chunk ats i) (state old i) (state with_more i) (state_flag m i) (state_flag n i) (grown.noted i)
 
       grown_grid : with_more.grid ≡ old.grid
       grown_grid = same_view old.grid e s f.layout.chunk (given_fill given f.blank.items) (bytes_at m f) (bytes_at n f) refl (λ q lies. grown.same q (rank_in q lies))
@@ -316,14 +327,8 @@ module _ (e : Elem) (s : Shape) (given : Bool) (f : Frame) where
         encoded = λ q rank. subst (IsEncoded e) (sym (grown.same q rank)) (kept.encoded q rank);
         outside = λ q rank off. grown.same q rank ∙ kept.outside q rank off;
         full = grown.full;
-        indexes = indexes_back n (indexes_begun old with_more ats refl whole_grid each grown_begun known_indexes);
+        indexes = indexes_back n (indexes_noted old with_more ats refl whole_grid each grown_noted known_indexes);
       }
-
-      grown_begins : Begins old ats with_more
-      grown_begins = record { kept = grown_grid; begun = grown_begun; tracked = λ held. begun_tracked held old with_more ats whole_grid each grown_grid grown_begun }
-
-    pub begins_from : (a : Stored) → stored_in e s given f m ≡ a → (p : Picks) → PicksIn p s → (n : Chunks) → IsGrown m n f (picked p s) → Begins a (picked p a.grid.shape) (stored_in e s given f n)
-    begins_from a is p on n grown = subst (λ (x : Stored). Begins x (picked p x.grid.shape) (stored_in e s given f n)) is (grown_begins (picked p s) n (picked_inside p s on) grown)
 
     -- ---- elements that were written
 
@@ -367,7 +372,7 @@ module _ (e : Elem) (s : Shape) (given : Bool) (f : Frame) where
 
       writes_marks : MarksWritten old (picked p s) with_bytes
       writes_marks =
-          noted_flagged old (picked p s) (state (stored_in e s given f g)) (state with_bytes) (grown_begun (picked p s) g (picked_inside p s on) grown)
+          noted_flagged old (picked p s) (state (stored_in e s given f g)) (state with_bytes) (grown_noted (picked p s) g (picked_inside p s on) grown)
           (λ i. state_flag n i ∙ done.flags i ∙ ap (cond (touches f.layout.chunk (picked p s) i) (Some true)) (sym (state_flag g i)))
 
       pub writes_from : (a : Stored) → stored_in e s given f m ≡ a → Writes a (picked p a.grid.shape) bytes with_bytes
@@ -541,3 +546,16 @@ module _ (e : Elem) (s : Shape) (given : Bool) (f : Frame) where
 
     pub same_marks : (a : Stored) → stored_in e s given f m ≡ a → (n : Chunks) → ((i : List ℕ) → find_in n i ≡ find_in m i) → (i : List ℕ) → state (stored_in e s given f n) i ≡ state a i
     same_marks a is n each i = state_flag n i ∙ ap (option_map (λ h. h.dirty)) (each i) ∙ sym (state_flag m i) ∙ ap (λ (x : Stored). state x i) is
+
+    pub same_tracks : (a : Stored) → stored_in e s given f m ≡ a → (n : Chunks) → ((i : List ℕ) → find_in n i ≡ find_in m i) → (held : List ℕ → List ℕ) → IsTracked held a → IsTracked held (stored_in e s given f n)
+    same_tracks a is n each held = same_tracked held a (stored_in e s given f n) (same_grid a is n each) (same_marks a is n each)
+
+    -- ---- chunks that a write would add
+
+    pub adds_from : {X : Type 0} (a : Stored) → stored_in e s given f m ≡ a → (ats : List (List ℕ)) (new : BTreeMap (List ℕ) X) → AreNew m f.layout.chunk ats new → IsStrictlySortedBy list_order (keys_of new.entries) → Adds a ats (length new.entries)
+    adds_from a is ats new each sorted = subst (λ (x : Stored). Adds x ats (length new.entries)) is (record {
+      chunks = keys_of new.entries;
+      these = λ i. key_there new.entries i ∙ each i ∙ ap (λ b. touches f.layout.chunk ats i && not b) (sym (has_state m i));
+      once = keys_once (keys_of new.entries) sorted;
+      counted = length-keys new.entries;
+    })

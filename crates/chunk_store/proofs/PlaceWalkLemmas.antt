@@ -1,5 +1,6 @@
 -- Walks over cells with consecutive linear indices, stretch by stretch.
 use Rattle.std.proofs.Common.{◌≡◌, ℕ, ◌+◌, ◌-◌, ◌*◌, ◌<◌, ◌≤◌, true, false, Some, None, ◌⊎◌, List, [], ◌++◌, length, take, drop, get_or, sym, ap, subst, ◌∙◌, arith}
+use Rattle.std.specs.BTreeMap.{BTreeMap}
 use Rattle.std.specs.List.{flat_map}
 use Rattle.std.proofs.Math.Seq.{take-add}
 use Rattle.std.proofs.lemmas.Grind.{flat_map-append}
@@ -17,7 +18,7 @@ use Rattle.chunk_store.specs.declared.stretches.Stretch.{Stretch}
 use Rattle.chunk_store.proofs.BufferLemmas.{Chunks}
 use Rattle.chunk_store.proofs.PickLemmas.{cells_from_length}
 use Rattle.chunk_store.proofs.RowLemmas.{from_at}
-use Rattle.chunk_store.proofs.TurnLemmas.{grown_joined, grown_more, grown_once, there_joined, there_once, written_both}
+use Rattle.chunk_store.proofs.TurnLemmas.{grown_joined, grown_once, there_joined, there_once, written_both}
 
 pub cells_from_joined : (from done len : ℕ) (s : Shape) → cells_from from (done + len) s ≡ cells_from from done s ++ cells_from (from + done) len s
 cells_from_joined from done len s = take-add done len (drop from (cells_of s)) ∙ ap (λ l. cells_from from done s ++ take len l) (drop-drop done from (cells_of s))
@@ -76,12 +77,8 @@ module _ (m n p : Chunks) (f : Frame) (s : Shape) (from done : ℕ) (t : Stretch
       subst (IsGrown m p f) (sym (cells_from_joined from done t.len s))
       (grown_joined m n p f (cells_from from done s) (cells_from (from + done) t.len s) before (grown_once n p f (cells_from (from + done) t.len s) t.index (omega (arith, on.some, on.many)) each_here same full noted))
 
-module _ (n p : Chunks) (f : Frame) (s : Shape) (from done : ℕ) (t : Stretch) (on : IsStretch f.layout.chunk t (cells_from (from + done) t.len s)) where
+module _ {X : Type 0} (n p : BTreeMap (List ℕ) X) (f : Frame) (s : Shape) (from done : ℕ) (t : Stretch) (on : IsStretch f.layout.chunk t (cells_from (from + done) t.len s)) where
   pub there_step : AreThere n f (cells_from from done s) → ((i : List ℕ) → has n i ≡ true → has p i ≡ true) → has p t.index ≡ true → AreThere p f (cells_from from (done + t.len) s)
   there_step before more there =
       subst (AreThere p f) (sym (cells_from_joined from done t.len s))
       (there_joined p f (cells_from from done s) (cells_from (from + done) t.len s) (λ k low. more _ (before k low)) (there_once p f (cells_from (from + done) t.len s) t.index (λ j low. (on.each j low).index) there))
-
--- what has come for the first cells, of all of them
-pub grown_part : (m n : Chunks) (f : Frame) (s : Shape) (from done many : ℕ) → done ≤ many → IsGrown m n f (cells_from from done s) → IsGrown m n f (cells_from from many s)
-grown_part m n f s from done many few h = subst (IsGrown m n f) (sym (cells_from_split from done many s few)) (grown_more m n f (cells_from from done s) (cells_from (from + done) (many - done) s) h)

@@ -31,7 +31,7 @@ record IsMoved (at dims chunk : List ℕ) (j : ℕ) (to : List ℕ) : Type 0 whe
   index : quotients to chunk ≡ quotients at chunk
   offset : linear_index (remainders to chunk) chunk ≡ linear_index (remainders at chunk) chunk + j
 
-digits_of : (x n j : ℕ) → x % n + j < n → ((x + j) / n ≡ x / n) × ((x + j) % n ≡ x % n + j)
+pub digits_of : (x n j : ℕ) → x % n + j < n → ((x + j) / n ≡ x / n) × ((x + j) % n ≡ x % n + j)
 digits_of x n j h =
     let whole : x + j ≡ x / n * n + (x % n + j) = omega (arith, div-add-mod' x n) in
     (ap (λ y. y / n) whole ∙ div-mul-add (x / n) n (x % n + j) h, ap (λ y. y % n) whole ∙ mod-mul-add (x / n) n (x % n + j) h)

@@ -1,5 +1,6 @@
 -- Reads and writes of a selection's cells, chunk by chunk.
 use Rattle.std.proofs.Common.{◌≡◌, ℕ, suc, ◌+◌, ◌*◌, ◌<◌, ◌≤◌, ◌⊎◌, ◌||◌, true, false, cond, is_some, bytes_eq, List, [], ◌∷◌, ◌++◌, length, take, drop, get_or, map, Some, None, inl, inr, refl, sym, ap, subst, ◌∙◌, arith, true≢false}
+use Rattle.std.specs.BTreeMap.{BTreeMap}
 use Rattle.std.specs.List.{AllZip, flat_map}
 use Rattle.std.proofs.lemmas.Bool.{cases_lt, cases_Bool}
 use Rattle.std.proofs.lemmas.List.{append_assoc, append-nil, drop_more, drop_all, take-append-drop, drop-drop, length-drop}
@@ -204,11 +205,11 @@ grow_more m n o f ats i touched done same full noted = record {
   noted = λ j. noted_next (touches f.layout.chunk ats j) (flag_at m j) (flag_at n j) (flag_at o j) i j (done.noted j) (noted j) (λ e. ap (touches f.layout.chunk ats) (sym e) ∙ touched);
 }
 
--- the first `n` chunks are held
-abbrev pub AreHeld : Chunks → Slab → List ℕ → ℕ → Type 0
+-- the map has the first `n` chunks
+abbrev pub AreHeld : {X : Type 0} → BTreeMap (List ℕ) X → Slab → List ℕ → ℕ → Type 0
 AreHeld m s chunk n = (b : ℕ) → b < n → has m (touched_at s chunk b) ≡ true
 
-pub held_more : (m n : Chunks) (s : Slab) (chunk i : List ℕ) (k : ℕ) → i ≡ touched_at s chunk k → AreHeld m s chunk k → ((j : List ℕ) → has m j ≡ true → has n j ≡ true) → has n i ≡ true → AreHeld n s chunk (k + 1)
+pub held_more : {X : Type 0} (m n : BTreeMap (List ℕ) X) (s : Slab) (chunk i : List ℕ) (k : ℕ) → i ≡ touched_at s chunk k → AreHeld m s chunk k → ((j : List ℕ) → has m j ≡ true → has n j ≡ true) → has n i ≡ true → AreHeld n s chunk (k + 1)
 held_more m n s chunk i k is held more there b low = elim (cases_lt b k) [
   | inl less ↦ more (touched_at s chunk b) (held b less)
   | inr past ↦
@@ -216,7 +217,7 @@ held_more m n s chunk i k is held more there b low = elim (cases_lt b k) [
       ap (λ x. has n (touched_at s chunk x)) same ∙ ap (has n) (sym is) ∙ there
 ]
 
-pub held_done : (m : Chunks) (f : Frame) (s : Slab) (k : ℕ) → IsSlab s → AreTouched s f.layout.chunk → touched_count s f.layout.chunk ≤ k → AreHeld m s f.layout.chunk k → (dims : List ℕ) → FitsIn s dims → AreThere m f (selected s dims)
+pub held_done : {X : Type 0} (m : BTreeMap (List ℕ) X) (f : Frame) (s : Slab) (k : ℕ) → IsSlab s → AreTouched s f.layout.chunk → touched_count s f.layout.chunk ≤ k → AreHeld m s f.layout.chunk k → (dims : List ℕ) → FitsIn s dims → AreThere m f (selected s dims)
 held_done m f s k h t l held dims fits p low =
     let many = selected_count (axes_of s) dims h.sound fits in
     let within : p < cell_count (extents s) = omega (arith, low, many) in

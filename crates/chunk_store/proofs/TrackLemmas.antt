@@ -18,7 +18,7 @@ use Rattle.chunk_store.proofs.KeyLemmas.{put_cases}
 use Rattle.chunk_store.specs.Grids.{IsWhole, Grid, value_at, blank_of, written, writes, with_dims, resized_to}
 use Rattle.chunk_store.proofs.GridLemmas.{value-tabulated, reads_same}
 use Rattle.chunk_store.proofs.KeptLemmas.{new_rank}
-use Rattle.chunk_store.specs.Marks.{Stored, state, in_grid, shown, content, all_blank, Stands, IsTracked, IsNoted, touches, MarksWritten, MarksBegun, MarksResized, keeps, keeps_axis, after_resize}
+use Rattle.chunk_store.specs.Marks.{Stored, state, in_grid, shown, content, all_blank, Stands, IsTracked, touches, MarksWritten, MarksResized, keeps, keeps_axis, after_resize}
 use Rattle.chunk_store.proofs.CutLemmas.{grid_here, content_piece, blank_piece}
 use Rattle.json_trees.proofs.ListLemmas.{all_weaker}
 
@@ -51,16 +51,6 @@ stands_same body (Some false) h k i grid blank same on = (
     | inr e ↦ inr (e.0, same on.0 ∙ e.1 ∙ sym blank)
   ],
 )
-
-noted_stands : (body : List ℕ) (touched : Bool) (o p : Option Bool) (h : Grid) (i : List ℕ) → (touched ≡ true → in_grid h i ≡ true) → IsNoted touched o p → Stands body o h i → Stands body p h i
-noted_stands body touched o p h i there g on = elim g [
-  | inl same ↦ subst (λ (x : Option Bool). Stands body x h i) (sym same) on
-  | inr more ↦
-      let none = subst (λ (x : Option Bool). Stands body x h i) more.0 on in
-      let inside = there more.1 in
-      let found : Stands body (Some false) h i = (inside, inr (none.0, none.1 inside)) in
-      subst (λ (x : Option Bool). Stands body x h i) (sym more.2) found
-]
 
 -- ---- writes
 
@@ -118,12 +108,11 @@ write_tracked kept s t ats bs w is marks on = λ i.
           (stands_same (kept i) (state s i) h (writes h ats bs) i refl (written_blank h i ats bs) (content_unwritten h i ats bs w (untouched h.chunk ats i stays)) (on i))
     ]))
 
--- a write that found no memory
-pub begun_tracked : (kept : List ℕ → List ℕ) (s t : Stored) (ats : List (List ℕ)) → IsWhole s.grid → AllByRecursion (λ at. LiesIn at s.grid.shape) ats → t.grid ≡ s.grid → MarksBegun s ats t → IsTracked kept s → IsTracked kept t
+-- the same array with the same marks
+pub same_tracked : (kept : List ℕ → List ℕ) (s t : Stored) → t.grid ≡ s.grid → ((i : List ℕ) → state t i ≡ state s i) → IsTracked kept s → IsTracked kept t
 unfolding IsTracked
-begun_tracked kept s t ats w each is marks on = λ i.
-    subst (λ (x : Grid). Stands (kept i) (state t i) x i) (sym is)
-    (noted_stands (kept i) (touches s.grid.chunk ats i) (state s i) (state t i) s.grid i (touched_grid s.grid ats i w each) (marks i) (on i))
+same_tracked kept s t is marks on = λ i.
+    subst (λ (x : Grid). Stands (kept i) (state t i) x i) (sym is) (subst (λ (o : Option Bool). Stands (kept i) o s.grid i) (sym (marks i)) (on i))
 
 -- ---- other dims
 
@@ -223,7 +212,7 @@ module _ (h : Grid) (dims i : List ℕ) (t : Shape) (w : IsWhole h) (re : IsResi
   ranks : length dims ≡ length h.chunk
   ranks = new_rank h.shape t dims w.shape re ∙ sym w.rank
 
-  stays_in : in_grid h i ≡ true → keeps i h.chunk (dims_of h.shape) dims ≡ true → in_grid (resized_to h dims) i ≡ true
+  pub stays_in : in_grid h i ≡ true → keeps i h.chunk (dims_of h.shape) dims ≡ true → in_grid (resized_to h dims) i ≡ true
   stays_in g k =
       let rank = rank_of h i g in
       let inside = kept_corner i h.chunk (dims_of h.shape) dims rank (sym w.rank) ranks k in

@@ -3,11 +3,12 @@ use Rattle.std.proofs.Common.{◌≡◌, ℕ, ◌-◌, ◌*◌, ◌<◌, ◌≤�
 use Rattle.std.proofs.lemmas.Bool.{cases_lt}
 use Rattle.std.proofs.lemmas.List.{get_or_append_left, length-append}
 use Rattle.std.proofs.Math.Seq.{get_or-append_right}
+use Rattle.std.specs.BTreeMap.{BTreeMap}
 use Rattle.chunk_layout.specs.Chunks.{quotients}
-use Rattle.chunk_store.specs.Buffers.{AreFull, AreThere, IsGrown, IsWritten, bytes_at, flag_at}
+use Rattle.chunk_store.specs.Buffers.{AreFull, AreThere, IsGrown, IsNoted, IsWritten, bytes_at, flag_at}
 use Rattle.chunk_store.specs.Cells.{find_in, has}
 use Rattle.chunk_store.specs.Grids.{written}
-use Rattle.chunk_store.specs.Marks.{IsNoted, touches}
+use Rattle.chunk_store.specs.Marks.{touches}
 use Rattle.chunk_store.specs.declared.buffers.Frame.{Frame}
 use Rattle.chunk_store.specs.declared.buffers.Held.{Held}
 use Rattle.chunk_store.proofs.BufferLemmas.{Chunks}
@@ -24,10 +25,6 @@ or_assoc false b c = refl
 touches_append : (chunk : List ℕ) (front back : List (List ℕ)) (i : List ℕ) → touches chunk (front ++ back) i ≡ (touches chunk front i || touches chunk back i)
 touches_append chunk [] back i = refl
 touches_append chunk (at ∷ front) back i = ap (λ b. bytes_eq (quotients at chunk) i || b) (touches_append chunk front back i) ∙ or_assoc (bytes_eq (quotients at chunk) i) (touches chunk front i) (touches chunk back i)
-
-noted_more : (a b : Bool) (o p : Option Bool) → IsNoted a o p → IsNoted (a || b) o p
-noted_more a b o p (inl same) = inl same
-noted_more a b o p (inr new) = inr (new.0, ap (λ x. x || b) new.1, new.2)
 
 noted_both : (a b : Bool) (o p r : Option Bool) → IsNoted a o p → IsNoted b p r → IsNoted (a || b) o r
 noted_both a b o p r (inl same) step = subst (λ (x : Option Bool). IsNoted (a || b) x r) same (noted_late a b p r step)
@@ -55,7 +52,7 @@ still_flagged : (touched : Bool) (o : Option Bool) → is_some o ≡ true → is
 still_flagged true o there = refl
 still_flagged false o there = there
 
-pub there_joined : (m : Chunks) (f : Frame) (front back : List (List ℕ)) → AreThere m f front → AreThere m f back → AreThere m f (front ++ back)
+pub there_joined : {X : Type 0} (m : BTreeMap (List ℕ) X) (f : Frame) (front back : List (List ℕ)) → AreThere m f front → AreThere m f back → AreThere m f (front ++ back)
 there_joined m f front back here there = λ k low. elim (cases_lt k (length front)) [
   | inl first ↦ ap (λ x. has m (quotients x f.layout.chunk)) (get_or_append_left front back [] k first) ∙ here k first
   | inr later ↦
@@ -77,16 +74,6 @@ grown_joined m n p f front back h k = record {
       (noted_both (touches f.layout.chunk front i) (touches f.layout.chunk back i) (flag_at m i) (flag_at n i) (flag_at p i) (h.noted i) (k.noted i));
 }
 
--- of more cells
-pub grown_more : (m n : Chunks) (f : Frame) (front back : List (List ℕ)) → IsGrown m n f front → IsGrown m n f (front ++ back)
-grown_more m n f front back h = record {
-  same = h.same;
-  full = h.full;
-  noted = λ i.
-      subst (λ (b : Bool). IsNoted b (flag_at m i) (flag_at n i)) (sym (touches_append f.layout.chunk front back i))
-      (noted_more (touches f.layout.chunk front i) (touches f.layout.chunk back i) (flag_at m i) (flag_at n i) (h.noted i));
-}
-
 pub grown_there : (m n : Chunks) (f : Frame) (front back : List (List ℕ)) → IsGrown m n f front → AreThere m f back → AreThere n f back
 grown_there m n f front back h there = λ k low.
     let i = quotients (get_or back k []) f.layout.chunk in
@@ -105,7 +92,7 @@ grown_once m n f ats index some each same full noted = record {
   ];
 }
 
-pub there_once : (n : Chunks) (f : Frame) (ats : List (List ℕ)) (index : List ℕ) → ((j : ℕ) → j < length ats → quotients (get_or ats j []) f.layout.chunk ≡ index) → has n index ≡ true → AreThere n f ats
+pub there_once : {X : Type 0} (n : BTreeMap (List ℕ) X) (f : Frame) (ats : List (List ℕ)) (index : List ℕ) → ((j : ℕ) → j < length ats → quotients (get_or ats j []) f.layout.chunk ≡ index) → has n index ≡ true → AreThere n f ats
 there_once n f ats index each there = λ j low. ap (has n) (each j low) ∙ there
 
 -- ---- cells are written

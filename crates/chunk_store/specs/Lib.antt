@@ -6,9 +6,12 @@ pub mod Kept
 pub mod Indexes
 pub mod Marks
 pub mod Buffers
+pub mod Changes
+pub mod Additions
 pub mod Touched
 pub mod Slabs
 pub mod Stretches
+pub mod Rows
 pub mod Truncation
 pub mod Parts
 pub use Rattle.hyperslab.specs.Selected

@@ -99,14 +99,6 @@ touches chunk ats i = list_any (λ at. bytes_eq (quotients at chunk) i) ats
 abbrev pub MarksWritten : Stored → List (List ℕ) → Stored → Type 0
 MarksWritten s ats t = (i : List ℕ) → state t i ≡ cond (touches s.grid.chunk ats i) (Some true) (state s i)
 
--- of a chunk the same is known as before, or it is one of those, nothing was known of it, and now it is known as clean
-abbrev pub IsNoted : Bool → Option Bool → Option Bool → Type 0
-IsNoted touched o p = (p ≡ o) ⊎ ((o ≡ None) × (touched ≡ true) × (p ≡ Some false))
-
--- a write that found no memory may have noted chunks of the cells as clean
-abbrev pub MarksBegun : Stored → List (List ℕ) → Stored → Type 0
-MarksBegun s ats t = (i : List ℕ) → IsNoted (touches s.grid.chunk ats i) (state s i) (state t i)
-
 -- on one axis, chunk i of width n begins below the new dim, and none of its numbers below the old dim is lost
 abbrev pub keeps_axis : (i n old new : ℕ) → Bool
 keeps_axis i n old new = nat_lt (i * n) new && nat_le (min (i * n + n) old) new

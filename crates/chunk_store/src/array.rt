@@ -1,31 +1,35 @@
 //! An array and the chunks that are dirty.
 
-ghost use Rattle.std.specs.Prelude.{◌≡◌, ◌≤◌, ◌+◌, ◌↔◌, ℕ, List, [], All, IsSome, length, option_map, false};
+ghost use Rattle.std.specs.Prelude.{◌≡◌, ◌≤◌, ◌+◌, ◌*◌, ◌↔◌, ℕ, List, [], All, IsSome, length, option_map, false};
 ghost use Rattle.std.specs.Prelude.{Some, None, Err, IfOk, IfSome, IsTrue, OnOk, OnErr};
 ghost use Rattle.hdf_types.specs.Reading.{size_of};
 ghost use Rattle.hdf_types.specs.Types.{IsSoundType};
 ghost use Rattle.hdf_types.specs.Views.{elem as kind_of};
 ghost use Rattle.hdf_values.specs.Elements.{IsEncoded};
 ghost use Rattle.hdf_values.specs.Nested.{AreEncoded};
+ghost use Rattle.shapes.specs.RowMajor.{cell_count};
 ghost use Rattle.shapes.specs.Shapes.{IsSound, IsResized, LiesIn, count_of, dims_of};
 ghost use Rattle.shapes.specs.declared.TheConstants.{MAX_EXTENT};
 ghost use Rattle.chunk_layout.specs.Layouts.{Fits};
 ghost use Rattle.hyperslab.specs.Selected.{IsSlab, SlabIn, slab_cells};
 ghost use Rattle.point_select.specs.declared.TheConstants.{MAX_POINTS};
+ghost use Rattle.chunk_store.specs.Additions.{Adds};
 ghost use Rattle.chunk_store.specs.Cells.{put};
 ghost use Rattle.chunk_store.specs.Grids.{IsWhole, all_fill, resized_to, reads, with_dims, writes};
 ghost use Rattle.chunk_store.specs.Picked.{PicksIn, cells_from, picked};
 ghost use Rattle.chunk_store.specs.Indexes.{IsIndex};
-ghost use Rattle.chunk_store.specs.Marks.{Stored, AreIndexes, IsTracked, IsNextDirty, IsNextChunk, IsChunkOf, MarksBegun};
+ghost use Rattle.chunk_store.specs.Marks.{Stored, AreIndexes, IsTracked, IsNextDirty, IsNextChunk, IsChunkOf};
 ghost use Rattle.chunk_store.specs.Marks.{MarksResized, MarksWritten, with_chunk, body_of, state, in_grid};
 ghost use Rattle.chunk_store.specs.Marks.{cleared, cut};
 ghost use Rattle.chunk_store.specs.declared.array.InstallFault.TheVariants.{BadChunk, NoMemory};
 
 use crate::access;
-use crate::buffers::{Chunks, Frame, put_chunk};
+use crate::additions::new_in_points;
+use crate::buffers::{Chunks, Frame, chunk_size, put_chunk};
+use crate::changes::Changes;
 use crate::chunks::{cell_number, has_cell, is_blank_outside};
 use crate::elements::{are_elements, blank_bytes};
-use crate::marks::{clear_flags, first_dirty, first_known};
+use crate::marks::{clear_flags, first_dirty, first_known, first_listed};
 use crate::picks::Picks;
 use crate::truncating::truncate;
 use chunk_layout::Layout;
@@ -45,10 +49,12 @@ pub struct Array {
     given: bool,
     frame: Frame,
     chunks: Chunks,
+    changes: Changes,
 }
 
 impl Model for Array {
     ghost use Rattle.hdf_types.specs.Views.{elem as kind_of};
+    ghost use Rattle.chunk_store.specs.Changes.{AreListed};
     ghost use Rattle.chunk_store.specs.Parts.{IsBuffered, stored_in};
     ghost use Rattle.chunk_store.specs.Marks.{Stored, coded_stored};
 
@@ -58,7 +64,8 @@ impl Model for Array {
 
     ghost view = { λ a. stored_in (kind_of a.elem) a.shape a.given a.frame a.chunks };
 
-    ghost invariant = { λ a. IsBuffered (kind_of a.elem) a.shape a.given a.frame a.chunks };
+    ghost invariant = { λ a. IsBuffered (kind_of a.elem) a.shape a.given a.frame a.chunks
+        × AreListed a.shape a.frame a.chunks a.changes };
 }
 
 /// Why a chunk was not installed.
@@ -114,6 +121,7 @@ impl Array {
             given,
             frame,
             chunks: BTreeMap::new(alloc),
+            changes: Changes::new(alloc),
         })
     }
 
@@ -210,7 +218,7 @@ impl Array {
     ///
     /// # Errors
     ///
-    /// Only where memory runs out; then no cell has changed.
+    /// Only where memory runs out; then the array is as it was.
     pub fn write_slab(&mut self, alloc: Global, slab: &Slab, bytes: &[u8]) -> Result<(), AllocError>
         requires slab { IsSlab slab.now }
         requires inside { SlabIn slab.now self.old.grid.shape }
@@ -221,8 +229,7 @@ impl Array {
         ensures marks { OnOk result (MarksWritten self.old
             (slab_cells slab.now self.old.grid.shape) self.new) }
         ensures kept { OnErr result (self.new.grid ≡ self.old.grid) }
-        ensures begun { OnErr result (MarksBegun self.old
-            (slab_cells slab.now self.old.grid.shape) self.new) }
+        ensures unmarked { OnErr result ((i : List ℕ) → state self.new i ≡ state self.old i) }
         ensures tracked { (held : List ℕ → List ℕ) → IsTracked held self.old
             → IsTracked held self.new }
     {
@@ -233,7 +240,7 @@ impl Array {
     ///
     /// # Errors
     ///
-    /// Only where memory runs out; then no cell has changed.
+    /// Only where memory runs out; then the array is as it was.
     pub fn write_points(
         &mut self,
         alloc: Global,
@@ -246,7 +253,7 @@ impl Array {
         ensures done { OnOk result (self.new.grid ≡ writes self.old.grid points.now bytes.now) }
         ensures marks { OnOk result (MarksWritten self.old points.now self.new) }
         ensures kept { OnErr result (self.new.grid ≡ self.old.grid) }
-        ensures begun { OnErr result (MarksBegun self.old points.now self.new) }
+        ensures unmarked { OnErr result ((i : List ℕ) → state self.new i ≡ state self.old i) }
         ensures tracked { (held : List ℕ → List ℕ) → IsTracked held self.old
             → IsTracked held self.new }
     {
@@ -257,7 +264,7 @@ impl Array {
     ///
     /// # Errors
     ///
-    /// Only where memory runs out; then no cell has changed.
+    /// Only where memory runs out; then the array is as it was.
     pub fn write_places(&mut self, alloc: Global, from: u64, bytes: &[u8]) -> Result<(), AllocError>
         requires { (many : ℕ) × (from + many ≤ count_of self.old.grid.shape)
             × AreEncoded self.old.grid.kind many bytes.now }
@@ -267,13 +274,46 @@ impl Array {
         ensures marks { OnOk result ((many : ℕ) → AreEncoded self.old.grid.kind many bytes.now
             → MarksWritten self.old (cells_from from many self.old.grid.shape) self.new) }
         ensures kept { OnErr result (self.new.grid ≡ self.old.grid) }
-        ensures begun { OnErr result ((many : ℕ) → AreEncoded self.old.grid.kind many bytes.now
-            → MarksBegun self.old (cells_from from many self.old.grid.shape) self.new) }
+        ensures unmarked { OnErr result ((i : List ℕ) → state self.new i ≡ state self.old i) }
         ensures tracked { (held : List ℕ → List ℕ) → IsTracked held self.old
             → IsTracked held self.new }
     {
         let many = self.elements_in(bytes);
         self.write(alloc, &Picks::Places { from, many }, bytes)
+    }
+
+    /// How many bytes a chunk has.
+    pub fn chunk_size(&self) -> u64
+        ensures { result ≡ cell_count self.now.grid.chunk * size_of self.now.grid.kind }
+    {
+        chunk_size(&self.frame)
+    }
+
+    /// How many chunks of a selection's cells are not known yet, so that a write would add them.
+    ///
+    /// # Errors
+    ///
+    /// Only where memory runs out.
+    pub fn slab_adds(&self, alloc: Global, slab: &Slab) -> Result<u64, AllocError>
+        requires slab { IsSlab slab.now }
+        requires inside { SlabIn slab.now self.now.grid.shape }
+        ensures { IfOk result (Adds self.now (slab_cells slab.now self.now.grid.shape)) }
+    {
+        let new = access::new_selected(alloc, &self.chunks, &self.frame, &self.shape, slab)?;
+        Ok(new.len() as u64)
+    }
+
+    /// How many chunks of points are not known yet, so that a write would add them; each is counted once.
+    ///
+    /// # Errors
+    ///
+    /// Only where memory runs out.
+    pub fn points_add(&self, alloc: Global, points: &Points) -> Result<u64, AllocError>
+        requires { All (λ at. LiesIn at self.now.grid.shape) points.now }
+        ensures { IfOk result (Adds self.now points.now) }
+    {
+        let new = new_in_points(alloc, &self.chunks, &self.frame, points.as_slice())?;
+        Ok(new.len() as u64)
     }
 
     /// Takes other dims. Cells outside them are lost, and new ones have the fill. It takes no memory.
@@ -291,6 +331,7 @@ impl Array {
         };
         truncate(&mut self.chunks, &self.frame, &self.shape, &shape);
         self.shape = shape;
+        self.changes.all = true;
     }
 
     /// The first dirty chunk behind one, or of all, in row-major order.
@@ -299,7 +340,11 @@ impl Array {
         ensures known { IfSome result (λ i. IsSome (state self.now i)) }
         ensures index { IfSome result (λ i. IsIndex self.now.grid.chunk i) }
     {
-        first_dirty(&self.chunks, after)
+        if self.changes.all {
+            first_dirty(&self.chunks, after)
+        } else {
+            first_listed(&self.chunks, &self.changes.listed, after)
+        }
     }
 
     /// The first chunk behind one, or of all, of which anything is known, dirty or not, in row-major order.
@@ -334,7 +379,12 @@ impl Array {
         ensures tracked { (held : List ℕ → List ℕ) → IsTracked held self.old
             → IsTracked (cut held self.old) self.new }
     {
-        clear_flags(&mut self.chunks, &self.frame.layout, &self.shape);
+        clear_flags(
+            &mut self.chunks,
+            &mut self.changes,
+            &self.frame,
+            &self.shape,
+        );
     }
 
     /// Puts in the bytes of a chunk, which then is clean.
@@ -409,12 +459,18 @@ impl Array {
         ensures marks { OnOk result (MarksWritten self.old
             (picked picks.now self.old.grid.shape) self.new) }
         ensures kept { OnErr result (self.new.grid ≡ self.old.grid) }
-        ensures begun { OnErr result (MarksBegun self.old
-            (picked picks.now self.old.grid.shape) self.new) }
+        ensures unmarked { OnErr result ((i : List ℕ) → state self.new i ≡ state self.old i) }
         ensures tracked { (held : List ℕ → List ℕ) → IsTracked held self.old
             → IsTracked held self.new }
     {
-        access::grow(alloc, &mut self.chunks, &self.frame, &self.shape, picks)?;
+        access::hold(
+            alloc,
+            &mut self.chunks,
+            &mut self.changes,
+            &self.frame,
+            &self.shape,
+            picks,
+        )?;
         access::write(&mut self.chunks, &self.frame, &self.shape, picks, bytes);
         Ok(())
     }

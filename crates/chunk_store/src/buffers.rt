@@ -4,9 +4,11 @@
 ghost use Rattle.std.specs.Prelude.{◌≡◌, ◌≤◌, ◌<◌, ◌+◌, ◌*◌, ◌⊎◌, ◌↔◌, ℕ, List, All, IsTrue, true, false, length, Some, None, IfOk, OnOk, OnErr};
 ghost use Rattle.hdf_values.specs.Nested.{piece_at};
 ghost use Rattle.shapes.specs.RowMajor.{cell_count};
+ghost use Rattle.chunk_store.specs.Changes.{KeepsListed};
 ghost use Rattle.chunk_store.specs.Cells.{put, find_in, has};
-ghost use Rattle.chunk_store.specs.Buffers.{AreFull, IsFrame, bytes_at, chunk_bytes, flag_at};
+ghost use Rattle.chunk_store.specs.Buffers.{AreFull, ChunkMap, IsFrame, IsUndoneBy, bytes_at, chunk_bytes, flag_at, held_but};
 
+use crate::changes::Changes;
 use crate::chunks::cell_number;
 use crate::strided_copies::{Strided, copy_strided};
 use chunk_layout::Layout;
@@ -55,12 +57,20 @@ pub(crate) fn cell<'a>(chunks: &'a Chunks, frame: &'a Frame, at: &Dims) -> &'a [
 }
 
 /// The bytes of an element.
-fn element(bytes: &[u8], number: usize, size: usize) -> &[u8]
+pub(crate) fn element(bytes: &[u8], number: usize, size: usize) -> &[u8]
     requires { (number + 1) * size ≤ length bytes.now }
     ensures { result.now ≡ piece_at size number bytes.now }
 {
     let start = number * size;
     &bytes[start..start + size]
+}
+
+/// How many bytes a chunk has.
+pub(crate) fn chunk_size(frame: &Frame) -> u64
+    requires { IsFrame frame.now }
+    ensures { result ≡ chunk_bytes frame.now }
+{
+    cell_number(&frame.layout) * frame.size as u64
 }
 
 /// So many elements, each the blank.
@@ -94,10 +104,11 @@ fn are_zero(bytes: &[u8]) -> bool
     bytes.iter().all(|byte| *byte == 0)
 }
 
-/// Holds a chunk with blanks alone, where it is not held.
+/// Holds a chunk with blanks alone, where it is not held, and lists it.
 pub(crate) fn add_chunk(
     alloc: Global,
     chunks: &mut Chunks,
+    changes: &mut Changes,
     frame: &Frame,
     index: &Dims,
 ) -> Result<(), AllocError>
@@ -110,12 +121,28 @@ pub(crate) fn add_chunk(
         ⊎ ((index.now ≡ i) × (flag_at chunks.old i ≡ None) × (flag_at chunks.new i ≡ Some false)) }
     ensures more { (i : List ℕ) → has chunks.old i ≡ true → has chunks.new i ≡ true }
     ensures there { OnOk result (has chunks.new index.now ≡ true) }
+    ensures undone { (before : ChunkMap)
+        → IsUndoneBy changes.old.added.items before chunks.old
+        → IsUndoneBy changes.new.added.items before chunks.new }
+    ensures keeps { KeepsListed changes.old changes.new }
+    ensures listed { OnOk result (has changes.new.listed index.now ≡ true) }
 {
+    changes.list(index)?;
     if chunks.contains_key(index) {
         return Ok(());
     }
+    changes.added.push(*index)?;
     let bytes = blanks(alloc, frame)?;
     put_chunk(chunks, index, bytes)
+}
+
+/// Takes out chunks.
+pub(crate) fn remove_chunks(chunks: &mut Chunks, indexes: &[Dims])
+    ensures { (i : List ℕ) → find_in chunks.new i ≡ held_but indexes.now chunks.old i }
+{
+    for index in indexes {
+        chunks.remove(index);
+    }
 }
 
 /// Holds a chunk with these bytes, as a clean one.

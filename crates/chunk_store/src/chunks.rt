@@ -1,6 +1,6 @@
 //! The cells of one chunk: walks over them in row-major order, those outside the shape too.
 
-ghost use Rattle.std.specs.Prelude.{◌≡◌, ◌<◌, ◌*◌, ◌^◌, ◌-◌, ◌↔◌, ℕ, [], true, false};
+ghost use Rattle.std.specs.Prelude.{◌≡◌, ◌≤◌, ◌<◌, ◌+◌, ◌*◌, ◌^◌, ◌-◌, ◌↔◌, ℕ, [], true, false};
 ghost use Rattle.std.specs.Prelude.{min, length, slice_index_or, IsTrue};
 ghost use Rattle.hdf_values.specs.Nested.{piece_at};
 ghost use Rattle.shapes.specs.RowMajor.{cell_count};
@@ -9,6 +9,8 @@ ghost use Rattle.chunk_layout.specs.Chunks.{IsChunk, quotients, offset_of, chunk
 ghost use Rattle.chunk_store.specs.Buffers.{has_cell};
 ghost use Rattle.chunk_store.specs.Indexes.{IsIndex};
 
+use crate::buffers::element;
+use crate::rows::row_from;
 use chunk_layout::{Layout, coords_in_chunk, is_in_grid};
 use shapes::{Dims, Shape};
 
@@ -81,14 +83,35 @@ pub(crate) fn is_blank_outside(
     if is_within(layout, shape, index) {
         return true;
     }
-    let mut rest = bytes;
-    for k in 0..cell_number(layout) {
-        let at = cell(layout, index, k);
-        let (piece, more) = rest.split_at(blank.len());
-        if !shape.contains(&at) && piece != blank {
+    let many = cell_number(layout);
+    let mut done = 0;
+    while done < many {
+        let row = row_from(layout, shape, index, done);
+        let first = done + row.inside;
+        if !are_blanks(
+            bytes,
+            blank,
+            first as usize,
+            (row.len - row.inside) as usize,
+        ) {
             return false;
         }
-        rest = more;
+        done += row.len;
+    }
+    true
+}
+
+/// Whether elements that follow one another each are the blank.
+fn are_blanks(bytes: &[u8], blank: &[u8], first: usize, many: usize) -> bool
+    requires room { (first + many) * length blank.now ≤ length bytes.now }
+    requires few { first + many < 2 ^ 64 }
+    ensures { IsTrue result ↔ ((j : ℕ) → j < many
+        → piece_at (length blank.now) (first + j) bytes.now ≡ blank.now) }
+{
+    for j in 0..many {
+        if element(bytes, first + j, blank.len()) != blank {
+            return false;
+        }
     }
     true
 }

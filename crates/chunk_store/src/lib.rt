@@ -6,9 +6,11 @@
 #![tactic(auto)]
 
 mod access;
+mod additions;
 mod array;
 pub mod box_copies;
 mod buffers;
+mod changes;
 mod chunk_boxes;
 mod chunks;
 mod elements;
@@ -17,6 +19,7 @@ mod marks;
 mod picks;
 mod places;
 mod points;
+mod rows;
 mod slabs;
 mod stretches;
 pub mod strided_copies;

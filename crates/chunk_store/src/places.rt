@@ -1,15 +1,17 @@
 //! Reads and writes of cells with consecutive linear indices, stretch by stretch.
 
-ghost use Rattle.std.specs.Prelude.{◌≡◌, ◌≤◌, ◌<◌, ◌+◌, ◌*◌, ◌-◌, ◌%◌, length, min, IfOk, OnOk};
+ghost use Rattle.std.specs.Prelude.{◌≡◌, ◌≤◌, ◌<◌, ◌+◌, ◌*◌, ◌-◌, ◌%◌, ℕ, List, length, min, IfOk, OnOk};
 ghost use Rattle.std.specs.List.{flat_map};
 ghost use Rattle.shapes.specs.RowMajor.{IsInside, cell_count};
 ghost use Rattle.shapes.specs.Shapes.{IsSound, count_of, dims_of};
 ghost use Rattle.chunk_layout.specs.Chunks.{IsChunk};
-ghost use Rattle.chunk_store.specs.Buffers.{AreFull, AreThere, IsFrame, IsGrown, IsWritten, bytes_at};
+ghost use Rattle.chunk_store.specs.Buffers.{AreFull, AreThere, ChunkMap, IsFrame, IsGrown, IsUndoneBy, IsWritten, bytes_at};
+ghost use Rattle.chunk_store.specs.Changes.{KeepsListed};
 ghost use Rattle.chunk_store.specs.Picked.{cells_from};
 ghost use Rattle.chunk_store.specs.Stretches.{IsStretch, row_left};
 
 use crate::buffers::{Chunks, Frame, add_chunk};
+use crate::changes::Changes;
 use crate::stretches::{Stretch, read_stretch, write_stretch};
 use chunk_layout::{Layout, chunk_of, offset_in};
 use shapes::{Dims, Shape, coords_at};
@@ -46,6 +48,7 @@ pub(crate) fn read_places(
 pub(crate) fn grow_places(
     alloc: Global,
     chunks: &mut Chunks,
+    changes: &mut Changes,
     frame: &Frame,
     shape: &Shape,
     from: u64,
@@ -56,13 +59,19 @@ pub(crate) fn grow_places(
     requires sound { IsSound shape.now }
     requires rank { length frame.now.layout.chunk ≡ length (dims_of shape.now) }
     requires inside { from + many ≤ count_of shape.now }
-    ensures grown { IsGrown chunks.old chunks.new frame.now (cells_from from many shape.now) }
+    ensures grown { OnOk result (IsGrown chunks.old chunks.new frame.now (cells_from from many shape.now)) }
+    ensures undone { (before : ChunkMap)
+        → IsUndoneBy changes.old.added.items before chunks.old
+        → IsUndoneBy changes.new.added.items before chunks.new }
+    ensures keeps { KeepsListed changes.old changes.new }
+    ensures listed { OnOk result (AreThere changes.new.listed frame.now
+        (cells_from from many shape.now)) }
     ensures there { OnOk result (AreThere chunks.new frame.now (cells_from from many shape.now)) }
 {
     let mut done = 0;
     while done < many {
         let stretch = stretch_at(&frame.layout, shape, from + done, many - done);
-        add_chunk(alloc, chunks, frame, &stretch.index)?;
+        add_chunk(alloc, chunks, changes, frame, &stretch.index)?;
         done += stretch.len;
     }
     Ok(())

@@ -1,13 +1,15 @@
 //! Reads and writes of points, one after another.
 
-ghost use Rattle.std.specs.Prelude.{◌≡◌, ◌≤◌, ◌+◌, ◌*◌, [], ◌∷◌, All, length, IfOk, OnOk};
+ghost use Rattle.std.specs.Prelude.{◌≡◌, ◌≤◌, ◌+◌, ◌*◌, [], ◌∷◌, All, ℕ, List, length, IfOk, OnOk};
 ghost use Rattle.std.specs.List.{flat_map};
 ghost use Rattle.shapes.specs.RowMajor.{cell_count};
 ghost use Rattle.chunk_layout.specs.Chunks.{IsChunk};
-ghost use Rattle.chunk_store.specs.Buffers.{AreFull, AreThere, IsFrame, IsGrown, IsWritten, bytes_at};
+ghost use Rattle.chunk_store.specs.Buffers.{AreFull, AreThere, ChunkMap, IsFrame, IsGrown, IsUndoneBy, IsWritten, bytes_at};
+ghost use Rattle.chunk_store.specs.Changes.{KeepsListed};
 ghost use Rattle.chunk_store.specs.Stretches.{IsStretch};
 
 use crate::buffers::{Chunks, Frame, add_chunk, cell};
+use crate::changes::Changes;
 use crate::stretches::{Stretch, write_stretch};
 use chunk_layout::{Layout, chunk_of, offset_in};
 use shapes::Dims;
@@ -36,17 +38,23 @@ pub(crate) fn read_points(
 pub(crate) fn grow_points(
     alloc: Global,
     chunks: &mut Chunks,
+    changes: &mut Changes,
     frame: &Frame,
     points: &[Dims],
 ) -> Result<(), AllocError>
     requires frame { IsFrame frame.now }
     requires full { AreFull chunks.old frame.now }
     requires ranks { All (λ at. length at ≡ length frame.now.layout.chunk) points.now }
-    ensures grown { IsGrown chunks.old chunks.new frame.now points.now }
+    ensures grown { OnOk result (IsGrown chunks.old chunks.new frame.now points.now) }
+    ensures undone { (before : ChunkMap)
+        → IsUndoneBy changes.old.added.items before chunks.old
+        → IsUndoneBy changes.new.added.items before chunks.new }
+    ensures keeps { KeepsListed changes.old changes.new }
+    ensures listed { OnOk result (AreThere changes.new.listed frame.now points.now) }
     ensures there { OnOk result (AreThere chunks.new frame.now points.now) }
 {
     for at in points {
-        add_chunk(alloc, chunks, frame, &chunk_of(&frame.layout, at))?;
+        add_chunk(alloc, chunks, changes, frame, &chunk_of(&frame.layout, at))?;
     }
     Ok(())
 }

@@ -6,13 +6,15 @@ ghost use Rattle.shapes.specs.RowMajor.{cell_count};
 ghost use Rattle.chunk_layout.specs.Chunks.{IsChunk, corner};
 ghost use Rattle.hyperslab.specs.Selected.{IsSlab, FitsIn, extents, selected};
 ghost use Rattle.chunk_store.specs.BoxCopies.Boxes.{AreWritten, IsBox};
-ghost use Rattle.chunk_store.specs.Buffers.{AreFull, AreThere, IsFrame, IsGrown, IsWritten, bytes_at, chunk_bytes};
+ghost use Rattle.chunk_store.specs.Buffers.{AreFull, AreThere, ChunkMap, IsFrame, IsGrown, IsUndoneBy, IsWritten, bytes_at, chunk_bytes};
+ghost use Rattle.chunk_store.specs.Changes.{KeepsListed};
 ghost use Rattle.chunk_store.specs.Cells.{has};
 ghost use Rattle.chunk_store.specs.Indexes.{IsIndex};
 ghost use Rattle.chunk_store.specs.Slabs.{IsChunkRead, IsChunkWritten};
 
 use crate::box_copies::{fill_box, read_box, write_box};
 use crate::buffers::{Chunks, Frame, Held, add_chunk};
+use crate::changes::Changes;
 use crate::touched::Touched;
 use hyperslab::Slab;
 use shapes::Dims;
@@ -84,6 +86,7 @@ fn first_cell(chunk: &Dims, index: &Dims) -> Dims
 pub(crate) fn grow_slab(
     alloc: Global,
     chunks: &mut Chunks,
+    changes: &mut Changes,
     frame: &Frame,
     slab: &Slab,
 ) -> Result<(), AllocError>
@@ -91,15 +94,21 @@ pub(crate) fn grow_slab(
     requires full { AreFull chunks.old frame.now }
     requires slab { IsSlab slab.now }
     requires rank { length frame.now.layout.chunk ≡ length slab.now.start }
-    ensures grown { (dims : List ℕ) → FitsIn slab.now dims
-        → IsGrown chunks.old chunks.new frame.now (selected slab.now dims) }
+    ensures grown { OnOk result ((dims : List ℕ) → FitsIn slab.now dims
+        → IsGrown chunks.old chunks.new frame.now (selected slab.now dims)) }
+    ensures undone { (before : ChunkMap)
+        → IsUndoneBy changes.old.added.items before chunks.old
+        → IsUndoneBy changes.new.added.items before chunks.new }
+    ensures keeps { KeepsListed changes.old changes.new }
+    ensures listed { OnOk result ((dims : List ℕ) → FitsIn slab.now dims
+        → AreThere changes.new.listed frame.now (selected slab.now dims)) }
     ensures there { OnOk result ((dims : List ℕ) → FitsIn slab.now dims
         → AreThere chunks.new frame.now (selected slab.now dims)) }
 {
     let touched = Touched::new(slab, &frame.layout.chunk);
     for number in 0..touched.many() {
         let index = touched.index(number);
-        add_chunk(alloc, chunks, frame, &index)?;
+        add_chunk(alloc, chunks, changes, frame, &index)?;
     }
     Ok(())
 }

@@ -1,10 +1,8 @@
 //! Other dims: the cells outside them have the fill.
 
-ghost use Rattle.std.specs.Prelude.{◌≡◌, ◌≢◌, ◌≤◌, ◌<◌, ◌+◌, ◌*◌, ◌⊎◌, ℕ, List, false, true, cond, length};
+ghost use Rattle.std.specs.Prelude.{◌≡◌, ◌≤◌, ◌<◌, ◌+◌, ◌*◌, ◌⊎◌, ℕ, List, false, true, cond, length};
 ghost use Rattle.hdf_values.specs.Nested.{piece_at};
-ghost use Rattle.shapes.specs.RowMajor.{cell_count};
 ghost use Rattle.shapes.specs.Shapes.{IsResized, IsSound, lies_in, dims_of};
-ghost use Rattle.chunk_layout.specs.Chunks.{cell_at};
 ghost use Rattle.chunk_store.specs.Buffers.{AreFull, IsFrame, bytes_at, chunk_bytes, flag_at};
 ghost use Rattle.chunk_store.specs.Cells.{has};
 ghost use Rattle.chunk_store.specs.Truncation.{AreTruncated, IsTruncated};
@@ -13,8 +11,9 @@ ghost use Rattle.chunk_store.specs.Marks.{after_resize, keeps, keeps_axis};
 
 use crate::buffers::{Chunks, Frame, Held};
 use crate::chunks::cell_number;
+use crate::rows::row_from;
 use crate::strided_copies::{Strided, copy_strided};
-use chunk_layout::{coords_in_chunk, is_in_grid};
+use chunk_layout::is_in_grid;
 use shapes::{Dims, Shape};
 
 /// Puts the fill into each cell of the chunks that lies outside a shape's other dims, and takes the
@@ -86,28 +85,19 @@ fn truncate_cells(bytes: &mut [u8], frame: &Frame, index: &Dims, new: &Shape)
     ensures full { length bytes.new ≡ chunk_bytes frame.now }
     ensures cells { AreTruncated frame.now new.now index.now bytes.old bytes.new }
 {
-    for k in 0..cell_number(&frame.layout) {
-        truncate_cell(bytes, frame, index, new, k);
+    let many = cell_number(&frame.layout);
+    let mut done = 0;
+    while done < many {
+        let row = row_from(&frame.layout, new, index, done);
+        let first = done + row.inside;
+        fill_blanks(
+            bytes,
+            frame,
+            first as usize,
+            (row.len - row.inside) as usize,
+        );
+        done += row.len;
     }
-}
-
-fn truncate_cell(bytes: &mut [u8], frame: &Frame, index: &Dims, new: &Shape, k: u64)
-    requires frame { IsFrame frame.now }
-    requires index { IsIndex frame.now.layout.chunk index.now }
-    requires full { length bytes.old ≡ chunk_bytes frame.now }
-    requires below { k < cell_count frame.now.layout.chunk }
-    ensures full { length bytes.new ≡ chunk_bytes frame.now }
-    ensures here { piece_at frame.now.size k bytes.new
-        ≡ cond (lies_in (cell_at index.now k frame.now.layout.chunk) new.now)
-        (piece_at frame.now.size k bytes.old) frame.now.blank.items }
-    ensures others { (j : ℕ) → j ≢ k
-        → piece_at frame.now.size j bytes.new ≡ piece_at frame.now.size j bytes.old }
-{
-    let at = coords_in_chunk(&frame.layout, index, k);
-    if new.contains(&at) {
-        return;
-    }
-    fill_blanks(bytes, frame, k as usize, 1);
 }
 
 /// Puts the blank into cells that follow one another.

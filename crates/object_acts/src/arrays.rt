@@ -17,3 +17,6 @@ pub use writes::{change_shape, write_value};
 
 /// The most bytes of elements that one request reads or writes: 2^23.
 pub const MAX_BYTES: u64 = 8_388_608;
+
+/// The most bytes of chunks that one request adds to an array: 2^28.
+pub const MAX_NEW_BYTES: u64 = 268_435_456;

@@ -26,11 +26,11 @@ use shapes::Dims;
 use std::alloc::{AllocError, Global};
 
 /// The answer to an operation that changes an object, and the object that follows. No other operation is given. An error
-/// leaves the object as it was, but for what is known of the chunks of an array.
+/// leaves the object as it was.
 ///
 /// # Errors
 ///
-/// Only where memory runs out.
+/// Only where memory runs out, or where a write would add too many bytes of chunks.
 pub fn change(alloc: Global, object: &mut Object, op: &Op) -> Result<Reply, AllocError>
     requires changes { changes_object op.now ≡ true }
     requires sound { IsSoundOp op.now }

@@ -7,6 +7,7 @@
 pub mod arrays;
 mod attribute_acts;
 mod changing;
+mod crossing;
 pub mod depths;
 pub mod exact;
 mod laws;
@@ -17,6 +18,7 @@ mod reading;
 mod trees;
 
 pub use changing::{change, link_made};
+pub use crossing::object_is_sent;
 pub use laws::refusals_leave_the_object;
 pub use objects::{Body, Object};
 pub use reading::reply;

@@ -23,6 +23,10 @@ most_elements = 1048576
 abbrev pub most_bytes : ℕ
 most_bytes = 8388608
 
+-- the most bytes of chunks that one request adds
+abbrev pub most_new_bytes : ℕ
+most_new_bytes = 268435456
+
 abbrev pub slab_refusal : SlabFault → Refusal
 slab_refusal (slab.Syntax byte) = BadSelect select.Syntax None (Some byte) None
 slab_refusal slab.Rank = BadSelect select.Rank None None None

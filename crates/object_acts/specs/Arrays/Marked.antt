@@ -1,12 +1,16 @@
 -- Which chunks requests mark as changed.
-use Rattle.std.specs.Prelude.{◌≡◌, ◌⊎◌, ℕ, Bool, true, not, List, [], Result, Ok, Err}
+use Rattle.std.specs.Prelude.{◌≡◌, ◌⊎◌, ◌≤◌, ◌*◌, ℕ, Bool, true, not, List, [], Result, Ok, Err}
+use Rattle.hdf_types.specs.Reading.{size_of}
+use Rattle.shapes.specs.RowMajor.{cell_count}
 use Rattle.shapes.specs.declared.Shape.{Shape}
 use Rattle.shapes.specs.Shapes.{dims_of}
+use Rattle.chunk_store.specs.Additions.{Adds}
 use Rattle.chunk_store.specs.Grids.{Grid}
 use Rattle.chunk_store.specs.Marks.{Stored, is_dirty, keeps, touches}
 use Rattle.object_ops.specs.declared.ops.Part.{Part}
 use Rattle.object_ops.specs.declared.refusals.Refusal.{Refusal}
 use Rattle.object_ops.specs.declared.replies.Reply.{Reply}
+use Rattle.object_acts.specs.Arrays.Faults.{most_new_bytes}
 use Rattle.object_acts.specs.Arrays.Writes.{Region, region_of}
 use Rattle.object_ops.specs.Replies.{was_done}
 
@@ -34,3 +38,9 @@ is_truncated dims g i = not (keeps i g.chunk (dims_of g.shape) dims)
 -- each chunk that is marked as changed afterwards was so before, or is one of these
 abbrev pub MarksAlone : (List ℕ → Type 0) → Stored → Stored → Type 0
 MarksAlone P old new = (i : List ℕ) → is_dirty new i ≡ true → (is_dirty old i ≡ true) ⊎ P i
+
+-- the chunks that a write of these cells adds have few enough bytes
+pub record AddsFew (s : Stored) (ats : List (List ℕ)) : Type 0 where
+  pub many : ℕ
+  pub adds : Adds s ats many
+  pub few : many * (cell_count s.grid.chunk * size_of s.grid.kind) ≤ most_new_bytes

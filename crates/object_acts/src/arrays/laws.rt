@@ -21,8 +21,9 @@ ghost use Rattle.object_ops.specs.declared.replies.Reply.TheVariants.{Done, Refu
 ghost use Rattle.object_ops.specs.Replies.{nothing, only};
 ghost use Rattle.point_select.specs.declared.TheConstants.{MAX_POINTS};
 ghost use Rattle.hyperslab.specs.declared.TheConstants.{MAX_SELECTED};
-ghost use Rattle.object_acts.specs.declared.arrays.TheConstants.{MAX_BYTES};
+ghost use Rattle.object_acts.specs.declared.arrays.TheConstants.{MAX_BYTES, MAX_NEW_BYTES};
 ghost use Rattle.object_acts.specs.Arrays.Faults.{most_points, most_elements, most_bytes, value_refusal};
+ghost use Rattle.object_acts.specs.Arrays.Faults.{most_new_bytes};
 ghost use Rattle.object_acts.specs.Arrays.Arrays.{bytes_for, points_read, selected_by, value_read};
 ghost use Rattle.object_acts.specs.Arrays.Arrays.{value_written, shape_changed};
 ghost use Rattle.object_acts.specs.Arrays.Writes.{CanWrite, Region, region_of};
@@ -91,4 +92,5 @@ pub fn limits()
     ensures points { (most_points ≡ 65536) × (MAX_POINTS ≡ 65536) }
     ensures elements { (most_elements ≡ 1048576) × (MAX_SELECTED ≡ 1048576) }
     ensures bytes { (most_bytes ≡ 8388608) × (MAX_BYTES ≡ 8388608) }
+    ensures new { (most_new_bytes ≡ 268435456) × (MAX_NEW_BYTES ≡ 268435456) }
 {}

@@ -1,6 +1,6 @@
 //! What requests write to an array.
 
-ghost use Rattle.std.specs.Prelude.{◌≡◌, ◌≤◌, ℕ, List, All, IfOk, true};
+ghost use Rattle.std.specs.Prelude.{◌≡◌, ◌≤◌, ◌*◌, ℕ, List, All, IfOk, OnOk, true};
 ghost use Rattle.serde_json.specs.View.{view};
 ghost use Rattle.json_trees.specs.Shown.{shown};
 ghost use Rattle.json_trees.specs.Faults.{Gives};
@@ -16,12 +16,15 @@ ghost use Rattle.object_ops.specs.Replies.{Follows, was_done};
 ghost use Rattle.object_acts.specs.Arrays.Stops.{Tells, settled};
 ghost use Rattle.object_acts.specs.Arrays.Arrays.{bytes_read, tree_written, slab_written, points_written};
 ghost use Rattle.object_acts.specs.Arrays.Arrays.{value_written, shape_changed};
-ghost use Rattle.object_acts.specs.Arrays.Marked.{IsDone, MarksAlone, cells_in, is_truncated, is_written};
+ghost use Rattle.object_acts.specs.Arrays.Marked.{AddsFew, IsDone, MarksAlone, cells_in, is_truncated};
+ghost use Rattle.object_acts.specs.Arrays.Marked.{is_written, selected};
+ghost use Rattle.object_acts.specs.Arrays.Faults.{most_new_bytes};
+ghost use Rattle.hdf_types.specs.Reading.{size_of};
 ghost use Rattle.object_acts.specs.Arrays.Writes.{points_region, slab_region};
 
-use crate::arrays::MAX_BYTES;
 use crate::arrays::bytes::{bytes_of, too_many_bytes};
 use crate::arrays::faults::{Stop, refused_dims, refused_slab, settle};
+use crate::arrays::{MAX_BYTES, MAX_NEW_BYTES};
 use chunk_store::Array;
 use hdf_values::read_nested;
 use hyperslab::{Slab, from_lists};
@@ -39,7 +42,8 @@ use std::alloc::{AllocError, Global};
 ///
 /// # Errors
 ///
-/// Only where memory runs out; nothing is written then.
+/// Only where memory runs out, or where the chunks that the write adds have more than [`MAX_NEW_BYTES`] bytes; then the
+/// array is as it was.
 pub fn write_value(
     alloc: Global,
     array: &mut Array,
@@ -52,6 +56,7 @@ pub fn write_value(
         → IsTracked held array.new }
     ensures alone { MarksAlone (λ i. IsDone result
         × (is_written part.now array.old.grid i ≡ true)) array.old array.new }
+    ensures few { IsDone result → AddsFew array.old (selected part.now array.old.grid.shape) }
 {
     match part {
         Part::Slab { start, stop, step } => write_lists(
@@ -118,6 +123,9 @@ fn write_lists(
         (cells_in (slab_region array.old.grid.shape (lists_slab array.old.grid.shape
         (shown start.entry) (shown stop.entry) (shown step.entry)))) i ≡ true))
         array.old array.new }
+    ensures few { IsDone result → AddsFew array.old (cells_in (slab_region array.old.grid.shape
+        (lists_slab array.old.grid.shape
+        (shown start.entry) (shown stop.entry) (shown step.entry)))) }
 {
     array.is_whole();
     match from_lists(start, stop, step, array.shape()) {
@@ -136,8 +144,12 @@ fn write_slab(alloc: Global, array: &mut Array, slab: &Slab, value: &Value) -> R
         → IsTracked held array.new }
     ensures alone { MarksAlone (λ i. IsDone (settled result) × (touches array.old.grid.chunk
         (slab_cells slab.now array.old.grid.shape) i ≡ true)) array.old array.new }
+    ensures few { IsDone (settled result) → AddsFew array.old
+        (slab_cells slab.now array.old.grid.shape) }
 {
     let bytes = elements(alloc, array, slab.count(), &slab.extents(), value)?;
+    let new = array.slab_adds(alloc, slab)?;
+    few_enough(array, new)?;
     array.write_slab(alloc, slab, bytes.as_slice())?;
     Ok(Reply::done(alloc, 200))
 }
@@ -156,12 +168,27 @@ fn write_points(
     ensures alone { MarksAlone (λ i. IsDone (settled result) × (touches array.old.grid.chunk
         (cells_in (points_region (points_of (view points.now) array.old.grid.shape))) i ≡ true))
         array.old array.new }
+    ensures few { IsDone (settled result) → AddsFew array.old
+        (cells_in (points_region (points_of (view points.now) array.old.grid.shape))) }
 {
     let points = read_points(alloc, points, array.shape())?;
     let many = points.len() as u64;
     let bytes = elements(alloc, array, many, &Dims::repeated(many, 1), value)?;
+    let new = array.points_add(alloc, &points)?;
+    few_enough(array, new)?;
     array.write_points(alloc, &points, bytes.as_slice())?;
     Ok(Reply::done(alloc, 200))
+}
+
+/// Finds no memory for so many chunks of an array, where they have more than [`MAX_NEW_BYTES`] bytes.
+fn few_enough(array: &Array, many: u64) -> Result<(), AllocError>
+    ensures { OnOk result (many * (cell_count array.now.grid.chunk * size_of array.now.grid.kind)
+        ≤ most_new_bytes) }
+{
+    if many.saturating_mul(array.chunk_size()) > MAX_NEW_BYTES {
+        return Err(AllocError);
+    }
+    Ok(())
 }
 
 /// The bytes of the elements of a tree for so many cells of an array.

@@ -6,5 +6,5 @@ use Rattle.chunk_store.proofs.marks.first_known.Goals as goal
 
 pub loop-index-init : goal.loop-index-init
 loop-index-init c =
-    sym (ap first_key (c.rest_after-index-items.ensures.same is_some))
+    sym (ap first_key (c.rest_after-index-items.ensures.same is_some (λ e. e.1.dirty)))
     ∙ ap (λ es. first_key (filter (is_later is_some (option_map (λ d. d.now) c.args.after)) (flags_of es))) (sym c.into_iter-index-iterator.ensures.into_iter_gives)

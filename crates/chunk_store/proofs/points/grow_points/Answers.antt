@@ -1,12 +1,6 @@
-use Rattle.std.proofs.Common.{◌+◌}
-use Rattle.chunk_store.proofs.PointLemmas.{point_grown, point_there, points_part}
+use Rattle.chunk_store.proofs.ChangeLemmas.{keeps_both}
+use Rattle.chunk_store.proofs.PointLemmas.{point_grown, point_there}
 use Rattle.chunk_store.proofs.points.grow_points.Goals as goal
-
-pub returns-in_err-add_chunk-clause-grown : goal.returns-in_err-add_chunk-clause-grown
-returns-in_err-add_chunk-clause-grown c =
-    points_part c.args.chunks.now c.add_chunk.new.chunks c.args.frame.now c.args.points.now (c.loop-at.at-index + 1)
-    (point_grown c.args.chunks.now c.loop-at.chunks c.add_chunk.new.chunks c.args.frame.now c.args.points.now c.loop-at.at-index c.at-item.result c.loop-at-test.true c.at-item.is c.chunk_of.result c.chunk_of.ensures c.loop-at.invariant.grown
-    c.add_chunk.ensures.same c.add_chunk.ensures.full c.add_chunk.ensures.noted)
 
 pub loop-at-preserved : goal.loop-at-preserved
 loop-at-preserved c =
@@ -20,5 +14,14 @@ loop-at-preserved c =
     let index = c.chunk_of.result in
     record {
       grown = point_grown m n p f ats k at c.loop-at-test.true c.at-item.is index c.chunk_of.ensures c.loop-at.invariant.grown c.add_chunk.ensures.same c.add_chunk.ensures.full c.add_chunk.ensures.noted;
-      there = point_there m n p f ats k at c.loop-at-test.true c.at-item.is index c.chunk_of.ensures c.loop-at.invariant.there c.add_chunk.ensures.more c.in_ok-add_chunk.ensures.there;
+      there = point_there n p f ats k at c.loop-at-test.true c.at-item.is index c.chunk_of.ensures c.loop-at.invariant.there c.add_chunk.ensures.more c.in_ok-add_chunk.ensures.there;
+      undone = λ before was. c.add_chunk.ensures.undone before (c.loop-at.invariant.undone before was);
+      keeps = keeps_both c.args.changes.now c.loop-at.changes c.add_chunk.new.changes c.loop-at.invariant.keeps c.add_chunk.ensures.keeps;
+      listed = point_there c.loop-at.changes.listed c.add_chunk.new.changes.listed f ats k at c.loop-at-test.true c.at-item.is index c.chunk_of.ensures c.loop-at.invariant.listed c.add_chunk.ensures.keeps.more c.in_ok-add_chunk.ensures.listed;
     }
+
+pub returns-in_err-add_chunk-clause-undone : goal.returns-in_err-add_chunk-clause-undone
+returns-in_err-add_chunk-clause-undone c = λ before was. c.add_chunk.ensures.undone before (c.loop-at.invariant.undone before was)
+
+pub returns-in_err-add_chunk-clause-keeps : goal.returns-in_err-add_chunk-clause-keeps
+returns-in_err-add_chunk-clause-keeps c = keeps_both c.args.changes.now c.loop-at.changes c.add_chunk.new.changes c.loop-at.invariant.keeps c.add_chunk.ensures.keeps

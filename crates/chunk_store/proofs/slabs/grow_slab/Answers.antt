@@ -1,8 +1,9 @@
-use Rattle.std.proofs.Common.{◌≡◌, ◌≤◌, ◌<◌, List, ℕ, ap, ◌∙◌, arith}
+use Rattle.std.proofs.Common.{◌≡◌, ◌≤◌, ◌<◌, List, ℕ, refl, ap, ◌∙◌, arith}
 use Rattle.hyperslab.specs.Selected.{FitsIn, selected}
 use Rattle.chunk_store.specs.Buffers.{IsGrown}
 use Rattle.chunk_store.specs.Marks.{touches}
 use Rattle.chunk_store.specs.Touched.{touched_at, touched_count}
+use Rattle.chunk_store.proofs.ChangeLemmas.{keeps_both}
 use Rattle.chunk_store.proofs.TouchLemmas.{same_count, same_at}
 use Rattle.chunk_store.proofs.SlabLemmas.{chunk_touched, grow_first, grow_more, held_more, held_done}
 use Rattle.chunk_store.proofs.slabs.grow_slab.Goals.{After-add_chunk}
@@ -26,13 +27,13 @@ loop-number-init c = record {
   full = c.requires.full;
   grown = λ dims fits. grow_first c.args.chunks.now c.args.frame.now (selected c.args.slab.now dims) c.requires.full;
   held = λ b low. absurd (omega (arith, low));
+  undone = λ before was. was;
+  keeps = record { all = refl; more = λ i there. there };
+  listed = λ b low. absurd (omega (arith, low));
 }
 
 pub add_chunk-requires-clause-full : goal.add_chunk-requires-clause-full
 add_chunk-requires-clause-full c = c.loop-number.invariant.full
-
-pub returns-in_err-add_chunk-clause-grown : goal.returns-in_err-add_chunk-clause-grown
-returns-in_err-add_chunk-clause-grown c = grown (goal.at.returns-in_err-add_chunk-clause-grown c).After-add_chunk
 
 pub loop-number-preserved : goal.loop-number-preserved
 loop-number-preserved c =
@@ -41,6 +42,9 @@ loop-number-preserved c =
       full = c.add_chunk.ensures.full;
       grown = grown at.After-add_chunk;
       held = held_more c.loop-number.chunks c.add_chunk.new.chunks c.args.slab.now c.args.frame.now.layout.chunk c.index-index.result c.loop-number.number (same at.After-add_chunk) c.loop-number.invariant.held c.add_chunk.ensures.more c.in_ok-add_chunk.ensures.there;
+      undone = λ before was. c.add_chunk.ensures.undone before (c.loop-number.invariant.undone before was);
+      keeps = keeps_both c.args.changes.now c.loop-number.changes c.add_chunk.new.changes c.loop-number.invariant.keeps c.add_chunk.ensures.keeps;
+      listed = held_more c.loop-number.changes.listed c.add_chunk.new.changes.listed c.args.slab.now c.args.frame.now.layout.chunk c.index-index.result c.loop-number.number (same at.After-add_chunk) c.loop-number.invariant.listed c.add_chunk.ensures.keeps.more c.in_ok-add_chunk.ensures.listed;
     }
 
 pub returns-clause-grown : goal.returns-clause-grown
@@ -53,3 +57,17 @@ returns-clause-there c =
     let t = c.new-touched.ensures in
     let all : touched_count c.args.slab.now c.args.frame.now.layout.chunk ≤ c.loop-number.number = omega (arith, c.loop-number-test.false, c.many-number-end.ensures, same_count c.new-touched.result s f.layout.chunk t.slab t.chunk) in
     held_done c.loop-number.chunks f s c.loop-number.number c.requires.slab t.touched all c.loop-number.invariant.held
+
+pub returns-in_err-add_chunk-clause-undone : goal.returns-in_err-add_chunk-clause-undone
+returns-in_err-add_chunk-clause-undone c = λ before was. c.add_chunk.ensures.undone before (c.loop-number.invariant.undone before was)
+
+pub returns-clause-listed : goal.returns-clause-listed
+returns-clause-listed c =
+    let s = c.args.slab.now in
+    let f = c.args.frame.now in
+    let t = c.new-touched.ensures in
+    let all : touched_count c.args.slab.now c.args.frame.now.layout.chunk ≤ c.loop-number.number = omega (arith, c.loop-number-test.false, c.many-number-end.ensures, same_count c.new-touched.result s f.layout.chunk t.slab t.chunk) in
+    held_done c.loop-number.changes.listed f s c.loop-number.number c.requires.slab t.touched all c.loop-number.invariant.listed
+
+pub returns-in_err-add_chunk-clause-keeps : goal.returns-in_err-add_chunk-clause-keeps
+returns-in_err-add_chunk-clause-keeps c = keeps_both c.args.changes.now c.loop-number.changes c.add_chunk.new.changes c.loop-number.invariant.keeps c.add_chunk.ensures.keeps

@@ -14,7 +14,7 @@ returns c =
     let a = c.self.inside in
     let old = stored_in (kind_of a.elem) a.shape a.given a.frame a.chunks in
     let after = option_map (λ d. d.now) c.args.after in
-    let indexes = known_indexes (kind_of a.elem) a.shape a.given a.frame a.chunks c.self.invariant in
+    let indexes = known_indexes (kind_of a.elem) a.shape a.given a.frame a.chunks c.self.invariant.0 in
     let next : IsNextChunk old after c.first_known.result =
     subst (λ (r : Option (List ℕ)). IsNextChunk (stored_in (kind_of a.elem) a.shape a.given a.frame a.chunks) (option_map (λ d. d.now) c.args.after) r) (sym c.first_known.ensures.first)
     (next_from is_some refl old after indexes (subst (IsStrictlySortedBy list_order) (sym (keys_same a.chunks.entries)) c.first_known.ensures.ordered)) in

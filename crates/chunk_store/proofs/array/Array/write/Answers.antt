@@ -3,61 +3,65 @@ use Rattle.hdf_types.specs.Views.{elem as kind_of}
 use Rattle.hdf_values.specs.Nested.{AreEncoded}
 use Rattle.chunk_store.specs.Marks.{Stored}
 use Rattle.chunk_store.specs.Picked.{picked, PicksIn}
-use Rattle.chunk_store.proofs.PartLemmas.{begins_from, frame_sound, kept_grown, kept_written, writes_from}
+use Rattle.chunk_store.proofs.ChangeLemmas.{listed_same, listed_written}
+use Rattle.chunk_store.proofs.PartLemmas.{frame_sound, touched_cell, kept_grown, kept_same, kept_written, same_grid, same_marks, same_tracks, writes_from}
 use Rattle.chunk_store.proofs.PickLemmas.{picked_inside}
 use Rattle.chunk_store.proofs.array.Array.write.Goals as goal
 use Rattle.containers.proofs.Plain.{on_err}
 
-pub grow-requires-clause-frame : goal.grow-requires-clause-frame
-grow-requires-clause-frame c =
+pub hold-requires-clause-frame : goal.hold-requires-clause-frame
+hold-requires-clause-frame c =
     let a = c.self.inside in
-    frame_sound (kind_of a.elem) a.shape a.given a.frame a.chunks c.self.invariant
+    frame_sound (kind_of a.elem) a.shape a.given a.frame a.chunks c.self.invariant.0
 
 pub invariant_of-self : goal.invariant_of-self
 invariant_of-self c =
-    let a = c.self.inside in
-    let p = c.args.picks.now in
-    kept_grown (kind_of a.elem) a.shape a.given a.frame a.chunks c.self.invariant (picked p a.shape) c.grow.new.chunks (picked_inside p a.shape (subst (λ (x : Stored). PicksIn c.args.picks.now x.grid.shape) (sym c.self.view_is) c.requires.picks)) c.grow.ensures.grown
+    let a = c.self.inside in (
+      kept_same (kind_of a.elem) a.shape a.given a.frame a.chunks c.self.invariant.0 c.hold.new.chunks c.in_err-hold.ensures.kept,
+      listed_same a.shape a.frame a.chunks c.hold.new.chunks a.changes c.hold.new.changes c.in_err-hold.ensures.kept c.hold.ensures.keeps c.self.invariant.1,
+    )
 
-pub returns-in_err-grow-clause-kept : goal.returns-in_err-grow-clause-kept
-returns-in_err-grow-clause-kept c =
+pub returns-in_err-hold-clause-kept : goal.returns-in_err-hold-clause-kept
+returns-in_err-hold-clause-kept c =
     let a = c.self.inside in
-    on_err c.from_residual.result (begins_from (kind_of a.elem) a.shape a.given a.frame a.chunks c.self.invariant c.args.self.now c.self.view_is c.args.picks.now (subst (λ (x : Stored). PicksIn c.args.picks.now x.grid.shape) (sym c.self.view_is) c.requires.picks) c.grow.new.chunks c.grow.ensures.grown).kept
+    on_err c.from_residual.result (same_grid (kind_of a.elem) a.shape a.given a.frame a.chunks c.self.invariant.0 c.args.self.now c.self.view_is c.hold.new.chunks c.in_err-hold.ensures.kept)
 
-pub returns-in_err-grow-clause-begun : goal.returns-in_err-grow-clause-begun
-returns-in_err-grow-clause-begun c =
+pub returns-in_err-hold-clause-unmarked : goal.returns-in_err-hold-clause-unmarked
+returns-in_err-hold-clause-unmarked c =
     let a = c.self.inside in
-    on_err c.from_residual.result (begins_from (kind_of a.elem) a.shape a.given a.frame a.chunks c.self.invariant c.args.self.now c.self.view_is c.args.picks.now (subst (λ (x : Stored). PicksIn c.args.picks.now x.grid.shape) (sym c.self.view_is) c.requires.picks) c.grow.new.chunks c.grow.ensures.grown).begun
+    on_err c.from_residual.result (same_marks (kind_of a.elem) a.shape a.given a.frame a.chunks c.self.invariant.0 c.args.self.now c.self.view_is c.hold.new.chunks c.in_err-hold.ensures.kept)
 
-pub returns-in_err-grow-clause-tracked : goal.returns-in_err-grow-clause-tracked
-returns-in_err-grow-clause-tracked c =
+pub returns-in_err-hold-clause-tracked : goal.returns-in_err-hold-clause-tracked
+returns-in_err-hold-clause-tracked c =
     let a = c.self.inside in
-    (begins_from (kind_of a.elem) a.shape a.given a.frame a.chunks c.self.invariant c.args.self.now c.self.view_is c.args.picks.now (subst (λ (x : Stored). PicksIn c.args.picks.now x.grid.shape) (sym c.self.view_is) c.requires.picks) c.grow.new.chunks c.grow.ensures.grown).tracked
+    same_tracks (kind_of a.elem) a.shape a.given a.frame a.chunks c.self.invariant.0 c.args.self.now c.self.view_is c.hold.new.chunks c.in_err-hold.ensures.kept
 
 pub write-requires-clause-frame : goal.write-requires-clause-frame
 write-requires-clause-frame c =
     let a = c.self.inside in
-    frame_sound (kind_of a.elem) a.shape a.given a.frame a.chunks c.self.invariant
+    frame_sound (kind_of a.elem) a.shape a.given a.frame a.chunks c.self.invariant.0
 
 pub invariant_of-self-2 : goal.invariant_of-self-2
 invariant_of-self-2 c =
     let a = c.self.inside in
     let p = c.args.picks.now in
-    let each = picked_inside p a.shape (subst (λ (x : Stored). PicksIn c.args.picks.now x.grid.shape) (sym c.self.view_is) c.requires.picks) in
-    kept_written (kind_of a.elem) a.shape a.given a.frame c.grow.new.chunks (kept_grown (kind_of a.elem) a.shape a.given a.frame a.chunks c.self.invariant (picked p a.shape) c.grow.new.chunks each c.grow.ensures.grown)
-    (picked p a.shape) c.args.bytes.now c.write.new.chunks each c.write.ensures (subst (λ (x : Stored). AreEncoded x.grid.kind (length (picked p x.grid.shape)) c.args.bytes.now) (sym c.self.view_is) c.requires.encoded)
+    let each = picked_inside p a.shape (subst (λ (x : Stored). PicksIn c.args.picks.now x.grid.shape) (sym c.self.view_is) c.requires.picks) in (
+      kept_written (kind_of a.elem) a.shape a.given a.frame c.hold.new.chunks (kept_grown (kind_of a.elem) a.shape a.given a.frame a.chunks c.self.invariant.0 (picked p a.shape) c.hold.new.chunks each c.in_ok-hold.ensures.grown)
+          (picked p a.shape) c.args.bytes.now c.write.new.chunks each c.write.ensures (subst (λ (x : Stored). AreEncoded x.grid.kind (length (picked p x.grid.shape)) c.args.bytes.now) (sym c.self.view_is) c.requires.encoded),
+      listed_written a.shape a.frame a.chunks c.hold.new.chunks c.write.new.chunks a.changes c.hold.new.changes (picked p a.shape) (touched_cell (kind_of a.elem) a.shape a.given a.frame a.chunks c.self.invariant.0 (picked p a.shape) each) c.in_ok-hold.ensures.grown.noted c.write.ensures.flags c.in_ok-hold.ensures.listed c.hold.ensures.keeps c.self.invariant.1,
+    )
 
 pub returns-clause-done : goal.returns-clause-done
 returns-clause-done c =
     let a = c.self.inside in
-    (writes_from (kind_of a.elem) a.shape a.given a.frame a.chunks c.self.invariant c.args.picks.now c.args.bytes.now c.grow.new.chunks c.write.new.chunks (subst (λ (x : Stored). PicksIn c.args.picks.now x.grid.shape) (sym c.self.view_is) c.requires.picks) c.grow.ensures.grown c.write.ensures c.args.self.now c.self.view_is).done
+    (writes_from (kind_of a.elem) a.shape a.given a.frame a.chunks c.self.invariant.0 c.args.picks.now c.args.bytes.now c.hold.new.chunks c.write.new.chunks (subst (λ (x : Stored). PicksIn c.args.picks.now x.grid.shape) (sym c.self.view_is) c.requires.picks) c.in_ok-hold.ensures.grown c.write.ensures c.args.self.now c.self.view_is).done
 
 pub returns-clause-marks : goal.returns-clause-marks
 returns-clause-marks c =
     let a = c.self.inside in
-    (writes_from (kind_of a.elem) a.shape a.given a.frame a.chunks c.self.invariant c.args.picks.now c.args.bytes.now c.grow.new.chunks c.write.new.chunks (subst (λ (x : Stored). PicksIn c.args.picks.now x.grid.shape) (sym c.self.view_is) c.requires.picks) c.grow.ensures.grown c.write.ensures c.args.self.now c.self.view_is).marks
+    (writes_from (kind_of a.elem) a.shape a.given a.frame a.chunks c.self.invariant.0 c.args.picks.now c.args.bytes.now c.hold.new.chunks c.write.new.chunks (subst (λ (x : Stored). PicksIn c.args.picks.now x.grid.shape) (sym c.self.view_is) c.requires.picks) c.in_ok-hold.ensures.grown c.write.ensures c.args.self.now c.self.view_is).marks
 
 pub returns-clause-tracked : goal.returns-clause-tracked
 returns-clause-tracked c =
     let a = c.self.inside in
-    (writes_from (kind_of a.elem) a.shape a.given a.frame a.chunks c.self.invariant c.args.picks.now c.args.bytes.now c.grow.new.chunks c.write.new.chunks (subst (λ (x : Stored). PicksIn c.args.picks.now x.grid.shape) (sym c.self.view_is) c.requires.picks) c.grow.ensures.grown c.write.ensures c.args.self.now c.self.view_is).tracked
+    (writes_from (kind_of a.elem) a.shape a.given a.frame a.chunks c.self.invariant.0 c.args.picks.now c.args.bytes.now c.hold.new.chunks c.write.new.chunks (subst (λ (x : Stored). PicksIn c.args.picks.now x.grid.shape) (sym c.self.view_is) c.requires.picks) c.in_ok-hold.ensures.grown c.write.ensures c.args.self.now c.self.view_is).tracked

@@ -7,3 +7,8 @@ pub write_points-requires-clause-inside : goal.write_points-requires-clause-insi
 write_points-requires-clause-inside c =
     let P : Shape → Type 0 = λ s. All (λ at. LiesIn at s) c.in_ok-points.points in
     subst P c.shape.ensures c.in_ok-points.ensures.inside
+
+pub points_add-requires : goal.points_add-requires
+points_add-requires c =
+    let P : Shape → Type 0 = λ s. All (λ at. LiesIn at s) c.in_ok-points.points in
+    subst P c.shape.ensures c.in_ok-points.ensures.inside

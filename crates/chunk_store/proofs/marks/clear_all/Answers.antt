@@ -2,7 +2,7 @@ use Rattle.std.proofs.Common.{true, false, cond, rules, ◌∙◌}
 use Rattle.chunk_store.specs.Buffers.{has_cell}
 use Rattle.chunk_store.specs.Cells.{find_in}
 use Rattle.chunk_store.proofs.MarkLemmas.{retained, dirty_cleared}
-use Rattle.chunk_store.proofs.marks.clear_flags.Goals as goal
+use Rattle.chunk_store.proofs.marks.clear_all.Goals as goal
 
 pub returns : goal.returns
 returns c = λ q.
