@@ -18,7 +18,7 @@ ghost use Rattle.domains.specs.Contents.{most_nodes, only_root, raised, with_nod
 use crate::children::{child_list, has_child};
 use crate::classes::{Node, NodeClass};
 use crate::faults::CatFault;
-use access_lists::{AccessList, Rights};
+use access_lists::{AccessList, ListFault, Rights};
 use containers::text_maps::TextMap;
 use object_ids::{DomainPath, Kind, LimitKind, Name, ObjectId};
 use serde_json::Value;
@@ -429,10 +429,11 @@ fn put_entry(node: &mut Node, name: &Name, rights: Rights) -> Result<(), CatFaul
         });
     }
     let name = name.copy()?;
-    // There is room, so that only memory can be wanting.
     match node.list.put(name, rights) {
         Ok(()) => Ok(()),
-        Err(_) => Err(CatFault::NoMemory),
+        Err(ListFault::NoMemory) => Err(CatFault::NoMemory),
+        // There is room.
+        Err(ListFault::Limit) => unreachable!(),
     }
 }
 

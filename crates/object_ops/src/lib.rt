@@ -13,6 +13,7 @@ mod refusals;
 mod replies;
 mod rights;
 mod select_trees;
+mod sending;
 mod value_trees;
 mod words;
 
@@ -23,4 +24,5 @@ pub use refusal_trees::refusal_json;
 pub use refusals::Refusal;
 pub use replies::Reply;
 pub use rights::{On, needs, on_text};
+pub use sending::{op_is_sent, reply_is_sent};
 pub use words::{FieldWord, SelectWord, ShapeWord, ValueWord};

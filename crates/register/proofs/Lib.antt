@@ -12,5 +12,9 @@ pub mod Keeping
 pub mod Installing
 pub mod Describing
 pub mod Saying
+pub mod Leaving
+pub mod VerdictLemmas
+pub mod SinceLemmas
 pub mod Texts
+pub mod PathNames
 pub mod OfInstalled

@@ -54,6 +54,10 @@ module _ (P Q : Record → Type 0) (K L : List ℕ → Type 0) where
     a.2,
   )
 
+-- nothing at all
+pub no_more : (Right : Record → Type 0) (Due : List ℕ → Type 0) (old new : List Record) → new ≡ old → Adds Right Due false old new
+no_more Right Due old new e = ([], record { right = tt; once = tt; all = λ w key due. contrary false (IsAmong key []) w refl }, e ∙ sym (append-nil old))
+
 -- ---- one record
 
 module _ (due : Bool) (key body : List ℕ) (old new : List Record) where

@@ -27,7 +27,7 @@ all_later c run serial h path number root at = later run serial root (h path num
 -- ---- another catalogue
 
 -- a domain after a node is put is that node, or was there
-put_domain_was : (c : Contents) (path : List ℕ) (node : Node) (q : List ℕ) (number : ℕ) (root : Id) → IsDomainAt (with_node c path node) q number root
+pub put_domain_was : (c : Contents) (path : List ℕ) (node : Node) (q : List ℕ) (number : ℕ) (root : Id) → IsDomainAt (with_node c path node) q number root
     → (node.class ≡ Domain number root) ⊎ IsDomainAt c q number root
 put_domain_was c path node q number root at =
     ⊎_elim
@@ -51,7 +51,7 @@ with_domain c path owner run serial h q number root at =
     (λ was. later run serial root (h q number root was))
     (put_domain_was c path (new_domain c.next run serial owner) q number root at)
 
-was_class : (c : Contents) (path q : List ℕ) (class : NodeClass) → class_at (without_node c path) q ≡ Some class → class_at c q ≡ Some class
+pub was_class : (c : Contents) (path q : List ℕ) (class : NodeClass) → class_at (without_node c path) q ≡ Some class → class_at c q ≡ Some class
 unfolding IsOther
 was_class c path q class at =
     ⊎_elim
@@ -63,7 +63,7 @@ was_class c path q class at =
 pub without : (c : Contents) (path : List ℕ) (run serial : ℕ) → AreGivenOut c run serial → AreGivenOut (without_node c path) run serial
 without c path run serial h q number root at = h q number root (was_class c path q (Domain number root) at)
 
-entry_class : (c : Contents) (path name : List ℕ) (rights : Rights) (o : Option Node) → get c.nodes path ≡ o → (q : List ℕ)
+pub entry_class : (c : Contents) (path name : List ℕ) (rights : Rights) (o : Option Node) → get c.nodes path ≡ o → (q : List ℕ)
     → class_at (record { nodes = entry_put c.nodes path o name rights; next = c.next }) q ≡ class_at c q
 entry_class c path name rights None e q = refl
 entry_class c path name rights (Some old) e q = ⊎_elim

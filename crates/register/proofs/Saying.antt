@@ -32,15 +32,13 @@ use Rattle.register.specs.Decided.{Decides, RegisterState, at_maybe, changed_at,
 use Rattle.register.specs.Kept.{IsHeldNode, RegisterSays, is_marked, is_marked_in}
 use Rattle.register.specs.Laws.{DecisionsKeepWhatIsSaid}
 use Rattle.register.specs.Marks.{Marked, all_marks, with_domain, with_path}
+use Rattle.register.specs.Since.{StillSays}
 use Rattle.register.specs.declared.verdicts.Verdict.{Verdict}
 use Rattle.register.specs.declared.verdicts.Verdict.TheVariants.{Granted, Answered, Denied, Refused, NoMemory}
 use Rattle.containers.proofs.Passing.{by_bool, contrary}
 
-abbrev pub StillSays : RegisterState → RegisterState → Type 0
-StillSays d new = (held : Held) → RegisterSays d held → RegisterSays new held
-
 -- serials, places and tickets aren't held
-as_counted : (d : RegisterState) (serial places : ℕ) (issued : List ℕ) → StillSays d (record d { serial = serial; places = places; issued = issued })
+pub as_counted : (d : RegisterState) (serial places : ℕ) (issued : List ℕ) → StillSays d (record d { serial = serial; places = places; issued = issued })
 as_counted d serial places issued held says = record { run = says.run; next = says.next; nodes = says.nodes }
 
 passed_says : (d : RegisterState) → StillSays d (passed d)

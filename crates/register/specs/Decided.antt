@@ -275,6 +275,15 @@ abbrev pub Decides : RegisterState → Caller → Request → Verdict → Regist
 Decides d caller request NoMemory new = (is_of_nodes request.op ≡ true) × (IsDenial (decided d caller request).0 → ⊥) × (new ≡ passed d)
 Decides d caller request verdict new = (verdict, new) ≡ decided d caller request
 
+-- the register after a verdict: where memory ran out, the place alone was taken
+abbrev pub left_by : RegisterState → Caller → Request → Verdict → RegisterState
+left_by d caller request NoMemory = passed d
+left_by d caller request verdict = (decided d caller request).1
+
+-- a cut was drawn, with a ticket of each lane
+abbrev pub drawn : RegisterState → RegisterState
+drawn d = record d { issued = all_counted d.issued }
+
 -- the first serial of a run; of run 0 the domains' roots have those before it
 abbrev pub first_serial : Contents → ℕ → ℕ
 first_serial catalogue run = if run == 0 then domain_count catalogue else 0

@@ -11,6 +11,7 @@ use Rattle.register.specs.Tickets.{AreEach, AreInLanes, Issue}
 use Rattle.register.specs.declared.tickets.Turn.{Turn}
 use Rattle.register.specs.declared.verdicts.Verdict.{Verdict}
 use Rattle.register.specs.declared.verdicts.Verdict.TheVariants.{Granted}
+use Rattle.domains.specs.Contents.{IsDomainAt}
 use Rattle.register.specs.Decided.{RegisterState}
 
 -- a link is put in the lane of its group, and what is made in that of the new object; every other step is done in the lane of the object that it
@@ -54,3 +55,14 @@ pub record IsIssueOf (d : RegisterState) (op : Op) (issue : Issue) : Type 0 wher
 abbrev pub IfGranted : Verdict → (Issue → Type 0) → Type 0
 IfGranted (Granted issue) P = P issue
 IfGranted verdict P = Unit {0}
+
+-- the turns that a verdict gives
+abbrev pub turns_of : Verdict → List Turn
+turns_of (Granted issue) = issue.left
+turns_of verdict = []
+
+-- it is of the domain that stood at the path, and tells the run and the next serial that the register has afterwards
+pub record IsGrantOf (old new : RegisterState) (path : List ℕ) (issue : Issue) : Type 0 where
+  pub domain : IsDomainAt old.catalogue path issue.grant.number issue.grant.root
+  pub run : issue.grant.run ≡ new.run
+  pub serial : issue.grant.serial ≡ new.serial

@@ -3,7 +3,8 @@ pub mod Marks
 pub mod Decided
 pub mod Grants
 pub mod Looks
-pub mod Laws
 pub mod Kept
+pub mod Since
+pub mod Laws
 pub mod Cutting
 pub mod Installed

@@ -45,3 +45,8 @@ AreInLanes lanes (t ∷ ts) = (t.lane < lanes) × AreInLanes lanes ts
 abbrev pub AreEach : ℕ → ℕ → List Turn → Type 0
 AreEach lanes lane [] = lane ≡ lanes
 AreEach lanes lane (t ∷ ts) = (t.lane ≡ lane) × AreEach lanes (suc lane) ts
+
+-- each turn has the next ticket of its lane, and no other ticket was given
+abbrev pub Issues : List ℕ → List Turn → List ℕ → Type 0
+Issues counts [] after = after ≡ counts
+Issues counts (t ∷ ts) after = (t.ticket ≡ slice_index counts t.lane) × Issues (slice_set counts t.lane (t.ticket + 1)) ts after

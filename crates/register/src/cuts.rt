@@ -7,7 +7,7 @@ ghost use Rattle.object_ids.specs.Paths.{path_of};
 ghost use Rattle.register.specs.Cutting.{AddsAllNodes, AddsNode, AddsNodes, AddsNumbers, AddsOne};
 ghost use Rattle.register.specs.Cutting.{AddsRegister, AddsWanted, IsNodeBody};
 ghost use Rattle.register.specs.Cutting.{is_key_wanted, is_of_all, is_of_paths, is_wanted};
-ghost use Rattle.object_records.specs.Keys.Keys.{next_key, run_key};
+ghost use Rattle.object_records.specs.Keys.Keys.{next_key, node_key, run_key};
 ghost use Rattle.object_records.specs.Keys.Numbers.{next_bytes, run_bytes};
 
 use crate::marks::Marks;
@@ -16,12 +16,34 @@ use domains::records::node_text;
 use domains::{Catalogue, nodes_of_catalogues};
 use flush_journal::Batch;
 use flush_journal::cuts::add_record;
-use object_ids::read_path;
+use object_ids::{PathFault, read_path};
 use object_records::keys::{next_body, next_key, node_key, run_body, run_key};
 use std::alloc::{AllocError, Global};
 
-/// Appends the records that are marked: that of the run, that of the next domain's number, and those of nodes.
-pub(crate) fn append_records(
+/// Appends the records that are marked; an error leaves the batch as it was.
+pub(crate) fn append_whole(
+    alloc: Global,
+    run: u32,
+    catalogue: &Catalogue,
+    marks: &Marks,
+    into: &mut Batch,
+) -> Result<(), AllocError>
+    ensures ok { OnOk result (AddsRegister run catalogue.now marks.now true
+        (records into.old) (records into.new)) }
+    ensures err { OnErr result (records into.new ≡ records into.old) }
+{
+    let size = into.size();
+    match append_records(alloc, run, catalogue, marks, into) {
+        Ok(()) => Ok(()),
+        Err(error) => {
+            into.truncate(size);
+            Err(error)
+        }
+    }
+}
+
+// Those of the run, of the next domain's number, and of nodes.
+fn append_records(
     alloc: Global,
     run: u32,
     catalogue: &Catalogue,
@@ -179,11 +201,20 @@ fn append_node(
     ensures err { OnErr result (records into.new ≡ records into.old) }
 {
     let body = node_body(alloc, catalogue, path)?;
-    let Ok(path) = read_path(alloc, path) else {
-        return Err(AllocError);
-    };
-    let key = node_key(alloc, &path)?;
+    let key = key_of_path(alloc, path)?;
     add_record(into, key.as_slice(), body.as_bytes())
+}
+
+// The key of the record of a path.
+fn key_of_path(alloc: Global, path: &str) -> Result<Vec<u8>, AllocError>
+    requires { path_of path.now ≡ Some path.now }
+    ensures { IfOk result (λ key. key.items ≡ node_key path.now) }
+{
+    match read_path(alloc, path) {
+        Ok(path) => node_key(alloc, &path),
+        Err(PathFault::NoMemory) => Err(AllocError),
+        Err(PathFault::BadPath) => unreachable!(),
+    }
 }
 
 // The body of the record of a path.

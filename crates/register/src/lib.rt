@@ -13,11 +13,16 @@ mod looking;
 mod marks;
 mod register;
 mod replies;
+mod sending;
 mod tickets;
 mod verdicts;
 
 pub use installs::InstallFault;
-pub use laws::{decisions_keep, kept_registers_are_described};
+pub use laws::{
+    cuts_tell_registers, decisions_continue, decisions_keep, kept_registers_are_described,
+    verdicts_come_exactly,
+};
 pub use register::Register;
-pub use tickets::{Tickets, Turn};
+pub use sending::{cut_tickets_are_sent, register_is_sent, tickets_are_sent};
+pub use tickets::{CutTickets, Tickets, Turn};
 pub use verdicts::Verdict;

@@ -18,20 +18,21 @@ ghost use Rattle.flush_journal.specs.Cuts.Cuts.{AppendsEach, IsCut};
 ghost use Rattle.register.specs.Decided.{AreGivenOut, Decides, HasRoom, IsRegister, acls_body, children_body};
 ghost use Rattle.register.specs.Decided.{domain_added, domain_made, domain_refused, entry_put, first_serial, fits};
 ghost use Rattle.register.specs.Decided.{folder_made, foreign, fresh_given};
-ghost use Rattle.register.specs.Decided.{forgotten, grant_of, granted, in_domain, make_granted};
+ghost use Rattle.register.specs.Decided.{drawn, forgotten, grant_of, granted, in_domain, make_granted};
 ghost use Rattle.register.specs.Decided.{node_made, node_removed, object_granted, one_step};
 ghost use Rattle.register.specs.Decided.{opened, serial_limit};
-ghost use Rattle.register.specs.Grants.{IfGranted, IsIssueOf};
+ghost use Rattle.register.specs.Grants.{IfGranted, IsGrantOf, IsIssueOf, turns_of};
 ghost use Rattle.register.specs.Kept.{AreTexts, IsInstalled, IsRegisterMarked, IsRegisterRecord, IsUsedUp};
 ghost use Rattle.register.specs.Kept.{MatchFault, MatchUsed, RegisterSays, TellsUsed, all_kept, installed, run_kept};
 ghost use Rattle.register.specs.Looks.{DecidesUncounted, MaySettle, Settles, SettlesOp};
 ghost use Rattle.register.specs.Looks.{VerdictAnswers, VerdictAnswersEntry};
 ghost use Rattle.register.specs.Marks.{no_marks};
+ghost use Rattle.register.specs.Tickets.{Issues, turns_from};
 ghost use Rattle.register.specs.Installed.Registers.{DescribesRegister, IsRegisterFault};
 
 use crate::changes::{make_domain, make_folder, remove_node, set_entry};
 use crate::counts::{Counts, MAX_LANES, all_counted, issue};
-use crate::cuts::append_records;
+use crate::cuts::append_whole;
 use crate::installed::install;
 use crate::installs::InstallFault;
 use crate::laws::kept_registers_are_described;
@@ -40,7 +41,7 @@ use crate::marks::Marks;
 use crate::replies::{
     acl_verdict, acls_verdict, answered, limit, made_reply, node_verdict, owner_of, refused,
 };
-use crate::tickets::Tickets;
+use crate::tickets::{CutTickets, Tickets};
 use crate::verdicts::Verdict;
 use access_lists::{Caller, Rights};
 use domains::{CatFault, Catalogue, NodeClass};
@@ -194,7 +195,7 @@ impl Register {
     ///
     /// # Errors
     ///
-    /// Only where memory runs out. What was appended then stays in the batch, and so do all marks.
+    /// Only where memory runs out. Then the batch is as it was, and so are all marks.
     pub fn cut(&mut self, into: &mut Batch) -> Result<(), AllocError>
         ensures cut { (base : Held) → IsCut (IsRegisterMarked self.old) base
             (records into.old) (records into.new)
@@ -203,8 +204,9 @@ impl Register {
             (records into.old) (records into.new) }
         ensures still { OnOk result (self.new ≡ all_kept self.old) }
         ensures err { OnErr result (self.new ≡ self.old) }
+        ensures back { OnErr result (records into.new ≡ records into.old) }
     {
-        append_records(self.alloc, self.run, &self.catalogue, &self.marks, into)?;
+        append_whole(self.alloc, self.run, &self.catalogue, &self.marks, into)?;
         self.marks.clear();
         Ok(())
     }
@@ -280,8 +282,17 @@ impl Register {
         requires { HasRoom self.old }
         ensures decides { Decides self.old caller.now request.now result self.new }
 
-        // The tickets of a granted request are of its steps, each in the lane of the object that it touches.
+        // The tickets of a granted request are of its steps, each in the lane of the object that it touches; each is the next
+        // of its lane, and no other is given.
         ensures issue { IfGranted result (IsIssueOf self.old request.now.op) }
+        ensures issues { Issues self.old.issued (turns_of result) self.new.issued }
+
+        // What is granted is of the domain at the request's path.
+        ensures grant { IfGranted result (IsGrantOf self.old self.new request.now.path) }
+        ensures run { self.new.run ≡ self.old.run }
+        ensures lanes { length self.new.issued ≡ length self.old.issued }
+        ensures serial { self.old.serial ≤ self.new.serial }
+        ensures next { self.old.catalogue.next ≤ self.new.catalogue.next }
 
         // What changes is marked: what is held tells all else as it did.
         ensures says { (held : Held) → RegisterSays self.old held → RegisterSays self.new held }
@@ -289,6 +300,18 @@ impl Register {
         let verdict = self.verdict(caller, request);
         self.places += 1;
         verdict
+    }
+
+    /// Draws a cut: one turn of each lane, in the order of the lanes. It has no place. Takes no memory.
+    pub fn draw_cut(&mut self) -> CutTickets
+        requires { HasRoom self.old }
+        ensures turns { result ≡ turns_from 0 self.old.issued }
+        ensures counted { self.new ≡ drawn self.old }
+        ensures says { (held : Held) → RegisterSays self.old held → RegisterSays self.new held }
+    {
+        let tickets = CutTickets::of_lanes(&self.issued);
+        self.issued = all_counted(&self.issued);
+        tickets
     }
 
     /// Makes a domain without a request, so that no place is taken. Its root has the next serial.
@@ -417,7 +440,7 @@ impl Register {
                     self.put_domain(path, &owner)
                 }
             }
-            Err(_) => Verdict::NoMemory,
+            Err(AllocError) => Verdict::NoMemory,
         }
     }
 

@@ -16,7 +16,7 @@ use crate::register::SERIAL_LIMIT;
 use crate::verdicts::Verdict;
 use access_lists::{AccessList, Caller, MAX_ENTRIES, Rights, acl_json, acls_json};
 use domains::{CatFault, MAX_NODES, NUMBER_LIMIT, Node, NodeClass, node_json};
-use object_ids::{DomainPath, LimitKind, MAX_PATH_LEN, Name};
+use object_ids::{DomainPath, LimitKind, MAX_PATH_LEN, Name, NameFault};
 use object_ops::{Refusal, Reply};
 use std::alloc::{AllocError, Global};
 
@@ -28,7 +28,7 @@ pub(crate) fn answered(reply: Result<Reply, AllocError>) -> Verdict
 {
     match reply {
         Ok(reply) => Verdict::Answered(reply),
-        Err(_) => Verdict::NoMemory,
+        Err(AllocError) => Verdict::NoMemory,
     }
 }
 
@@ -109,7 +109,8 @@ fn default_owner(alloc: Global) -> Result<Name, AllocError>
 {
     match Name::read(alloc, "default", 255) {
         Ok(name) => Ok(name),
-        Err(_) => Err(AllocError),
+        Err(NameFault::NoMemory) => Err(AllocError),
+        Err(NameFault::BadName) => unreachable!(),
     }
 }
 
@@ -120,7 +121,7 @@ fn no_name(name: &Name) -> Verdict
 {
     match name.copy() {
         Ok(name) => Verdict::Refused(Refusal::NoName { name }),
-        Err(_) => Verdict::NoMemory,
+        Err(AllocError) => Verdict::NoMemory,
     }
 }
 
@@ -129,7 +130,9 @@ fn taken(alloc: Global, path: &DomainPath) -> Verdict
 {
     match Name::read(alloc, path.text(), MAX_PATH_LEN) {
         Ok(name) => Verdict::Refused(Refusal::Taken { name }),
-        Err(_) => Verdict::NoMemory,
+        Err(NameFault::NoMemory) => Verdict::NoMemory,
+        // Every path is a name of as many bytes.
+        Err(NameFault::BadName) => unreachable!(),
     }
 }
 

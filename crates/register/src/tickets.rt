@@ -137,6 +137,57 @@ impl Tickets {
     }
 }
 
+/// The turns that a drawn cut still has to take, one of each lane. They must be spent: `finish` is the only end, and it takes
+/// tickets of which no turn is left.
+pub struct CutTickets {
+    lane: usize,
+    counts: Counts,
+}
+
+impl Model for CutTickets {
+    ghost use Rattle.std.specs.Prelude.{List, drop};
+    ghost use Rattle.std.specs.Coded.{coded_list};
+    ghost use Rattle.register.specs.Tickets.{turns_from};
+    ghost use Rattle.register.specs.contracts.tickets.Turn as turn_row;
+    ghost use Rattle.register.specs.declared.tickets.Turn.{Turn};
+
+    ghost Value = { List Turn };
+
+    ghost coded = { coded_list turn_row.the_row.coded };
+
+    ghost view = { λ a. turns_from a.lane (drop a.lane a.counts) };
+}
+
+impl CutTickets {
+    // A turn of each lane.
+    pub(crate) fn of_lanes(counts: &Counts) -> CutTickets
+        ensures { result ≡ turns_from 0 counts.now }
+    {
+        CutTickets {
+            lane: 0,
+            counts: *counts,
+        }
+    }
+
+    /// The next turn, which is then no longer left; none where no turn is left. Takes no memory.
+    pub fn next(&mut self) -> Option<Turn>
+        ensures { MatchOption result ((self.old ≡ []) × (self.new ≡ []))
+            (λ t. self.old ≡ t ∷ self.new) }
+    {
+        next_lane(&mut self.lane, &self.counts)
+    }
+
+    /// Ends a cut of which no turn is left.
+    pub fn finish(self)
+        requires { self ≡ [] }
+    {
+        let CutTickets {
+            lane: _lane,
+            counts: _counts,
+        } = self;
+    }
+}
+
 // The turn of a lane, and then of the lane after it.
 fn next_lane(lane: &mut usize, counts: &Counts) -> Option<Turn>
     ensures { MatchOption result

@@ -1,11 +1,11 @@
 -- A walk over records that installs folders and domains.
-use Rattle.std.proofs.Common.{◌≡◌, ◌≢◌, inl, inr, ℕ, ◌+◌, ◌<◌, ◌≤◌, ◌^◌, Bool, true, false, cond, ◌&&◌, not, nat_le, nat_lt, List, [], ◌∷◌, ◌++◌, T, Option, Some, None, IsSome, is_some, option_and_then, option_map, Less, refl, sym, ap, subst, ◌∙◌, arith}
+use Rattle.std.proofs.Common.{◌≡◌, ◌≢◌, ℕ, ◌+◌, ◌<◌, ◌≤◌, ◌^◌, Bool, true, false, cond, ◌&&◌, not, nat_le, List, [], ◌∷◌, ◌++◌, T, Option, Some, None, IsSome, is_some, option_and_then, option_map, Less, refl, sym, ap, subst, ◌∙◌, arith}
 use Rattle.std.specs.Int.{from_be_bytes, w64}
 use Rattle.std.proofs.lemmas.Nat.{from_be_bytes-to_be_bytes_8}
 use Rattle.std.proofs.lemmas.Bool.{and_from, and_parts, le-leb, leb-true, lt-ltb, ltb-true, both_ways, not-true}
 use Rattle.std.specs.Cmp.{Equal-is}
 use Rattle.std.specs.Cmp.Lexicographic.{nat_list_cmp_total}
-use Rattle.std.specs.FinMap.{contains_key, empty, entries, entries_sorted, get, get-empty, get-insert, insert, is_sorted, len, len-insert}
+use Rattle.std.specs.FinMap.{empty, entries, entries_sorted, get, get-empty, get-insert, is_sorted, len, len-insert}
 use Rattle.std.specs.Ordering.{eq_by_cmp}
 use Rattle.std.proofs.lemmas.Option.{none-some, same_Some}
 use Rattle.containers.specs.TextMaps.Keyed.{text_order}
@@ -14,7 +14,7 @@ use Rattle.object_ids.specs.IdOrder.{id_order}
 use Rattle.object_ids.specs.IdValues.{Id}
 use Rattle.object_ids.specs.Paths.{parent_of, root_path}
 use Rattle.object_ids.proofs.IdOrders.{id_order_once, id_order_total, itself}
-use Rattle.domains.specs.Contents.{Contents, IsDomainAt, IsFolderAt, IsPlace, class_at as class_in, most_nodes}
+use Rattle.domains.specs.Contents.{Contents, IsDomainAt, class_at as class_in, most_nodes}
 use Rattle.domains.specs.declared.classes.Node.{Node}
 use Rattle.domains.specs.declared.classes.NodeClass.{NodeClass}
 use Rattle.domains.specs.declared.classes.NodeClass.TheVariants.{Folder, Domain}
@@ -22,9 +22,9 @@ use Rattle.object_records.specs.Keys.Keys.{IsPath, node_key}
 use Rattle.object_records.specs.Keys.Numbers.{next_bytes}
 use Rattle.domains.specs.Records.Nodes.{node_of_body}
 use Rattle.containers.specs.TextMaps.Fronts.{held_by}
-use Rattle.containers.proofs.TextMaps.Fronts.{all_held, held_before, held_here, new_key, nothing_held, said_else, said_here, split_more}
+use Rattle.containers.proofs.TextMaps.Fronts.{held_before, held_here, new_key, nothing_held, said_else, said_here, split_more}
 use Rattle.containers.proofs.Passing.{by_bool, contrary}
-use Rattle.register.specs.Installed.Registers.{IsDomainOf, IsNextNumber, IsNodeRecord, IsRun, KeepsNumber, class_at, count_nodes, is_node_key, node_at}
+use Rattle.register.specs.Installed.Registers.{IsNextNumber, IsNodeRecord, IsRun, KeepsNumber, class_at, count_nodes, is_node_key, node_at}
 use Rattle.register.specs.Installed.Walks.{AreRoots, IsNextOf, IsNodeWalk, NoPut, no_node, no_place, no_number, PutsNode, Roots, is_given, may_stand, number_id, one_without, with_root}
 use Rattle.register.proofs.OfInstalled.NodeKeys.{count_more, front_less, key_path, one_split, other_kind}
 use Rattle.containers.proofs.TextMaps.TextOrders.{same_key, unlike, differ}

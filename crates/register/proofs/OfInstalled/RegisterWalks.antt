@@ -1,10 +1,10 @@
 -- What a walk begins with and ends in.
-use Rattle.std.proofs.Common.{◌≡◌, ◌≢◌, ℕ, ◌+◌, ◌<◌, Bool, true, false, cond, ◌&&◌, not, nat_le, List, [], ◌∷◌, Option, Some, None, IsSome, is_some, refl, sym, ap, subst, ◌∙◌, option_and_then}
+use Rattle.std.proofs.Common.{◌≡◌, ◌≢◌, ℕ, ◌+◌, ◌<◌, true, false, cond, ◌&&◌, not, nat_le, List, [], ◌∷◌, Option, Some, None, IsSome, is_some, refl, sym, ap, subst, ◌∙◌}
 use denote.Ref.{Bor}
 use Rattle.std.specs.Option.{option_copied}
 use Rattle.std.proofs.lemmas.Bool.{and_parts, eqb-true, both_ways, not-true}
 use Rattle.std.specs.Cmp.Lexicographic.{nat_list_cmp_total}
-use Rattle.std.specs.FinMap.{empty, get, get-empty, get-insert, insert, len, len-empty, len-insert}
+use Rattle.std.specs.FinMap.{empty, get, get-empty, get-insert, len, len-empty, len-insert}
 use Rattle.std.specs.Ordering.{eq_by_cmp}
 use Rattle.std.proofs.lemmas.Option.{none-some, same_Some}
 use Rattle.containers.specs.TextMaps.Keyed.{text_order}
@@ -21,9 +21,9 @@ use Rattle.domains.specs.declared.records.faults.NodeFault.{NodeFault}
 use Rattle.domains.specs.declared.records.faults.NodeFault.TheVariants as of_nodes
 use Rattle.containers.proofs.TextMaps.Fronts.{all_held}
 use Rattle.containers.proofs.Passing.{by_bool, contrary}
-use Rattle.register.specs.Installed.Registers.{DescribesRegister, IsNextNumber, IsNodeRecord, IsRun, KeepsNumber, class_at, is_node_key, node_at}
+use Rattle.register.specs.Installed.Registers.{DescribesRegister, IsNextNumber, IsNodeRecord, IsRun, KeepsNumber, is_node_key, node_at}
 use Rattle.register.specs.Installed.Walks.{AreRoots, Blames, IsNodeWalk, PutsNode, Roots, is_given, may_stand, number_id, with_root}
-use Rattle.register.proofs.OfInstalled.NodeWalks.{IsRooted, body_of_node, class_of, never_some, node_of_class}
+use Rattle.register.proofs.OfInstalled.NodeWalks.{IsRooted, body_of_node, class_of, node_of_class}
 use Rattle.containers.proofs.TextMaps.TextOrders.{same_key, unlike, differ}
 
 pub copied_some : {A : Type 0} (o : Option (Bor A)) (p : Option A) → option_copied o ≡ p → is_some o ≡ true → IsSome p

@@ -4,7 +4,7 @@ ghost use Rattle.register.specs.Installed.Walks.{Names};
 
 use domains::records::NodeFault;
 use object_records::InstallFault;
-use std::alloc::Global;
+use std::alloc::{AllocError, Global};
 
 // The fault of a record that has this key.
 pub(crate) fn fault_at(alloc: Global, key: &[u8], fault: NodeFault) -> InstallFault
@@ -13,7 +13,7 @@ pub(crate) fn fault_at(alloc: Global, key: &[u8], fault: NodeFault) -> InstallFa
     match fault {
         NodeFault::BadNode => match key.to_vec(alloc) {
             Ok(key) => InstallFault::BadRecord { key },
-            Err(_) => InstallFault::NoMemory,
+            Err(AllocError) => InstallFault::NoMemory,
         },
         NodeFault::NoMemory => InstallFault::NoMemory,
     }

@@ -22,7 +22,7 @@ use flush_journal::Recovered;
 use object_ids::IdMap;
 use object_records::InstallFault;
 use object_records::keys::{next_key, run_key};
-use std::alloc::Global;
+use std::alloc::{AllocError, Global};
 
 /// The kept run, and the catalogue with the number that the next domain takes.
 #[derive(Drop)]
@@ -71,8 +71,9 @@ fn install_nodes(
         Ok(root) => root,
         Err(fault) => return Err(first_fault(alloc, kept, fault)),
     };
-    let Ok(mut catalogue) = begin(alloc, root) else {
-        return Err(InstallFault::NoMemory);
+    let mut catalogue = match begin(alloc, root) {
+        Ok(catalogue) => catalogue,
+        Err(AllocError) => return Err(InstallFault::NoMemory),
     };
     let mut roots = IdMap::new(alloc);
     let records = kept.as_tree();

@@ -3,7 +3,7 @@
 ghost use Rattle.std.specs.Prelude.{◌≡◌, ◌≢◌, ◌∷◌, ℕ, List, Option, Some, None, IfOk, IfErr, OnOk, IsTrue, ◌↔◌};
 ghost use Rattle.std.specs.FinMap.{get, len};
 ghost use Rattle.flush_journal.specs.Records.{Held, Record};
-ghost use Rattle.object_ids.specs.Paths.{root_path};
+ghost use Rattle.object_ids.specs.Paths.{path_of, root_path};
 ghost use Rattle.domains.specs.declared.classes.NodeClass.TheVariants.{Folder};
 ghost use Rattle.domains.specs.Records.Nodes.{IsKeptNode};
 ghost use Rattle.object_records.specs.Keys.Keys.{IsPath};
@@ -15,9 +15,9 @@ use crate::installed::numbers::{may_stand, put_root};
 use domains::records::{NodeFault, read_node};
 use domains::{Catalogue, Node, NodeClass};
 use flush_journal::Recovered;
-use object_ids::{IdMap, ObjectId, read_path};
+use object_ids::{DomainPath, IdMap, ObjectId, PathFault, read_path};
 use object_records::keys::node_at;
-use std::alloc::Global;
+use std::alloc::{AllocError, Global};
 
 // The node of `/`, where a folder stands there.
 pub(crate) fn read_root(alloc: Global, kept: &Recovered) -> Result<Node, NodeFault>
@@ -38,15 +38,13 @@ pub(crate) fn read_root(alloc: Global, kept: &Recovered) -> Result<Node, NodeFau
 }
 
 // The catalogue of a root.
-pub(crate) fn begin(alloc: Global, root: Node) -> Result<Catalogue, NodeFault>
+pub(crate) fn begin(alloc: Global, root: Node) -> Result<Catalogue, AllocError>
     requires class { root.class ≡ Folder }
     ensures root { IfOk result (λ c. get c.nodes root_path ≡ Some root) }
     ensures others { IfOk result (λ c. (path : List ℕ) → path ≢ root_path → get c.nodes path ≡ None) }
     ensures one { IfOk result (λ c. len c.nodes ≡ 1) }
 {
-    let Ok(path) = read_path(alloc, "/") else {
-        return Err(NodeFault::NoMemory);
-    };
+    let path = path_at(alloc, "/")?;
     let mut catalogue = Catalogue::new(alloc, root.owner.copy()?)?;
     catalogue.put_node(&path, root)?;
     Ok(catalogue)
@@ -110,13 +108,23 @@ fn install_node(
     if !may_stand(run, next, roots, node.class) {
         return Err(NodeFault::BadNode);
     }
-    let Ok(path) = read_path(alloc, path) else {
-        return Err(NodeFault::NoMemory);
-    };
+    let path = path_at(alloc, path)?;
     if !catalogue.has_place(&path) {
         return Err(NodeFault::BadNode);
     }
     put_root(roots, node.class)?;
     catalogue.put_node(&path, node)?;
     Ok(())
+}
+
+// The path that a text is.
+fn path_at(alloc: Global, text: &str) -> Result<DomainPath, AllocError>
+    requires { path_of text.now ≡ Some text.now }
+    ensures { IfOk result (λ path. path ≡ text.now) }
+{
+    match read_path(alloc, text) {
+        Ok(path) => Ok(path),
+        Err(PathFault::NoMemory) => Err(AllocError),
+        Err(PathFault::BadPath) => unreachable!(),
+    }
 }

@@ -1,8 +1,8 @@
-use Rattle.std.proofs.Common.{◌≡◌, List, ℕ, sym, ap, subst, ◌∙◌}
+use Rattle.std.proofs.Common.{List, ℕ, subst}
 use Rattle.domains.specs.declared.records.faults.NodeFault.TheVariants.{BadNode}
-use Rattle.object_records.specs.Keys.Keys.{next_key, run_key}
+use Rattle.object_records.specs.Keys.Keys.{next_key}
 use Rattle.register.specs.Installed.Walks.{Names}
-use Rattle.register.proofs.OfInstalled.RegisterFaults.{least_next, least_run, named}
+use Rattle.register.proofs.OfInstalled.RegisterFaults.{least_next, named}
 use Rattle.register.proofs.OfInstalled.RegisterWalks.{described, given_number}
 use Rattle.register.proofs.installed.installs.install.Goals as goal
 

@@ -31,7 +31,7 @@ loop-key-preserved c =
     let here = ap (keyed vec_items) left ∙ (λ k. (sym c.as_slice-key.ensures.value k, sym c.bytes.ensures k) ∷ keyed vec_items c.next.new.self) in
     let walk = subst (λ (rest : List Record). IsNodeWalk c.args.kept.now rest c.loop-key.catalogue c.loop-key.roots) here c.loop-key.invariant in
     let rooted = rooted_by c.args.kept.now c.in-Ok.root c.in-Ok.ensures.reads c.in-Ok.ensures.class in
-    c.in_default-installed.ensures.done c.args.kept.now (keyed vec_items c.next.new.self) c.requires.run c.requires.next rooted walk
+    c.in_default.ensures.done c.args.kept.now (keyed vec_items c.next.new.self) c.requires.run c.requires.next rooted walk
 
 pub returns-clause-nodes : goal.returns-clause-nodes
 returns-clause-nodes c =

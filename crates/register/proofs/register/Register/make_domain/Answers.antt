@@ -3,7 +3,8 @@ use Rattle.domains.specs.Contents.{Contents}
 use Rattle.register.specs.Decided.{AreGivenOut, RegisterState}
 use Rattle.register.proofs.RegisterStates.{moved, serial_taken}
 use Rattle.register.proofs.Roots.{with_domain}
-use Rattle.register.proofs.Saying.{StillSays, domain_left}
+use Rattle.register.specs.Since.{StillSays}
+use Rattle.register.proofs.Saying.{domain_left}
 use Rattle.register.proofs.register.Register.make_domain.Goals as goal
 
 pub invariant_of-self-2 : goal.invariant_of-self-2
