@@ -16,32 +16,23 @@ use Rattle.chunk_owner.specs.Slots.Slots.{HasSameIds, Slots, object_by, object_o
 use Rattle.chunk_owner.specs.Slots.Slots.{AreOfKind as AreSlotsOfKind}
 use Rattle.chunk_owner.proofs.OfSlots.Placed.{everywhere}
 use Rattle.chunk_owner.proofs.OfSlots.Standing.{get-objects_of, objects-insert}
-use Rattle.chunk_owner.specs.Lanes.{AreHome, AreOfKind, AreShown, AreSlotsOf, Each, Forgets, IsWhole, StandsIn, StaysHome, StayHome, lane_with, shown}
+use Rattle.chunk_owner.specs.Lanes.{AreHome, AreOfKind, AreShown, AreSlotsOf, Each, Forgets, IsWhole, LeavesOthers, LeavesUntouched, StandsIn, lane_with, shown}
 use Rattle.chunk_owner.specs.Acts.{IsTouchedIn}
 use Rattle.chunk_owner.proofs.Eaches.{get-shown, option-unmarked, unmarked_kind}
 
 -- ---- slots stay at home
 
-pub home_same_ids : (m n : Slots) (id : Id) → HasSameIds m n → StaysHome id m n
-home_same_ids m n id same lane lanes is home q s there = at (get m q) refl where
-  at : (o : Option Slot) → get m q ≡ o → lane_of lanes q ≡ lane
-  at None e = absurd (none-some s (sym (same q e) ∙ there))
-  at (Some t) e = home q t e
-
-pub home_others : (m n : Slots) (id : Id) → ((q : Id) → q ≢ id → get n q ≡ get m q) → StaysHome id m n
-home_others m n id others lane lanes is home q =
+home_others : (lane lanes : ℕ) (m n : Slots) (id : Id) → LeavesOthers id m n → lane_of lanes id ≡ lane → AreHome lane lanes m → AreHome lane lanes n
+home_others lane lanes m n id others is home q =
     everywhere (λ q o p. ((s : Slot) → o ≡ Some s → lane_of lanes q ≡ lane) → (s : Slot) → p ≡ Some s → lane_of lanes q ≡ lane) m n id others (λ were s e. is) (λ q o were. were) q (home q)
 
-pub home_same : (m n : Slots) (id : Id) → n ≡ m → StaysHome id m n
-home_same m n id same lane lanes is home = subst (λ (w : Slots). AreHome lane lanes w) (sym same) home
-
-pub home_at : (t : Option Id) (id : Id) (m n : Slots) → t ≡ Some id → StaysHome id m n → StayHome t m n
-home_at t id m n same stays = subst (λ (o : Option Id). StayHome o m n) (sym same) stays
+pub left_at : (t : Option Id) (id : Id) (m n : Slots) → t ≡ Some id → LeavesOthers id m n → LeavesUntouched t m n
+left_at t id m n same others = subst (λ (o : Option Id). LeavesUntouched o m n) (sym same) others
 
 -- after a step at an id of the lane
-pub slots_after : (lane lanes : ℕ) (t : Option Id) (m n : Slots) → IsTouchedIn lane lanes t → StayHome t m n → AreSlotsOfKind n → AreSlotsOf lane lanes m → AreSlotsOf lane lanes n
+pub slots_after : (lane lanes : ℕ) (t : Option Id) (m n : Slots) → IsTouchedIn lane lanes t → LeavesUntouched t m n → AreSlotsOfKind n → AreSlotsOf lane lanes m → AreSlotsOf lane lanes n
 slots_after lane lanes None m n touched stay kinds were = absurd touched
-slots_after lane lanes (Some id) m n touched stay kinds were = record { below = were.below; home = stay lane lanes touched were.home; kinds = kinds }
+slots_after lane lanes (Some id) m n touched stay kinds were = record { below = were.below; home = home_others lane lanes m n id stay touched were.home; kinds = kinds }
 
 -- where no id has a slot that had none
 pub slots_still : (lane lanes : ℕ) (m n : Slots) → HasSameIds m n → AreSlotsOfKind n → AreSlotsOf lane lanes m → AreSlotsOf lane lanes n
@@ -53,7 +44,7 @@ slots_still lane lanes m n same kinds were = record { below = were.below; home =
     at (Some t) e = were.home q t e
 
 pub slots_put : (lane lanes : ℕ) (m n : Slots) (id : Id) → lane_of lanes id ≡ lane → ((q : Id) → q ≢ id → get n q ≡ get m q) → AreSlotsOfKind n → AreSlotsOf lane lanes m → AreSlotsOf lane lanes n
-slots_put lane lanes m n id is others kinds were = record { below = were.below; home = home_others m n id others lane lanes is were.home; kinds = kinds }
+slots_put lane lanes m n id is others kinds were = record { below = were.below; home = home_others lane lanes m n id others is were.home; kinds = kinds }
 
 pub slots_empty : (lane lanes : ℕ) (m : Slots) → m ≡ empty → lane < lanes → AreSlotsOf lane lanes m
 slots_empty lane lanes m none small = subst (λ (w : Slots). AreSlotsOf lane lanes w) (sym none) (record {

@@ -4,6 +4,9 @@ pub mod LaneLemmas
 pub mod InstallLemmas
 pub mod NextLemmas
 pub mod LawLemmas
+pub mod JoinedLemmas
+pub mod OtherKeys
+pub mod Sent
 pub mod KeptLemmas
 pub mod MarkLemmas
 pub mod OfInstalls

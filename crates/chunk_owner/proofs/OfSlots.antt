@@ -4,6 +4,7 @@ pub mod ChunkRecords
 pub mod SlotCuts
 pub mod SlotBodies
 pub mod LaneCuts
+pub mod CutWalks
 pub mod Describing
 pub mod KeptSlots
 pub mod Placed
@@ -11,4 +12,5 @@ pub mod StillTold
 pub mod Standing
 pub mod ChangedSlots
 pub mod Marks
+pub mod Forgotten
 pub mod Spelled

@@ -1,5 +1,5 @@
 -- What an owner is: its lane, how many lanes there are, its objects by their ids, and what the next cut writes of them.
-use Rattle.std.specs.Prelude.{◌≡◌, ℕ, ◌<◌, ◌==◌, Option, Some, None, if◌then◌else◌}
+use Rattle.std.specs.Prelude.{◌≡◌, ◌≢◌, ℕ, ◌<◌, ◌==◌, Option, Some, None, if◌then◌else◌}
 use Rattle.std.specs.FinMap.{get, insert, remove}
 use Rattle.containers.specs.TextMaps.Keyed.{with_values}
 use Rattle.object_ids.specs.IdValues.{Id}
@@ -59,14 +59,14 @@ pub record IsWhole (l : Lane) : Type 0 where
   pub objects : l.objects ≡ objects_of l.slots
   pub slots : AreSlotsOf l.lane l.lanes l.slots
 
--- a step at an id leaves each slot at an id of the lane
-abbrev pub StaysHome : Id → Slots → Slots → Type 0
-StaysHome id old new = (lane lanes : ℕ) → lane_of lanes id ≡ lane → AreHome lane lanes old → AreHome lane lanes new
+-- a step at an id leaves each slot at another one
+abbrev pub LeavesOthers : Id → Slots → Slots → Type 0
+LeavesOthers id old new = (other : Id) → other ≢ id → get new other ≡ get old other
 
 -- so does one at the id that it touches, where it touches one
-abbrev pub StayHome : Option Id → Slots → Slots → Type 0
-StayHome None old new = new ≡ old
-StayHome (Some id) old new = StaysHome id old new
+abbrev pub LeavesUntouched : Option Id → Slots → Slots → Type 0
+LeavesUntouched None old new = new ≡ old
+LeavesUntouched (Some id) old new = LeavesOthers id old new
 
 -- it is the same lane of as many
 pub record IsSameLane (old new : Lane) : Type 0 where

@@ -2,6 +2,7 @@ pub mod Lanes
 pub mod Acts
 pub mod Marks
 pub mod Laws
+pub mod LaneLaws
 pub use Rattle.object_ids.specs.IdOrder
 pub mod Installs
 pub mod Owners

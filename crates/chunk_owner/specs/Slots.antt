@@ -4,3 +4,4 @@ pub mod Bodies
 pub mod Settled
 pub mod Changed
 pub mod Marking
+pub mod Forgetting

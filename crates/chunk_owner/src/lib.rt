@@ -10,11 +10,15 @@ mod laws;
 mod owner;
 pub mod owners;
 mod placing;
+mod sending;
 pub mod slots;
 mod steps;
 mod touching;
 
 pub use laws::{
-    ids_without_objects, other_domains_are_left, others_stay, reads_leave_all, refusals_leave_all,
+    domains_are_dropped_in_each_lane, ids_without_objects, keys_are_of_one_lane, lanes_are_joined,
+    other_domains_are_left, other_records_leave_a_lane, others_stay, reads_leave_all,
+    refusals_leave_all, steps_add_only_what_was_given, steps_are_taken_at_home,
 };
 pub use owner::Owner;
+pub use sending::{owner_is_sent, owner_is_shared};

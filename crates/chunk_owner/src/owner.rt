@@ -198,7 +198,7 @@ impl Owner {
         put(&mut self.slots, id, object)
     }
 
-    /// Removes the objects of the domain of a number. It takes no memory.
+    /// Removes the objects of the domain of a number. It looks at the ids of that domain alone, and takes no memory.
     pub fn forget(&mut self, number: u64)
         ensures rest { Forgets number self.old.objects self.new.objects }
         ensures says { StillSays self.old.slots self.new.slots }
@@ -214,8 +214,7 @@ impl Owner {
     ///
     /// # Errors
     ///
-    /// Only where memory runs out. Then the objects of some first ids are cut, and the records of the next one perhaps in
-    /// part; what was appended stays in the batch, and the marks of what is not cut stay.
+    /// Only where memory runs out; then the lane and the batch are as they were.
     pub fn cut(&mut self, into: &mut Batch) -> Result<(), AllocError>
         ensures cut { (base : Held) → IsCut (IsMarked self.old.slots) base
             (records into.old) (records into.new)
@@ -227,6 +226,8 @@ impl Owner {
         ensures marks { (key : List ℕ) → IsMarked self.new.slots key → IsMarked self.old.slots key }
         ensures objects { self.new.objects ≡ self.old.objects }
         ensures same { IsSameLane self.old self.new }
+        ensures err { OnErr result (self.new ≡ self.old) }
+        ensures back { OnErr result (records into.new ≡ records into.old) }
     {
         cut(self.alloc, &mut self.slots, into)
     }

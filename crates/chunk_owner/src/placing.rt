@@ -11,7 +11,7 @@ ghost use Rattle.object_records.specs.Keys.Keys.{object_key};
 ghost use Rattle.chunk_owner.specs.Slots.Marking.{AddsMarks};
 ghost use Rattle.chunk_owner.specs.Slots.Slots.{AreOfKind, IsMarkedIn, StillSays, objects_of};
 ghost use Rattle.chunk_owner.specs.declared.slots.slot.Mark.TheVariants.{Changed};
-ghost use Rattle.chunk_owner.specs.Lanes.{at_id, set_at, StaysHome};
+ghost use Rattle.chunk_owner.specs.Lanes.{at_id, set_at, LeavesOthers};
 ghost use Rattle.chunk_owner.specs.Acts.{left, placing};
 
 use crate::slots::{Slot, put};
@@ -44,7 +44,7 @@ pub(crate) fn put_done(
         (reply, set_at (objects_of slots.old) id (left None (reply, unmarked object)).1)
         (objects_of slots.old) result (objects_of slots.new) }
     ensures kinds { AreOfKind slots.new }
-    ensures home { StaysHome id slots.old slots.new }
+    ensures others { LeavesOthers id slots.old slots.new }
     ensures says { StillSays slots.old slots.new }
     ensures alone { AddsMarks (λ key. IsDone result × IsMarkedIn id Changed object.body key)
         slots.old slots.new }
@@ -72,7 +72,7 @@ pub(crate) fn make_in(
         (at_id id (placing id root.now (made make.now)) (objects_of slots.old))
         (objects_of slots.old) result (objects_of slots.new) }
     ensures kinds { AreOfKind slots.new }
-    ensures home { StaysHome id slots.old slots.new }
+    ensures others { LeavesOthers id slots.old slots.new }
     ensures says { StillSays slots.old slots.new }
     ensures alone { AddsMarks (λ key. IsDone result × (key ≡ object_key id))
         slots.old slots.new }

@@ -7,7 +7,7 @@ ghost use Rattle.object_ops.specs.Conditions.{IsSoundOp, IsSoundMake, IsSoundPla
 ghost use Rattle.object_acts.specs.Arrays.Marked.{IsDone};
 ghost use Rattle.chunk_owner.specs.Slots.Marking.{AddsMarks};
 ghost use Rattle.chunk_owner.specs.Slots.Slots.{AreOfKind, StillSays, objects_of};
-ghost use Rattle.chunk_owner.specs.Lanes.{StayHome};
+ghost use Rattle.chunk_owner.specs.Lanes.{LeavesUntouched};
 ghost use Rattle.chunk_owner.specs.Acts.{acted, group_of, linking, make_act, making, on_touched, touched, touched_by_make, HasFresh, IsFreshFor};
 ghost use Rattle.chunk_owner.specs.Marks.{IsKeyOf, IsStepMark};
 
@@ -33,7 +33,7 @@ pub(crate) fn act_in(
     ensures acts { Follows (acted grant.now op.now step (objects_of slots.old)) (objects_of slots.old)
         result (objects_of slots.new) }
     ensures kinds { AreOfKind slots.new }
-    ensures home { StayHome (touched grant.now op.now step) slots.old slots.new }
+    ensures others { LeavesUntouched (touched grant.now op.now step) slots.old slots.new }
     ensures says { StillSays slots.old slots.new }
     ensures alone { AddsMarks (λ key. IsDone result
         × IsStepMark grant.now op.now step slots.old key) slots.old slots.new }
@@ -78,7 +78,7 @@ fn make_or_link(
         (λ id. make_act grant.now make.now place.now step) (objects_of slots.old))
         (objects_of slots.old) result (objects_of slots.new) }
     ensures kinds { AreOfKind slots.new }
-    ensures home { StayHome (touched_by_make grant.now place.now step) slots.old slots.new }
+    ensures others { LeavesUntouched (touched_by_make grant.now place.now step) slots.old slots.new }
     ensures says { StillSays slots.old slots.new }
     ensures alone { AddsMarks (λ key. IsDone result × IsKeyOf (touched_by_make grant.now place.now step) key)
         slots.old slots.new }
@@ -105,7 +105,7 @@ fn link_fresh(
         (objects_of slots.old))
         (objects_of slots.old) result (objects_of slots.new) }
     ensures kinds { AreOfKind slots.new }
-    ensures home { StayHome (group_of place.now) slots.old slots.new }
+    ensures others { LeavesUntouched (group_of place.now) slots.old slots.new }
     ensures says { StillSays slots.old slots.new }
     ensures alone { AddsMarks (λ key. IsDone result × IsKeyOf (group_of place.now) key)
         slots.old slots.new }
@@ -130,7 +130,7 @@ fn make_fresh(
         (objects_of slots.old))
         (objects_of slots.old) result (objects_of slots.new) }
     ensures kinds { AreOfKind slots.new }
-    ensures home { StayHome grant.now.fresh slots.old slots.new }
+    ensures others { LeavesUntouched grant.now.fresh slots.old slots.new }
     ensures says { StillSays slots.old slots.new }
     ensures alone { AddsMarks (λ key. IsDone result × IsKeyOf grant.now.fresh key)
         slots.old slots.new }

@@ -11,7 +11,7 @@ ghost use Rattle.object_acts.specs.Acts.{reads_object, reply_of, changes_object,
 ghost use Rattle.object_records.specs.Keys.Keys.{object_key};
 ghost use Rattle.chunk_owner.specs.Slots.Marking.{AddsMarks, IsToDrop};
 ghost use Rattle.chunk_owner.specs.Slots.Slots.{AreOfKind, StillSays, object_of, objects_of};
-ghost use Rattle.chunk_owner.specs.Lanes.{at_id, StaysHome};
+ghost use Rattle.chunk_owner.specs.Lanes.{at_id, LeavesOthers};
 ghost use Rattle.chunk_owner.specs.Acts.{reading, changing, removing, link_to};
 ghost use Rattle.chunk_owner.specs.Marks.{IsChangeMark};
 
@@ -62,7 +62,7 @@ pub(crate) fn change_in(
         (at_id id.now (changing grant.now id.now (change_of op.now)) (objects_of slots.old))
         (objects_of slots.old) result (objects_of slots.new) }
     ensures kinds { AreOfKind slots.new }
-    ensures home { StaysHome id.now slots.old slots.new }
+    ensures others { LeavesOthers id.now slots.old slots.new }
     ensures says { StillSays slots.old slots.new }
     ensures alone { AddsMarks (λ key. IsDone result
         × IsChangeMark id.now op.now (object_of (get slots.old id.now)) key) slots.old slots.new }
@@ -94,7 +94,7 @@ fn change_absent(
         (at_id id.now (changing grant.now id.now (change_of op.now)) (objects_of slots.old))
         (objects_of slots.old) result (objects_of slots.new) }
     ensures kinds { AreOfKind slots.new }
-    ensures home { StaysHome id.now slots.old slots.new }
+    ensures others { LeavesOthers id.now slots.old slots.new }
     ensures says { StillSays slots.old slots.new }
     ensures alone { AddsMarks (λ key. IsDone result × (key ≡ object_key id.now))
         slots.old slots.new }
@@ -123,7 +123,7 @@ pub(crate) fn link_in(
         (objects_of slots.old))
         (objects_of slots.old) result (objects_of slots.new) }
     ensures kinds { AreOfKind slots.new }
-    ensures home { StaysHome place.now.group slots.old slots.new }
+    ensures others { LeavesOthers place.now.group slots.old slots.new }
     ensures says { StillSays slots.old slots.new }
     ensures alone { AddsMarks (λ key. IsDone result × (key ≡ object_key place.now.group))
         slots.old slots.new }
@@ -156,7 +156,7 @@ fn link_absent(
         (objects_of slots.old))
         (objects_of slots.old) result (objects_of slots.new) }
     ensures kinds { AreOfKind slots.new }
-    ensures home { StaysHome place.now.group slots.old slots.new }
+    ensures others { LeavesOthers place.now.group slots.old slots.new }
     ensures says { StillSays slots.old slots.new }
     ensures alone { AddsMarks (λ key. IsDone result × (key ≡ object_key place.now.group))
         slots.old slots.new }
@@ -177,7 +177,7 @@ pub(crate) fn drop_in(alloc: Global, slots: &mut IdMap<Slot>, id: &ObjectId, gra
     ensures rest { objects_of slots.new
         ≡ (at_id id.now (removing grant.now id.now) (objects_of slots.old)).1 }
     ensures kinds { AreOfKind slots.new }
-    ensures home { StaysHome id.now slots.old slots.new }
+    ensures others { LeavesOthers id.now slots.old slots.new }
     ensures says { StillSays slots.old slots.new }
     ensures alone { AddsMarks (λ key. (was_done result ≡ true)
         × IsToDrop id.now (get slots.old id.now) key) slots.old slots.new }

@@ -1,5 +1,5 @@
 -- Cuts of lanes in turn.
-use Rattle.std.proofs.Common.{◌≡◌, ◌≢◌, ℕ, ◌+◌, ◌<◌, List, [], ◌∷◌, ◌++◌, length, take, drop, get_or, Option, Some, refl, sym, ap, subst, ◌∙◌, append-nil, arith}
+use Rattle.std.proofs.Common.{◌≡◌, ◌≢◌, ℕ, ◌+◌, ◌<◌, List, [], ◌∷◌, ◌++◌, length, take, drop, get_or, Option, Some, Result, Ok, Err, OnErr, refl, sym, ap, subst, ◌∙◌, append-nil, arith}
 use Rattle.std.specs.FinMap.{get}
 use Rattle.std.specs.List.{AllByRecursion}
 use Rattle.std.proofs.lemmas.Grind.{drop_more_same}
@@ -19,7 +19,7 @@ use Rattle.chunk_owner.specs.Slots.Slots.{AreStill, IsMarked, object_by, object_
 use Rattle.chunk_owner.proofs.OfSlots.LaneCuts.{all_marks}
 use Rattle.chunk_owner.proofs.OfSlots.Standing.{get-objects_of}
 use Rattle.chunk_owner.specs.Lanes.{IsWhole, Lane}
-use Rattle.chunk_owner.specs.Owners.Cutting.{CutsLane, IsStillAt}
+use Rattle.chunk_owner.specs.Owners.Cutting.{CutsFront, CutsLane, IsStillAt}
 use Rattle.chunk_owner.specs.Owners.Joined.{AreLanes, IsLane, whole}
 use Rattle.chunk_owner.specs.Owners.Records.{AreStillIn, AreUndropped, IsMarkedIn, IsStandingIn, LanesSay}
 use Rattle.chunk_owner.proofs.OfOwners.LaneKeys.{IsKeyOf, apart_below, each_first, each_set, key_of_lane, lanes_first, marked_first, marked_push, said_cut}
@@ -108,7 +108,7 @@ module _ (n k : ℕ) (old now after : List Lane) (first mid new : List Record) (
       at_home n 0 k old d.was lanes id (ap (λ j. lane_of j id) (sym is_lane.lanes) ∙ was_whole.slots.home id s here ∙ is_lane.lane ∙ (let e : k ≡ 0 + k = omega arith in e)) few_old here_old
       ∙ ap (λ (m : Objects). get m id) was_whole.objects ∙ get-objects_of d.was.slots id ∙ ap object_of here
 
-  pub front_bodies : AppendsEach (IsObjectRecord (whole old)) first new
+  front_bodies : AppendsEach (IsObjectRecord (whole old)) first new
   front_bodies = appends_more (IsObjectRecord (whole old)) first mid new c.bodies
       (appends_as (IsSlotRecord d.was.slots) (IsObjectRecord (whole old)) mid new
       (λ r h. record { id = h.id; range = h.range; of = subst (λ (o : Option Object). IsRecordOf h.id o r) (sym (in_whole h.id h.slot h.here)) h.of }) d.bodies)
@@ -126,18 +126,14 @@ module _ (n k : ℕ) (old now after : List Lane) (first mid new : List Record) (
     of = subst (λ (o : Option Object). IsRecordOf h.id o r) there.1 h.of;
   }
 
-  pub front_standing : AppendsEach (IsStandingIn old) first new
+  front_standing : AppendsEach (IsStandingIn old) first new
   front_standing = appends_more (IsStandingIn old) first mid new c.standing (appends_as (IsSlotRecord d.was.slots) (IsStandingIn old) mid new slot_stands d.bodies)
 
-  pub front_lanes : AreLanes n 0 after
+  front_lanes : AreLanes n 0 after
   front_lanes = subst (λ (ls : List Lane). AreLanes n 0 ls) (sym d.set) (lanes_same n k now d.was d.left c.lanes few d.here d.same d.objects)
 
-  pub front_objects : whole after ≡ whole old
+  front_objects : whole after ≡ whole old
   front_objects = ap whole d.set ∙ whole_same k now d.was d.left d.here d.objects ∙ c.objects
-
-  -- the next lane was cut in part
-  pub front_cut : (base : Held) → IsCut (IsMarkedIn old) base first new (λ held. LanesSay old base → LanesSay after held)
-  front_cut base = all_marks (IsMarkedIn (take (k + 1) old)) (IsMarkedIn old) base first new (Later old after base) (marked_first (k + 1) old) (cut_to base)
 
   still_here : IsStillAt k after → AreStill d.left.slots
   still_here still = still d.left (ap (λ (ls : List Lane). get_or ls k d.left) d.set ∙ get_or-set_same now k d.left d.left few)
@@ -155,6 +151,36 @@ module _ (n k : ℕ) (old now after : List Lane) (first mid new : List Record) (
     still = subst AreStillIn (sym (ap (take (k + 1)) d.set ∙ take_more_set now k d.left few)) (all_append (λ l. AreStill l.slots) (take k now) (d.left ∷ []) c.still (still_here still, tt));
     wholes = subst (λ (ls : List Lane). AllByRecursion IsWhole ls) (sym d.set) (each_set IsWhole k now d.left d.whole c.wholes);
   }
+
+on_err : {A E : Type 0} (r : Result A E) (P : Type 0) → P → OnErr r P
+on_err (Ok a) P p = tt
+on_err (Err e) P p = p
+
+-- the first `k` lanes were cut, and no others
+module _ (n k : ℕ) (old now after : List Lane) (first mid last : List Record) (few : k < length old) (c : IsCutTo n k old now first mid) (same : after ≡ now) (back : last ≡ mid) where
+  abbrev IsFirst : List Lane → List Record → Type 0
+  IsFirst ls rs = IsCutTo n k old ls first rs
+
+  at_last : IsFirst after last
+  at_last = subst (λ (ls : List Lane). IsFirst ls last) (sym same) (subst (λ (rs : List Record). IsFirst now rs) (sym back) c)
+
+  pub stopped_cut : (base : Held) → IsCut (IsMarkedIn old) base first last (Later old after base)
+  stopped_cut base = all_marks (IsMarkedIn (take k old)) (IsMarkedIn old) base first last (Later old after base) (marked_first k old) (at_last.cut base)
+
+  pub stopped_bodies : AppendsEach (IsObjectRecord (whole old)) first last
+  stopped_bodies = at_last.bodies
+
+  pub stopped_standing : AppendsEach (IsStandingIn old) first last
+  stopped_standing = at_last.standing
+
+  pub stopped_front : {A E : Type 0} (r : Result A E) → OnErr r (CutsFront old after first last)
+  stopped_front r = on_err r (CutsFront old after first last) (record { many = k; few = few; cut = at_last.cut; still = at_last.still; rest = at_last.rest })
+
+  pub stopped_objects : whole after ≡ whole old
+  stopped_objects = at_last.objects
+
+  pub stopped_lanes : AreLanes n 0 after
+  stopped_lanes = at_last.lanes
 
 -- all lanes were cut
 module _ (n k : ℕ) (old now : List Lane) (first last : List Record) (c : IsCutTo n k old now first last) where

@@ -51,7 +51,7 @@ get-set_at m k (Some v) q = get-insert id_order_total m k v q
 -- ---- lanes
 
 module _ (n : ℕ) where
-  away : (k : ℕ) (ls : List Lane) → AreLanes n k ls → (q : Id) → lane_of n q < k → get (whole ls) q ≡ None
+  pub away : (k : ℕ) (ls : List Lane) → AreLanes n k ls → (q : Id) → lane_of n q < k → get (whole ls) q ≡ None
   away k [] h q below = get-empty id_order q
   away k (l ∷ ls) h q below =
       get-whole l ls q ∙ ap (λ p. or_else p (get (whole ls) q)) (h.0.own q (λ e. omega arith)) ∙ away (suc k) ls h.1 q (omega arith)

@@ -12,10 +12,10 @@ use Rattle.chunk_owner.specs.declared.slots.slot.Mark.{Mark}
 use Rattle.chunk_owner.specs.declared.slots.slot.Mark.TheVariants.{Kept, Changed, Dropped}
 use Rattle.chunk_owner.specs.declared.slots.slot.Slot.{Slot}
 use Rattle.chunk_owner.specs.Slots.Changed.{ChangesAt}
-use Rattle.chunk_owner.specs.Slots.Slots.{AreOfKind, HasSameIds, Says, Slots, StillSays, object_by, object_of, objects_of}
+use Rattle.chunk_owner.specs.Slots.Slots.{AreOfKind, Says, Slots, StillSays, object_by, object_of, objects_of}
 use Rattle.containers.proofs.Passing.{contrary}
 use Rattle.chunk_owner.proofs.OfSlots.KeptSlots.{put_here, put_others}
-use Rattle.chunk_owner.proofs.OfSlots.Placed.{everywhere, StillKind, StillSaid, kind_there, replaced_ids}
+use Rattle.chunk_owner.proofs.OfSlots.Placed.{everywhere, StillKind, StillSaid, kind_there}
 use Rattle.chunk_owner.proofs.OfSlots.Standing.{get-objects_of, objects-insert}
 
 pub live_object : (m : Mark) (o : Object) → m ≢ Dropped → object_by m o ≡ Some (unmarked o)
@@ -56,7 +56,3 @@ module _ (m : Slots) (id : Id) (s t : Slot) (here : get m id ≡ Some s) (live :
   pub changed_kinds : ((k : Kind) → IsOfKind k s.object → IsOfKind k t.object) → AreOfKind m → AreOfKind (insert m id t)
   changed_kinds keeps kinds q = everywhere StillKind m (insert m id t) id (put_others m id t)
       (λ were x e. kind_there id t (keeps id.kind (were s here)) x (sym now ∙ e)) (λ x w were. were) q (kinds q)
-
-  -- no id more has a slot
-  pub same_ids : HasSameIds m (insert m id t)
-  same_ids = replaced_ids m id s t here

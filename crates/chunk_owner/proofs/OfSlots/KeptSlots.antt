@@ -1,5 +1,5 @@
 -- A slot that is settled among others.
-use Rattle.std.proofs.Common.{◌≡◌, ◌≢◌, true, false, cond, Option, Some, None, is_eq, refl, sym, ap, subst, ◌∙◌}
+use Rattle.std.proofs.Common.{◌≡◌, ◌≢◌, true, false, cond, Option, Some, None, refl, sym, ap, subst, ◌∙◌}
 use Rattle.std.specs.Cmp.{Equal-is}
 use Rattle.std.specs.FinMap.{get, insert, remove, get-insert, get-remove}
 use Rattle.std.specs.Ordering.{eq_by_cmp}

@@ -8,7 +8,7 @@ use Rattle.object_ids.specs.IdValues.{Id}
 use Rattle.object_ids.specs.Ids.{InRange}
 use Rattle.object_ids.specs.declared.ids.Kind.TheVariants as kinds
 use Rattle.chunk_store.specs.Grids.{Grid}
-use Rattle.chunk_store.specs.Marks.{Stored, IsTracked, Stands, cut, flagged, is_dirty, is_known, state, body_of}
+use Rattle.chunk_store.specs.Marks.{Stored, IsTracked, cut, is_dirty, is_known, body_of}
 use Rattle.object_acts.specs.declared.objects.Object.{Object}
 use Rattle.object_acts.specs.declared.objects.Body.{Body}
 use Rattle.object_acts.specs.declared.objects.Body.TheVariants as body
@@ -25,7 +25,7 @@ use Rattle.chunk_owner.specs.declared.slots.slot.Mark.{Mark}
 use Rattle.chunk_owner.specs.declared.slots.slot.Mark.TheVariants.{Kept, Changed, Dropped}
 use Rattle.chunk_owner.specs.declared.slots.slot.Slot.{Slot}
 use Rattle.chunk_owner.specs.Slots.Slots.{AreChunksIn, AreChunksOf, HasNoChunks, HasRecord, IsChunkMarked, IsMarkedIn, IsRecordOf, Says, chunks_at, is_index, is_meant}
-use Rattle.chunk_owner.specs.Slots.Cutting.{AddsChunks, AddsChunksIn, AddsFront, AddsSlot, AreMeant, IsObjectPart, chunk_body, chunk_record, is_among}
+use Rattle.chunk_owner.specs.Slots.Cutting.{AddsChunks, AddsChunksIn, AddsSlot, AreMeant, IsObjectPart, chunk_body, chunk_record, is_among}
 use Rattle.chunk_owner.specs.Slots.Settled.{ArraySettles, BodySettles, Settles, SettlesBy, SlotSettles}
 use Rattle.containers.proofs.Passing.{by_bool, contrary, or_either}
 use Rattle.chunk_owner.proofs.OfSlots.ChunkRecords.{chunks_written, chunks_once, object_outside}
@@ -33,11 +33,6 @@ use Rattle.chunk_owner.proofs.OfSlots.KeyFacts.{object_no_chunk}
 use Rattle.containers.specs.ShortLists.OrderLaws.{by_both}
 
 -- ---- some chunks were written
-
-dirty_state : (o : Option Bool) → flagged o ≡ true → o ≡ Some true
-dirty_state None e = contrary false (None ≡ Some true) e refl
-dirty_state (Some true) e = refl
-dirty_state (Some false) e = contrary false (Some false ≡ Some true) e refl
 
 module _ (mark : Mark) (s : Stored) (whole : Bool) (done : List (List ℕ)) (m : AreMeant mark s whole done) where
   pub meant_among : (i : List ℕ) → is_among done i ≡ true → is_meant mark s i ≡ true
@@ -58,34 +53,15 @@ module _ (mark : Mark) (s : Stored) (whole : Bool) (done : List (List ℕ)) (m :
 
 -- bodies at chunks, before and after
 module _ (s : Stored) (done : List (List ℕ)) (f g : List ℕ → List ℕ) where
-  -- the changed chunks may say anything
-  tracked_front : ((i : List ℕ) → is_among done i ≡ true → is_dirty s i ≡ true) → ((i : List ℕ) → g i ≡ cond (is_among done i) (body_of s.grid i) (f i)) → IsTracked f s → IsTracked g s
-  unfolding IsTracked
-  tracked_front dirty written tracked i = by_bool (is_among done i) (Stands (g i) (state s i) s.grid i)
-      (λ there. subst (λ (o : Option Bool). Stands (g i) o s.grid i) (sym (dirty_state (state s i) (dirty i there))) tt)
-      (λ out. subst (λ (b : List ℕ). Stands b (state s i) s.grid i) (sym (written i ∙ ap (λ b. cond b (body_of s.grid i) (f i)) out)) (tracked i))
-
   tracked_cut : (t : Stored) → ((i : List ℕ) → is_among done i ≡ is_dirty s i) → ((i : List ℕ) → g i ≡ cond (is_among done i) (body_of s.grid i) (f i)) → ArraySettles s t → IsTracked f s → IsTracked g t
   tracked_cut t all written settles tracked = subst (λ (h : List ℕ → List ℕ). IsTracked h t) (sym same) (settles.tracked f tracked) where
     same : g ≡ cut f s
     same k i = (written i ∙ ap (λ b. cond b (body_of s.grid i) (f i)) (all i)) k
 
-  gone_front : ((i : List ℕ) → is_among done i ≡ true → is_known s i ≡ true) → ((i : List ℕ) → g i ≡ cond (is_among done i) [] (f i)) → ((i : List ℕ) → is_known s i ≡ false → f i ≡ [])
-      → (i : List ℕ) → is_known s i ≡ false → g i ≡ []
-  gone_front known written none i unknown = by_bool (is_among done i) (g i ≡ [])
-      (λ there. written i ∙ ap (λ b. cond b [] (f i)) there)
-      (λ out. written i ∙ ap (λ b. cond b [] (f i)) out ∙ none i unknown)
-
   gone_cut : ((i : List ℕ) → is_among done i ≡ is_known s i) → ((i : List ℕ) → g i ≡ cond (is_among done i) [] (f i)) → ((i : List ℕ) → is_known s i ≡ false → f i ≡ []) → (i : List ℕ) → g i ≡ []
   gone_cut all written none i = by_bool (is_known s i) (g i ≡ [])
       (λ known. written i ∙ ap (λ b. cond b [] (f i)) (all i ∙ known))
       (λ unknown. written i ∙ ap (λ b. cond b [] (f i)) (all i ∙ unknown) ∙ none i unknown)
-
-chunks_front : (mark : Mark) (s : Stored) (whole : Bool) (done : List (List ℕ)) (f g : List ℕ → List ℕ) → AreMeant mark s whole done
-    → ((i : List ℕ) → g i ≡ cond (is_among done i) (chunk_body mark s.grid i) (f i)) → AreChunksOf mark f s → AreChunksOf mark g s
-chunks_front Kept s whole done f g m written said = tracked_front s done f g (meant_among Kept s whole done m) written said
-chunks_front Changed s whole done f g m written said = tracked_front s done f g (meant_among Changed s whole done m) written said
-chunks_front Dropped s whole done f g m written said = gone_front s done f g (meant_among Dropped s whole done m) written said
 
 -- ---- the record of the object
 
@@ -167,14 +143,6 @@ module _ (id : Id) (range : InRange id) (mark : Mark) (array : Stored) (kind : i
   }
 
 module _ (id : Id) (range : InRange id) (base : Held) (old new : List Record) where
-  -- some chunks were written
-  body_front : (mark : Mark) (b : Body) → kind_of_body b ≡ id.kind → AddsChunksIn id mark b false old new
-      → BodyCut id mark b base old new (λ held. AreChunksIn mark (chunks_at base id) b → AreChunksIn mark (chunks_at held id) b)
-  body_front mark (body.Group links) kind adds = no_chunks id mark (body.Group links) base old new (λ held. AreChunksIn mark (chunks_at base id) (body.Group links) → AreChunksIn mark (chunks_at held id) (body.Group links)) adds (λ said. said)
-  body_front mark (body.Dataset array) kind adds = some_chunks id range mark array (sym kind) false base old new adds (λ held. AreChunksOf mark (chunks_at base id) array → AreChunksOf mark (chunks_at held id) array)
-      (λ held written said. chunks_front mark array false adds.0 (chunks_at base id) (chunks_at held id) adds.1 written said)
-  body_front mark (body.Datatype type) kind adds = no_chunks id mark (body.Datatype type) base old new (λ held. AreChunksIn mark (chunks_at base id) (body.Datatype type) → AreChunksIn mark (chunks_at held id) (body.Datatype type)) adds (λ said. said)
-
   -- all of a removed object
   body_gone : (b : Body) → kind_of_body b ≡ id.kind → AddsChunksIn id Dropped b true old new
       → BodyCut id Dropped b base old new (λ held. AreChunksIn Dropped (chunks_at base id) b → HasNoChunks held id)
@@ -236,32 +204,6 @@ module _ (id : Id) (base : Held) (old mid new : List Record) (mark : Mark) (o : 
 
   first_chunks : chunks_at first id ≡ chunks_at base id
   first_chunks k i = chunks_beside id mark o object.0 base id i object.1 k
-
-kept_first : (id : Id) (mark : Mark) (o : Object) (added : List Record) (base : Held) → IsObjectPart (object_key id) mark o added → HasRecord mark o (get base (object_key id)) → HasRecord mark o (get (put_all added base) (object_key id))
-kept_first id Kept o added base part said = subst (λ (rs : List Record). IsRecordOf (Some o) (get (put_all rs base) (object_key id))) (sym part) said
-kept_first id Changed o added base part said = tt
-kept_first id Dropped o added base part said = tt
-
-said_at : (mark : Mark) (o : Object) (a b : Option (List ℕ)) → a ≡ b → HasRecord mark o b → HasRecord mark o a
-said_at mark o a b same said = subst (λ (r : Option (List ℕ)). HasRecord mark o r) (sym same) said
-
--- nothing was added
-none_cut : (id : Id) (s : Slot) (base : Held) (old new : List Record) → new ≡ old → IsCut (IsMarkedIn id s.mark s.object.body) base old new (λ held. Says (Some s) id base → Says (Some s) id held)
-none_cut id s base old new same = record { added = []; appended = same ∙ sym (append-nil old); changed = tt; once = tt; stands = λ said. said }
-
--- a cut that found no memory
-pub front_cut : (id : Id) (s : Slot) (base : Held) (old new : List Record) → InRange id → IsOfKind id.kind s.object → AddsFront id s old new
-    → IsCut (IsMarkedIn id s.mark s.object.body) base old new (λ held. Says (Some s) id base → Says (Some s) id held)
-front_cut id s base old new range of (inl same) = none_cut id s base old new same
-front_cut id s base old new range of (inr adds) =
-    let start = first id base old adds.0 new s.mark s.object adds.1 in
-    let f = chunks_at start id in
-    joined_cut id base old adds.0 new s.mark s.object adds.1 (λ held. AreChunksIn s.mark f s.object.body → AreChunksIn s.mark (chunks_at held id) s.object.body) (λ held. Says (Some s) id base → Says (Some s) id held)
-    (body_front id range start adds.0 new s.mark s.object.body of.kind adds.2)
-    (λ held same between said. (
-      said_at s.mark s.object (get held (object_key id)) (get start (object_key id)) same (kept_first id s.mark s.object adds.1.0 base adds.1.1 said.0),
-      between (subst (λ (g : List ℕ → List ℕ). AreChunksIn s.mark g s.object.body) (sym (first_chunks id base old adds.0 new s.mark s.object adds.1)) said.1),
-    ))
 
 module _ (id : Id) (s : Slot) (t : Option Slot) (base : Held) (old new : List Record) (range : InRange id) (of : IsOfKind id.kind s.object) where
   abbrev later : Mark → Held → Type 0

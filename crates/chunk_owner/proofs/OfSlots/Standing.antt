@@ -1,5 +1,5 @@
 -- The objects that stand, as one map.
-use Rattle.std.proofs.Common.{◌≡◌, ◌≢◌, ◌⊎◌, inl, inr, ℕ, ◌<◌, ◌==◌, Bool, true, false, cond, T, List, [], ◌∷◌, length, Option, Some, None, is_some, IsSome, Less, Equal, is_eq, refl, sym, ap, subst, ◌∙◌}
+use Rattle.std.proofs.Common.{◌≡◌, ◌≢◌, ◌<◌, Bool, true, false, cond, T, List, [], ◌∷◌, length, Option, Some, None, is_some, IsSome, Less, Equal, is_eq, refl, sym, ap, subst, ◌∙◌}
 use Rattle.std.specs.Cmp.{Equal-is}
 use Rattle.std.specs.FinMap.{empty, entries, entries_sorted, find, get, insert, remove, get-empty, get-entries, get-from_entries, get-insert, get-remove, is_sorted, same_map}
 use Rattle.std.specs.FinMap.Entries.{below_all}
@@ -11,10 +11,8 @@ use Rattle.object_ids.specs.IdOrder.{id_order}
 use Rattle.object_ids.specs.IdValues.{Id}
 use Rattle.object_ids.proofs.IdOrders.{id_order_once, id_order_total}
 use Rattle.object_acts.specs.declared.objects.Object.{Object}
-use Rattle.flush_journal.specs.Records.{Held}
 use Rattle.chunk_owner.specs.declared.slots.slot.Slot.{Slot}
-use Rattle.chunk_owner.specs.Slots.Marking.{AddsMarks, IsToDrop, IsToForget}
-use Rattle.chunk_owner.specs.Slots.Slots.{AreOfKind, HasSameIds, IsMarked, IsNextObject, Says, Slots, object_of, objects_of, standing, with_standing}
+use Rattle.chunk_owner.specs.Slots.Slots.{IsNextObject, Slots, object_of, objects_of, standing, with_standing}
 use Rattle.containers.proofs.Passing.{by_bool, contrary, fewer_there, found_find}
 use Rattle.chunk_owner.proofs.OfSlots.LaneCuts.{by_place, itself_not, weaker_behind}
 use Rattle.containers.proofs.Plain.{halves}
@@ -87,61 +85,6 @@ fewer_left m last id behind there = fewer_there (is_behind id_order (Some id)) (
     (found_find id_order id (entries m) (ap is_some (sym (get-entries m id)) ∙ there)) where
       at_id : (q : Id) → eq_by_cmp id_order id q ≡ true → (is_behind id_order (Some id) q ≡ false) × (is_behind id_order last q ≡ true)
       at_id q e = subst (λ (x : Id). (is_behind id_order (Some id) x ≡ false) × (is_behind id_order last x ≡ true)) (id_order_once id q ((Equal-is (id_order id q)).0 e)) (itself_not id, behind)
-
--- ---- the objects of one domain are removed
-
--- those of the ids up to one were
-pub record IsForgot (number : ℕ) (old cur : Slots) (last : Option Id) : Type 0 where
-  pub done : (q : Id) → is_behind id_order last q ≡ false → object_of (get cur q) ≡ cond (q.domain == number) None (object_of (get old q))
-  pub ahead : (q : Id) → is_behind id_order last q ≡ true → get cur q ≡ get old q
-  pub says : (q : Id) (held : Held) → Says (get old q) q held → Says (get cur q) q held
-  pub alone : AddsMarks (IsToForget number (get old)) old cur
-  pub kinds : AreOfKind cur
-  pub ids : HasSameIds old cur
-
-pub forgot_begin : (number : ℕ) (m : Slots) → AreOfKind m → IsForgot number m m None
-forgot_begin number m kinds = record {
-  done = λ q isnt. contrary true (object_of (get m q) ≡ cond (q.domain == number) None (object_of (get m q))) refl isnt;
-  ahead = λ q b. refl;
-  says = λ q held said. said;
-  alone = λ key marked. inl marked;
-  kinds = kinds;
-  ids = λ q none. none;
-}
-
-never : (b : Bool) (o : Option Object) → o ≡ None → None ≡ cond b None o
-never true o e = refl
-never false o e = sym e
-
-none_left : (number : ℕ) (old cur : Slots) (q : Id) → get cur q ≡ None → get cur q ≡ get old q → object_of (get cur q) ≡ cond (q.domain == number) None (object_of (get old q))
-none_left number old cur q none same = ap object_of none ∙ never (q.domain == number) (object_of (get old q)) (ap object_of (sym same ∙ none))
-
-module _ (number : ℕ) (old cur : Slots) (last : Option Id) (f : IsForgot number old cur last) where
-  pub forgot_more : (new : Slots) (id : Id) → IsNext cur last (Some id) → object_of (get new id) ≡ cond (id.domain == number) None (object_of (get cur id)) → ((q : Id) → q ≢ id → get new q ≡ get cur q)
-      → ((q : Id) (held : Held) → Says (get cur q) q held → Says (get new q) q held) → AddsMarks (λ key. (id.domain ≡ number) × IsToDrop id (get cur id) key) cur new → AreOfKind new
-      → HasSameIds cur new → IsForgot number old new (Some id)
-  forgot_more new id next here others says alone kinds ids = record {
-    done = λ q isnt. by_place id q (object_of (get new q) ≡ cond (q.domain == number) None (object_of (get old q))) isnt
-        (λ same. subst (λ (x : Id). object_of (get new x) ≡ cond (x.domain == number) None (object_of (get old x))) (sym same)
-        (here ∙ ap (λ (o : Option Slot). cond (id.domain == number) None (object_of o)) (f.ahead id next.0)))
-        (λ other less. ap object_of (others q other) ∙ by_bool (is_behind id_order last q) (object_of (get cur q) ≡ cond (q.domain == number) None (object_of (get old q)))
-        (λ b. none_left number old cur q (next.2 q b less) (f.ahead q b)) (λ b. f.done q b));
-    ahead = λ q b. others q (λ same. contrary (is_behind id_order (Some id) q) ⊥ b (subst (λ (x : Id). is_behind id_order (Some id) x ≡ false) (sym same) (itself_not id))) ∙ f.ahead q (weaker_behind last id q next.0 b);
-    says = λ q held said. says q held (f.says q held said);
-    alone = λ key marked. at key (alone key marked);
-    kinds = kinds;
-    ids = λ q none. ids q (f.ids q none);
-  } where
-    at : (key : List ℕ) → IsMarked cur key ⊎ ((id.domain ≡ number) × IsToDrop id (get cur id) key) → IsMarked old key ⊎ IsToForget number (get old) key
-    at key (inl was) = f.alone key was
-    at key (inr new) = inr (id, new.0, subst (λ (o : Option Slot). IsToDrop id o key) (f.ahead id next.0) new.1)
-
-  pub forgot_smaller : (id : Id) → IsNext cur last (Some id) → length (left id_order (Some id) (entries old)) < length (left id_order last (entries old))
-  forgot_smaller id next = fewer_left old last id next.0 (subst (λ (o : Option Slot). IsSome o) (f.ahead id next.0) next.1)
-
-  pub forgot_all : IsNext cur last None → (q : Id) → object_of (get cur q) ≡ cond (q.domain == number) None (object_of (get old q))
-  forgot_all none q = by_bool (is_behind id_order last q) (object_of (get cur q) ≡ cond (q.domain == number) None (object_of (get old q)))
-      (λ b. none_left number old cur q (none q b) (f.ahead q b)) (λ b. f.done q b)
 
 -- ---- one of them changes
 

@@ -2,21 +2,25 @@
 use Rattle.std.specs.Prelude.{◌≡◌, ◌≢◌, ◌⊎◌, ℕ, Bool, true, false, List, [], ◌∷◌, ◌++◌, map, Option, Some, None}
 use Rattle.std.specs.List.{AllByRecursion, list_any}
 use Rattle.std.specs.Str.{bytes_eq}
+use Rattle.std.specs.FinMap.{get}
 use Rattle.object_ids.specs.IdValues.{Id}
+use Rattle.object_ids.specs.Ids.{InRange}
 use Rattle.chunk_store.specs.Grids.{Grid}
 use Rattle.chunk_store.specs.Marks.{Stored, body_of}
 use Rattle.object_acts.specs.declared.objects.Object.{Object}
 use Rattle.object_acts.specs.declared.objects.Body.{Body}
 use Rattle.object_acts.specs.declared.objects.Body.TheVariants as body
 use Rattle.object_acts.specs.Objects.{kind_of_body}
-use Rattle.flush_journal.specs.Records.{Record}
+use Rattle.flush_journal.specs.Cuts.Cuts.{IsCut}
+use Rattle.flush_journal.specs.Records.{Held, Record}
 use Rattle.object_records.specs.Keys.Keys.{chunk_key, object_key}
 use Rattle.object_records.specs.Entries.{entry_of}
 use Rattle.object_records.specs.Objects.{object_body, object_of_body}
 use Rattle.chunk_owner.specs.declared.slots.slot.Mark.{Mark}
 use Rattle.chunk_owner.specs.declared.slots.slot.Mark.TheVariants.{Kept, Changed, Dropped}
 use Rattle.chunk_owner.specs.declared.slots.slot.Slot.{Slot}
-use Rattle.chunk_owner.specs.Slots.Slots.{is_index, is_meant}
+use Rattle.chunk_owner.specs.Slots.Settled.{AreSettled}
+use Rattle.chunk_owner.specs.Slots.Slots.{IsMarked, Says, Slots, is_index, is_meant}
 
 -- ---- an object
 
@@ -83,3 +87,11 @@ AddsAt id (Some s) old new = AddsSlot id s old new
 abbrev pub AddsFrontAt : Id → Option Slot → List Record → List Record → Type 0
 AddsFrontAt id None old new = new ≡ old
 AddsFrontAt id (Some s) old new = AddsFront id s old new
+
+-- ---- of all ids
+
+-- the records with which what was held says of each id what stands there, once all is settled
+abbrev pub AddsAll : Slots → List Record → List Record → Type 0
+AddsAll slots old new = (settled : Slots) → AreSettled slots settled → (base : Held)
+    → IsCut (IsMarked slots) base old new
+    (λ held. (id : Id) → InRange id → Says (get slots id) id base → Says (get settled id) id held)

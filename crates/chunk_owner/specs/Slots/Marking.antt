@@ -20,7 +20,7 @@ AddsMarks P old new = (key : List ℕ) → IsMarked new key → IsMarked old key
 abbrev pub IsChunkOutdated : Id → Op → Body → List ℕ → Type 0
 IsChunkOutdated id op b key = (i : List ℕ) × (key ≡ chunk_key id i) × (is_index i ≡ true) × (is_changed_by op b i ≡ true)
 
--- the key is that of an object of which more changes than cells, or of a chunk that the operation writes or cuts
+-- the key is that of an object of which more changes than cells, or of a chunk that the operation writes or truncates
 abbrev pub IsOutdated : Id → Op → Body → List ℕ → Type 0
 IsOutdated id op b key = ((key ≡ object_key id) × (writes_cells op ≡ false)) ⊎ IsChunkOutdated id op b key
 

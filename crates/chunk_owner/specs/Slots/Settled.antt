@@ -1,11 +1,14 @@
 -- What stands once the records of a cut are written.
 use Rattle.std.specs.Prelude.{◌≡◌, ℕ, List, Bool, true, false, Option, Some, None}
+use Rattle.std.specs.FinMap.{get}
+use Rattle.object_ids.specs.IdValues.{Id}
 use Rattle.chunk_store.specs.Marks.{Stored, IsTracked, cleared, cut, in_grid, state}
 use Rattle.object_acts.specs.declared.objects.Body.{Body}
 use Rattle.object_acts.specs.declared.objects.Body.TheVariants as body
 use Rattle.chunk_owner.specs.declared.slots.slot.Mark.{Mark}
 use Rattle.chunk_owner.specs.declared.slots.slot.Mark.TheVariants.{Kept, Dropped}
 use Rattle.chunk_owner.specs.declared.slots.slot.Slot.{Slot}
+use Rattle.chunk_owner.specs.Slots.Slots.{Slots}
 
 -- each chunk is taken as unchanged
 pub record ArraySettles (old new : Stored) : Type 0 where
@@ -40,3 +43,7 @@ SettlesBy mark s new = (settled : Slot) × (new ≡ Some settled) × SlotSettles
 abbrev pub Settles : Option Slot → Option Slot → Type 0
 Settles None new = new ≡ None
 Settles (Some s) new = SettlesBy s.mark s new
+
+-- so at each id
+abbrev pub AreSettled : Slots → Slots → Type 0
+AreSettled old new = (id : Id) → Settles (get old id) (get new id)

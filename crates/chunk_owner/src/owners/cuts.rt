@@ -7,7 +7,7 @@ ghost use Rattle.flush_journal.specs.Records.{Held};
 ghost use Rattle.flush_journal.specs.Cuts.Cuts.{AppendsEach, IsCut};
 ghost use Rattle.chunk_owner.specs.Slots.Bodies.{IsObjectRecord};
 ghost use Rattle.chunk_owner.specs.Lanes.{IsWhole};
-ghost use Rattle.chunk_owner.specs.Owners.Cutting.{CutsLane, IsStillAt};
+ghost use Rattle.chunk_owner.specs.Owners.Cutting.{CutsFront, CutsLane, IsStillAt};
 ghost use Rattle.chunk_owner.specs.Owners.Joined.{AreLanes, whole};
 ghost use Rattle.chunk_owner.specs.Owners.Records.{AreStillIn, IsMarkedIn, IsStandingIn, LanesSay};
 
@@ -20,8 +20,8 @@ use std::alloc::AllocError;
 ///
 /// # Errors
 ///
-/// Only where memory runs out. Then some first lanes are cut, and the next one perhaps in part; what was appended stays in
-/// the batch, and the marks of what is not cut stay.
+/// Only where memory runs out. Then some first lanes are cut whole; all others are as they were, and the batch has the
+/// records of those first ones alone.
 pub fn cut_lanes(owners: &mut [Owner], into: &mut Batch) -> Result<(), AllocError>
     requires lanes { AreLanes (length owners.old) 0 owners.old }
     ensures cut { (base : Held) → IsCut (IsMarkedIn owners.old) base
@@ -31,6 +31,8 @@ pub fn cut_lanes(owners: &mut [Owner], into: &mut Batch) -> Result<(), AllocErro
         (records into.old) (records into.new) }
     ensures standing { AppendsEach (IsStandingIn owners.old) (records into.old) (records into.new) }
     ensures still { OnOk result (AreStillIn owners.new) }
+    ensures front { OnErr result
+        (CutsFront owners.old owners.new (records into.old) (records into.new)) }
     ensures objects { whole owners.new ≡ whole owners.old }
     ensures lanes { AreLanes (length owners.old) 0 owners.new }
 {
@@ -46,6 +48,8 @@ fn cut_lane(owners: &mut [Owner], lane: usize, into: &mut Batch) -> Result<(), A
     requires { lane < length owners.old }
     ensures cuts { CutsLane lane owners.old owners.new (records into.old) (records into.new) }
     ensures still { OnOk result (IsStillAt lane owners.new) }
+    ensures err { OnErr result (owners.new ≡ owners.old) }
+    ensures back { OnErr result (records into.new ≡ records into.old) }
 {
     let owner = &mut owners[lane];
     let done = owner.cut(into);

@@ -16,7 +16,8 @@ ghost use Rattle.object_acts.specs.Objects.{IsOfKind, unmarked};
 ghost use Rattle.object_records.specs.Keys.Keys.{object_key};
 ghost use Rattle.chunk_owner.specs.Slots.Changed.{ChangesAt, is_outdated, mark_after, writes_cells};
 ghost use Rattle.chunk_owner.specs.Slots.Marking.{AddsMarks, IsOutdatedAt};
-ghost use Rattle.chunk_owner.specs.Slots.Slots.{AreOfKind, HasSameIds, Says, StillSays, object_of, objects_of};
+ghost use Rattle.chunk_owner.specs.Slots.Slots.{AreOfKind, Says, StillSays, object_of, objects_of};
+ghost use Rattle.chunk_owner.specs.Lanes.{LeavesOthers};
 ghost use Rattle.chunk_owner.specs.declared.slots.slot.Mark.TheVariants.{Dropped};
 
 use crate::slots::slot::{Mark, Slot};
@@ -109,7 +110,7 @@ pub fn change_at(
         × IsOutdatedAt id.now op.now (object_of (get slots.old id.now)) key)
         slots.old slots.new }
     ensures kinds { AreOfKind slots.new }
-    ensures same_ids { HasSameIds slots.old slots.new }
+    ensures others { LeavesOthers id.now slots.old slots.new }
 {
     match slots.get_mut(id) {
         Some(slot) => change(alloc, slot, op),
@@ -139,7 +140,7 @@ pub fn link_at(
     ensures alone { AddsMarks (λ key. IsDone result × (key ≡ object_key id.now))
         slots.old slots.new }
     ensures kinds { AreOfKind slots.new }
-    ensures same_ids { HasSameIds slots.old slots.new }
+    ensures others { LeavesOthers id.now slots.old slots.new }
 {
     match slots.get_mut(id) {
         Some(slot) => link_made(alloc, slot, id, title, fresh),

@@ -1,6 +1,6 @@
 //! Cuts of all objects of a lane.
 
-ghost use Rattle.std.specs.Prelude.{◌≡◌, ◌≢◌, ◌⊎◌, ℕ, List, true, false, OnOk, OnErr};
+ghost use Rattle.std.specs.Prelude.{◌≡◌, ◌⊎◌, ℕ, List, true, false, OnOk, OnErr};
 ghost use Rattle.std.specs.FinMap.{get};
 ghost use Rattle.flush_journal.specs.Batches.{records};
 ghost use Rattle.flush_journal.specs.Records.{Held};
@@ -11,12 +11,12 @@ ghost use Rattle.flush_journal.specs.Cuts.Cuts.{AppendsEach, IsCut};
 ghost use Rattle.object_records.specs.Keys.Keys.{object_key};
 ghost use Rattle.chunk_owner.specs.Slots.Slots.{AreOfKind, AreStill, IsMarked, Says, object_of};
 ghost use Rattle.chunk_owner.specs.Slots.Bodies.{IsSlotRecord};
-ghost use Rattle.chunk_owner.specs.Slots.Cutting.{AddsAt, AddsChunksIn, AddsFront, AddsFrontAt, AddsSlot};
+ghost use Rattle.chunk_owner.specs.Slots.Cutting.{AddsAll, AddsAt, AddsChunksIn, AddsFront, AddsFrontAt, AddsSlot};
 ghost use Rattle.chunk_owner.specs.Slots.Settled.{Settles};
 
 use crate::slots::chunks::cut_chunks;
 use crate::slots::objects::cut_object;
-use crate::slots::settling::settle_at;
+use crate::slots::settling::settle_all;
 use crate::slots::slot::{Mark, Slot};
 use flush_journal::Batch;
 use object_acts::Body;
@@ -29,8 +29,7 @@ use std::alloc::{AllocError, Global};
 ///
 /// # Errors
 ///
-/// Only where memory runs out. Then the objects of some first ids are cut, and the records of the next one perhaps in
-/// part; what was appended stays in the batch, and the marks of what is not cut stay.
+/// Only where memory runs out; then the objects with their marks and the batch are as they were.
 pub fn cut(alloc: Global, slots: &mut IdMap<Slot>, into: &mut Batch) -> Result<(), AllocError>
     requires { AreOfKind slots.old }
     ensures cut { (base : Held) → IsCut (IsMarked slots.old) base
@@ -44,37 +43,59 @@ pub fn cut(alloc: Global, slots: &mut IdMap<Slot>, into: &mut Batch) -> Result<(
     ensures marks { (key : List ℕ) → IsMarked slots.new key → IsMarked slots.old key }
     ensures same { (id : Id) → object_of (get slots.new id) ≡ object_of (get slots.old id) }
     ensures kinds { AreOfKind slots.new }
+    ensures err { OnErr result (slots.new ≡ slots.old) }
+    ensures back { OnErr result (records into.new ≡ records into.old) }
+{
+    append_whole(alloc, slots, into)?;
+    settle_all(slots);
+    Ok(())
+}
+
+// Appends the records of all objects, or none.
+fn append_whole(alloc: Global, slots: &IdMap<Slot>, into: &mut Batch) -> Result<(), AllocError>
+    requires { AreOfKind slots.now }
+    ensures cut { OnOk result (AddsAll slots.now (records into.old) (records into.new)) }
+    ensures bodies { AppendsEach (IsSlotRecord slots.now) (records into.old) (records into.new) }
+    ensures back { OnErr result (records into.new ≡ records into.old) }
+{
+    let size = into.size();
+    if let Err(error) = append_all(alloc, slots, into) {
+        into.truncate(size);
+        return Err(error);
+    }
+    Ok(())
+}
+
+// Appends the records of the objects, one after another.
+fn append_all(alloc: Global, slots: &IdMap<Slot>, into: &mut Batch) -> Result<(), AllocError>
+    requires { AreOfKind slots.now }
+    ensures cut { OnOk result (AddsAll slots.now (records into.old) (records into.new)) }
+    ensures bodies { AppendsEach (IsSlotRecord slots.now) (records into.old) (records into.new) }
 {
     let mut last = None;
     while let Some(id) = slots.next_id(last.as_ref()) {
-        cut_at(alloc, slots, &id, into)?;
+        append_id(alloc, slots, &id, into)?;
         last = Some(id);
     }
     Ok(())
 }
 
-// Cuts the object of an id.
-fn cut_at(
+// Appends the records of the object of an id.
+fn append_id(
     alloc: Global,
-    slots: &mut IdMap<Slot>,
+    slots: &IdMap<Slot>,
     id: &ObjectId,
     into: &mut Batch,
 ) -> Result<(), AllocError>
-    requires { AreOfKind slots.old }
+    requires { AreOfKind slots.now }
     ensures range { InRange id.now }
-    ensures added { OnOk result (AddsAt id.now (get slots.old id.now)
+    ensures added { OnOk result (AddsAt id.now (get slots.now id.now)
         (records into.old) (records into.new)) }
-    ensures settled { OnOk result (Settles (get slots.old id.now) (get slots.new id.now)) }
-    ensures others { OnOk result ((other : Id) → other ≢ id.now
-        → get slots.new other ≡ get slots.old other) }
-    ensures front { OnErr result (AddsFrontAt id.now (get slots.old id.now)
+    ensures front { OnErr result (AddsFrontAt id.now (get slots.now id.now)
         (records into.old) (records into.new)) }
-    ensures same { OnErr result (slots.new ≡ slots.old) }
 {
     let key = object_key(id);
-    append_at(alloc, slots, id, key.as_slice(), into)?;
-    settle_at(slots, id);
-    Ok(())
+    append_at(alloc, slots, id, key.as_slice(), into)
 }
 
 // Appends the records of the object of an id, whose key this is.

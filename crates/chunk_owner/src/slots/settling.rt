@@ -3,14 +3,25 @@
 ghost use Rattle.std.specs.Prelude.{◌≡◌, ◌≢◌, false};
 ghost use Rattle.std.specs.FinMap.{get};
 ghost use Rattle.object_ids.specs.IdValues.{Id};
-ghost use Rattle.chunk_owner.specs.Slots.Settled.{BodySettles, Settles, SlotSettles, is_dropped_slot};
+ghost use Rattle.chunk_owner.specs.Slots.Settled.{AreSettled, BodySettles, Settles, SlotSettles, is_dropped_slot};
 
 use crate::slots::slot::{Mark, Slot};
 use object_acts::Body;
 use object_ids::{IdMap, ObjectId};
 
-/// Takes the object of an id as kept, or lets it go where it was removed. It takes no memory.
-pub(crate) fn settle_at(slots: &mut IdMap<Slot>, id: &ObjectId)
+/// Takes each object as kept, or lets it go where it was removed. It takes no memory.
+pub(crate) fn settle_all(slots: &mut IdMap<Slot>)
+    ensures { AreSettled slots.old slots.new }
+{
+    let mut last = None;
+    while let Some(id) = slots.next_id(last.as_ref()) {
+        settle_at(slots, &id);
+        last = Some(id);
+    }
+}
+
+// Takes the object of an id as kept, or lets it go where it was removed.
+fn settle_at(slots: &mut IdMap<Slot>, id: &ObjectId)
     ensures here { Settles (get slots.old id.now) (get slots.new id.now) }
     ensures others { (other : Id) → other ≢ id.now → get slots.new other ≡ get slots.old other }
 {

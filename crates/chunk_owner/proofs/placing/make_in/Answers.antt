@@ -9,7 +9,6 @@ use Rattle.chunk_owner.specs.Slots.Slots.{IsMarkedIn, objects_of}
 use Rattle.chunk_owner.proofs.OfSlots.Marks.{adds_more}
 use Rattle.chunk_owner.proofs.OfSlots.Standing.{get-objects_of, objects-insert}
 use Rattle.chunk_owner.proofs.AtIds.{object_tree-unmarked}
-use Rattle.chunk_owner.proofs.LaneLemmas.{home_others}
 use Rattle.chunk_owner.proofs.MarkLemmas.{new_mark}
 use Rattle.chunk_owner.proofs.placing.make_in.Goals as goal
 use Rattle.object_ops.specs.Replies.{was_done}
@@ -20,8 +19,8 @@ put-requires-clause-new c = sym (get-objects_of c.args.slots.now c.args.id) ∙ 
 pub put-requires-clause-kind : goal.put-requires-clause-kind
 put-requires-clause-kind c = subst (λ (k : Kind). IsOfKind k c.in_ok-object.object) (sym c.requires.kind) c.in_ok-object.ensures.kind
 
-pub returns-in_err-put-clause-home : goal.returns-in_err-put-clause-home
-returns-in_err-put-clause-home c = home_others c.args.slots.now c.put.new.slots c.args.id c.in_err-put.ensures.others
+pub returns-in_err-put-clause-others : goal.returns-in_err-put-clause-others
+returns-in_err-put-clause-others c = c.in_err-put.ensures.others
 
 pub returns-clause-acts : goal.returns-clause-acts
 returns-clause-acts c = (
@@ -30,8 +29,8 @@ returns-clause-acts c = (
       ∙ ap (insert (objects_of c.args.slots.now) c.args.id) c.in_ok-object.ensures.made,
 )
 
-pub returns-clause-home : goal.returns-clause-home
-returns-clause-home c = home_others c.args.slots.now c.put.new.slots c.args.id c.in_ok-put.ensures.others
+pub returns-clause-others : goal.returns-clause-others
+returns-clause-others c = c.in_ok-put.ensures.others
 
 pub returns-clause-alone : goal.returns-clause-alone
 returns-clause-alone c =

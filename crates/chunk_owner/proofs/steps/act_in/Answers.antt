@@ -4,15 +4,15 @@ use Rattle.object_ops.specs.Parts.{id_of}
 use Rattle.chunk_owner.specs.Slots.Slots.{objects_of}
 use Rattle.chunk_owner.specs.Acts.{touched}
 use Rattle.chunk_owner.proofs.KeptLemmas.{acted_reading, touched_named}
-use Rattle.chunk_owner.proofs.LaneLemmas.{home_at}
+use Rattle.chunk_owner.proofs.LaneLemmas.{left_at}
 use Rattle.chunk_owner.proofs.MarkLemmas.{changed_alone, made_alone}
 use Rattle.chunk_owner.proofs.steps.act_in.Goals as goal
 
-pub returns-in-PutLink-clause-home : goal.returns-in-PutLink-clause-home
-returns-in-PutLink-clause-home c =
+pub returns-in-PutLink-clause-others : goal.returns-in-PutLink-clause-others
+returns-in-PutLink-clause-others c =
     let names = ⊎_elim (λ h. ap id_of h.2) (⊎_elim (λ h. ap id_of h.1) (⊎_elim (λ h. ap id_of h.2) (⊎_elim (λ h. ap id_of h.1) (⊎_elim (λ h. ap id_of h.1) (λ h. ap id_of h.2))))) c.in-PutLink.is in
-    home_at (touched c.args.grant.now c.args.op.now c.args.step) c.in-PutLink.id c.args.slots.now c.change_in.new.slots
-    (touched_named c.args.grant.now c.args.op.now c.args.step c.in-PutLink.id names) c.change_in.ensures.home
+    left_at (touched c.args.grant.now c.args.op.now c.args.step) c.in-PutLink.id c.args.slots.now c.change_in.new.slots
+    (touched_named c.args.grant.now c.args.op.now c.args.step c.in-PutLink.id names) c.change_in.ensures.others
 
 pub returns-in-GetObject-clause-acts : goal.returns-in-GetObject-clause-acts
 returns-in-GetObject-clause-acts c =

@@ -2,7 +2,7 @@ use Rattle.std.proofs.Common.{is_some, sym, ap, ◌∙◌}
 use Rattle.chunk_owner.specs.Slots.Slots.{objects_of}
 use Rattle.chunk_owner.proofs.OfSlots.Standing.{get-objects_of, objects-remove}
 use Rattle.chunk_owner.proofs.AtIds.{drops_absent, drops_foreign, drops_there, drops_root}
-use Rattle.chunk_owner.proofs.LaneLemmas.{home_same_ids, none_standing}
+use Rattle.chunk_owner.proofs.LaneLemmas.{none_standing}
 use Rattle.chunk_owner.proofs.touching.drop_in.Goals as goal
 
 pub returns-then-not-is_own-clause-reply : goal.returns-then-not-is_own-clause-reply
@@ -43,5 +43,5 @@ returns-clause-rest c =
     (ap is_some (get-objects_of c.args.slots.now c.args.id.now) ∙ sym c.has_object.ensures ∙ c.if-not-has_object.false)
     (objects-remove c.args.slots.now c.remove.new.slots c.args.id.now c.remove.ensures.gone c.remove.ensures.others) c.done.ensures).1
 
-pub returns-clause-home : goal.returns-clause-home
-returns-clause-home c = home_same_ids c.args.slots.now c.remove.new.slots c.args.id.now c.remove.ensures.same_ids
+pub returns-clause-others : goal.returns-clause-others
+returns-clause-others c = c.remove.ensures.others

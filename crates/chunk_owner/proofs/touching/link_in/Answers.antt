@@ -3,7 +3,7 @@ use Rattle.chunk_owner.specs.Slots.Slots.{objects_of}
 use Rattle.chunk_owner.proofs.OfSlots.Standing.{get-objects_of}
 use Rattle.chunk_owner.specs.Acts.{link_to}
 use Rattle.chunk_owner.proofs.AtIds.{changes_there, changes_foreign}
-use Rattle.chunk_owner.proofs.LaneLemmas.{home_same_ids, none_standing}
+use Rattle.chunk_owner.proofs.LaneLemmas.{none_standing}
 use Rattle.chunk_owner.proofs.touching.link_in.Goals as goal
 
 pub returns-then-not-is_own-clause-acts : goal.returns-then-not-is_own-clause-acts
@@ -21,5 +21,5 @@ returns-clause-acts c =
     changes_there c.args.grant.now c.args.place.now.group (link_to c.args.place.now c.args.fresh) (objects_of c.args.slots.now) (objects_of c.link_at.new.slots) c.link_at.result
     (sym c.is_own.ensures ∙ c.if-not-is_own.false) (ap is_some (get-objects_of c.args.slots.now c.args.place.now.group) ∙ sym c.has_object.ensures ∙ c.if-not-has_object.false) c.link_at.ensures.acts
 
-pub returns-clause-home : goal.returns-clause-home
-returns-clause-home c = home_same_ids c.args.slots.now c.link_at.new.slots c.args.place.now.group c.link_at.ensures.same_ids
+pub returns-clause-others : goal.returns-clause-others
+returns-clause-others c = c.link_at.ensures.others

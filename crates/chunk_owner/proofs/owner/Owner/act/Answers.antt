@@ -13,7 +13,7 @@ pub invariant_of-self : goal.invariant_of-self
 invariant_of-self c =
     slots_after c.self.inside.lane c.self.inside.lanes (touched c.args.grant.now c.args.op.now c.args.step) c.self.inside.slots c.act_in.new.slots
     (subst (λ (l : Lane). IsTouchedIn l.lane l.lanes (touched c.args.grant.now c.args.op.now c.args.step)) (sym c.self.view_is) c.requires.touched)
-    c.act_in.ensures.home c.act_in.ensures.kinds c.self.invariant
+    c.act_in.ensures.others c.act_in.ensures.kinds c.self.invariant
 
 pub returns-clause-acts : goal.returns-clause-acts
 returns-clause-acts c =

@@ -1,6 +1,7 @@
 use Rattle.std.proofs.Common.{sym}
 use Rattle.object_acts.specs.Acts.{change_of}
-use Rattle.chunk_owner.proofs.OfSlots.ChangedSlots.{changed_kinds, changed_said, changes_at, same_ids, there_live}
+use Rattle.chunk_owner.proofs.OfSlots.ChangedSlots.{changed_kinds, changed_said, changes_at, there_live}
+use Rattle.chunk_owner.proofs.OfSlots.KeptSlots.{put_others}
 use Rattle.chunk_owner.proofs.OfSlots.Marks.{change_alone}
 use Rattle.chunk_owner.proofs.slots.changing.change_at.Goals as goal
 
@@ -19,10 +20,8 @@ returns-clause-kinds c =
     changed_kinds c.args.slots.now c.args.id.now c.in-Some.slot.now c.change.new.slot (sym c.in-Some.ensures.value) (there_live c.args.slots.now c.args.id.now c.in-Some.slot.now (sym c.in-Some.ensures.value) c.requires.there)
     c.change.ensures.live c.change.ensures.kind c.requires.kinds
 
-pub returns-clause-same_ids : goal.returns-clause-same_ids
-returns-clause-same_ids c =
-    same_ids c.args.slots.now c.args.id.now c.in-Some.slot.now c.change.new.slot (sym c.in-Some.ensures.value) (there_live c.args.slots.now c.args.id.now c.in-Some.slot.now (sym c.in-Some.ensures.value) c.requires.there)
-    c.change.ensures.live
+pub returns-clause-others : goal.returns-clause-others
+returns-clause-others c = put_others c.args.slots.now c.args.id.now c.change.new.slot
 
 pub returns-clause-alone : goal.returns-clause-alone
 returns-clause-alone c =

@@ -1,7 +1,8 @@
 use Rattle.std.proofs.Common.{sym}
 use Rattle.groups_links.specs.declared.target.LinkTo.TheVariants.{Hard}
 use Rattle.object_acts.specs.Acts.{link_put, on_links}
-use Rattle.chunk_owner.proofs.OfSlots.ChangedSlots.{changed_kinds, changed_said, changes_at, same_ids, there_live}
+use Rattle.chunk_owner.proofs.OfSlots.ChangedSlots.{changed_kinds, changed_said, changes_at, there_live}
+use Rattle.chunk_owner.proofs.OfSlots.KeptSlots.{put_others}
 use Rattle.chunk_owner.proofs.OfSlots.Marks.{link_alone}
 use Rattle.chunk_owner.proofs.slots.changing.link_at.Goals as goal
 
@@ -20,10 +21,8 @@ returns-clause-kinds c =
     changed_kinds c.args.slots.now c.args.id.now c.in-Some.slot.now c.link_made.new.slot (sym c.in-Some.ensures.value) (there_live c.args.slots.now c.args.id.now c.in-Some.slot.now (sym c.in-Some.ensures.value) c.requires.there)
     c.link_made.ensures.live c.link_made.ensures.kind c.requires.kinds
 
-pub returns-clause-same_ids : goal.returns-clause-same_ids
-returns-clause-same_ids c =
-    same_ids c.args.slots.now c.args.id.now c.in-Some.slot.now c.link_made.new.slot (sym c.in-Some.ensures.value) (there_live c.args.slots.now c.args.id.now c.in-Some.slot.now (sym c.in-Some.ensures.value) c.requires.there)
-    c.link_made.ensures.live
+pub returns-clause-others : goal.returns-clause-others
+returns-clause-others c = put_others c.args.slots.now c.args.id.now c.link_made.new.slot
 
 pub returns-clause-alone : goal.returns-clause-alone
 returns-clause-alone c =
