@@ -1,20 +1,22 @@
--- Once all is kept, the next cut writes nothing.
-use Rattle.std.proofs.Common.{◌≡◌, inl, inr, ℕ, true, false, is_some, ◌||◌, ◌&&◌, List, [], ◌∷◌, sym, ap, subst, ◌∙◌, true≢false}
+-- Once all is kept, the next cut writes nothing; and a cut that found no memory stops so.
+use Rattle.std.proofs.Common.{◌≡◌, inl, inr, ℕ, false, is_some, ◌||◌, ◌&&◌, Result, Ok, Err, OnErr, List, [], ◌∷◌, sym, ap, subst, ◌∙◌, true≢false}
 use Rattle.std.specs.FinMap.{contains_key, get-empty}
 use Rattle.containers.specs.TextMaps.Keyed.{text_order}
 use Rattle.object_ids.specs.IdValues.{Id}
 use Rattle.flush_journal.specs.Records.{Record}
 use Rattle.object_acts.specs.declared.objects.Body.{Body}
 use Rattle.object_acts.specs.declared.objects.Body.TheVariants as body
-use Rattle.chunk_owner.specs.Slots.Slots.{AreStill, IsMarked, IsMarkedIn as IsMarkedAt, IsMeantIn, IsStillBody}
+use Rattle.chunk_owner.specs.Slots.Slots.{IsMarkedIn as IsMarkedAt, IsMeantIn, IsStillBody}
 use Rattle.chunk_owner.specs.declared.slots.slot.Mark.{Mark}
 use Rattle.chunk_owner.specs.declared.slots.slot.Mark.TheVariants.{Kept}
 use Rattle.chunk_owner.specs.Lanes.{Lane}
+use Rattle.chunk_owner.specs.Owners.Cutting.{CutsFront}
 use Rattle.chunk_owner.specs.Owners.Records.{AreStillIn, IsMarkedIn}
 use Rattle.register.specs.Decided.{RegisterState}
-use Rattle.register.specs.Kept.{IsRegisterMarked, all_kept, is_marked_in}
+use Rattle.register.specs.Kept.{IsRegisterMarked, is_marked_in}
 use Rattle.register.specs.Kept.IsRegisterMarked.{the_run, the_next, a_node}
 use Rattle.register.specs.Marks.{Marked, no_marks}
+use Rattle.service_core.specs.Cutting.{IsCutRegister, StopsCut, in_lane}
 use Rattle.service_core.specs.Records.{IsCutRecord, IsKept, IsWorldMarked}
 use Rattle.service_core.specs.Worlds.{State}
 
@@ -45,3 +47,15 @@ unmarked s key kept (inr lanes) = lanes_still s.lanes key kept.lanes lanes
 
 pub nothing_to_cut : (s : State) → IsKept s → (r : Record) → IsCutRecord s r → ⊥
 nothing_to_cut s kept r cut = unmarked s r.0 kept cut.marked
+
+-- ---- a cut that found no memory
+
+pub err_stops : {A E : Type 0} {P : Type 0} (r : Result A E) → P → OnErr r P
+err_stops (Ok x) p = tt
+err_stops (Err e) p = p
+
+-- in a lane
+pub lanes_stop : {E : Type 0} (r : Result (Unit {0}) E) (d new : RegisterState) (ls left : List Lane) (first mid last : List Record) → IsCutRegister d new first mid → OnErr r (CutsFront ls left mid last)
+    → OnErr r (StopsCut (record { register = d; lanes = ls }) (record { register = new; lanes = left }) first last)
+lanes_stop (Ok u) d new ls left first mid last register front = tt
+lanes_stop (Err e) d new ls left first mid last register front = in_lane mid register front

@@ -13,11 +13,12 @@ use Rattle.chunk_owner.specs.Owners.Records.{AreFaultless, AreGivenUpTo, Describ
 use Rattle.register.specs.Installed.Registers.{IsNextNumber, IsRegisterFault, IsRun}
 use Rattle.register.proofs.Installing.{faultless}
 use Rattle.register.specs.Decided.{RegisterState}
-use Rattle.register.specs.Kept.{IsInstalled, MatchFault, MatchUsed, of_records}
+use Rattle.register.specs.Kept.{IsInstalled, IsUsedUp, MatchFault, MatchUsed, of_records}
 use Rattle.register.specs.declared.installs.InstallFault.{InstallFault}
 use Rattle.register.specs.declared.installs.InstallFault.TheVariants.{BadRecord, RunsUsed, NoMemory}
 use Rattle.service_core.specs.Strays.Strays.{HasNoStrays, IsStray}
-use Rattle.service_core.specs.Records.{IsWorldFault, IsWorldOf, Names, of_lane, of_none, of_register}
+use Rattle.service_core.specs.Records.{IsKeyTold, IsWorldFault, IsWorldOf, Names, TellsKey, of_lane, of_none, of_register}
+use Rattle.service_core.proofs.OfDescribed.NamedLemmas.{faults_are_one, same_lane_fault}
 use Rattle.service_core.specs.Worlds.{IsBuilt}
 
 module _ (held : Held) (lanes : ℕ) (d : RegisterState) (is : IsInstalled held lanes d) (run next : ℕ) (runs : run ≡ d.run - 1) (nexts : next ≡ d.catalogue.next) where
@@ -92,3 +93,39 @@ pub named_used : (P : Type 0) (key : List ℕ) (e : InstallFault) → Names key 
 named_used P key (BadRecord k) names = tt
 named_used P key RunsUsed names = absurd names
 named_used P key NoMemory names = tt
+
+-- ---- a key at fault is named
+
+pub named_by : (held : Held) (lanes : ℕ) (e : InstallFault) → MatchFault e (IsWorldFault lanes held) → MatchUsed e (IsUsedUp held) → (key : List ℕ) → IsWorldFault lanes held key → (IsUsedUp held → ⊥) → IsKeyTold key e
+named_by held lanes (BadRecord k) fault used key is unused = faults_are_one held lanes key k.items is fault
+named_by held lanes RunsUsed fault used key is unused = absurd (unused used)
+named_by held lanes NoMemory fault used key is unused = tt
+
+pub named_handed : {A : Type 0} (P : InstallFault → Type 0) (held : Held) (lanes : ℕ) (r : Result A InstallFault) → IsErrAnd r P → IfErr r (λ e. MatchFault e (IsWorldFault lanes held)) → IfErr r (λ e. MatchUsed e (IsUsedUp held))
+    → (key : List ℕ) → IsWorldFault lanes held key → (IsUsedUp held → ⊥) → TellsKey key r
+named_handed P held lanes (Ok x) h fault used key is unused = absurd h
+named_handed P held lanes (Err e) h fault used key is unused = named_by held lanes e fault used key is unused
+
+-- where a world is made, no key is at fault
+pub none_named : (held : Held) (run next : ℕ) → IsRun held run → IsNextNumber held next → ((q : List ℕ) → IsRegisterFault held q → ⊥) → (lanes : ℕ) → AreFaultless lanes run next held → HasNoStrays held
+    → (key : List ℕ) → IsWorldFault lanes held key → ⊥
+none_named held run next r n sound lanes none strays key (of_register x) = sound key x.has
+none_named held run next r n sound lanes none strays key (of_lane last after l a also x) =
+    let first = same_lane_fault lanes run next last after held key r l n a x in none first.lane first.of key first.least.has
+none_named held run next r n sound lanes none strays key (of_none last after l a also others x) = strays key x.has
+
+pub none_installed : (held : Held) (lanes : ℕ) (d : RegisterState) (is : IsInstalled held lanes d) (run next : ℕ) → run ≡ d.run - 1 → next ≡ d.catalogue.next → AreFaultless lanes run next held → HasNoStrays held
+    → {A : Type 0} (key : List ℕ) → IsWorldFault lanes held key → (IsUsedUp held → ⊥) → A
+none_installed held lanes d is run next runs nexts none strays key fault unused = absurd (none_named held run next
+    (subst (IsRun held) (sym (kept_run held lanes d is run next runs nexts)) is.described.kept) (subst (IsNextNumber held) (sym nexts) is.described.next)
+    (sound held lanes d is run next runs nexts) lanes none strays key fault)
+
+pub used_handed : {A : Type 0} (P : Type 0) (fault : LaneFault) (r : Result A InstallFault) → IsErrAnd r (λ e. e ≡ of_records fault) → IfErr r (λ e. MatchUsed e P)
+used_handed P fault (Ok x) h = tt
+used_handed P fault (Err e) h = never_used P fault e h
+
+pub register_named : {A : Type 0} (held : Held) (lanes : ℕ) (fault : InstallFault) (r : Result A InstallFault) → IsErrAnd r (λ e. e ≡ fault) → MatchFault fault (IsLeast (IsRegisterFault held)) → MatchUsed fault (IsUsedUp held)
+    → (key : List ℕ) → IsWorldFault lanes held key → (IsUsedUp held → ⊥) → TellsKey key r
+register_named held lanes fault (Ok x) h match used key is unused = absurd h
+register_named held lanes fault (Err e) h match used key is unused =
+    subst (λ (x : InstallFault). IsKeyTold key x) (sym h) (named_by held lanes fault (of_register_fault lanes held fault match) used key is unused)

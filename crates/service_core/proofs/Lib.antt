@@ -12,6 +12,8 @@ pub mod RecordLemmas
 pub mod InstallLemmas
 pub mod LaterLemmas
 pub mod CutRecords
+pub mod DecideMarks
+pub mod TurnMarks
 pub mod AnswerTrees
 pub mod OfDescribed
 pub mod OfJournals

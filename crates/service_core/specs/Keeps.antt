@@ -10,6 +10,7 @@ use Rattle.object_ops.specs.declared.replies.Reply.TheVariants as reply
 use Rattle.chunk_owner.specs.Lanes.{AreShown}
 use Rattle.register.specs.Decided.{RegisterState, passed}
 use Rattle.service_core.specs.declared.answers.What.TheVariants.{Replied, Denied}
+use Rattle.service_core.specs.Marking.{changes_node}
 use Rattle.service_core.specs.Steps.{World, step}
 
 abbrev pub makes_object : Op → Bool
@@ -33,3 +34,9 @@ abbrev pub RefusalsKeep : Type 0
 RefusalsKeep = (w : World) (caller : Caller) (request : Request) (refusal : Refusal) → AreShown w.objects
     → (step w caller request).0 ≡ Replied (reply.Refused refusal)
     → KeepsAll request.op w.register (step w caller request).1.register × ((step w caller request).1.objects ≡ w.objects)
+
+-- what neither makes, changes nor removes a node leaves the catalogue, whatever it is answered
+abbrev pub OthersKeepTheCatalogue : Type 0
+OthersKeepTheCatalogue = (w : World) (caller : Caller) (request : Request)
+    → changes_node request.op ≡ false
+    → (step w caller request).1.register.catalogue ≡ w.register.catalogue

@@ -3,6 +3,8 @@ pub mod Turns
 pub mod Worlds
 pub mod Records
 pub mod Replays
+pub mod Marking
+pub mod Cutting
 pub mod Keeps
 pub mod KeptWorlds
 pub mod Laws

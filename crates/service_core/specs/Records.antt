@@ -9,7 +9,7 @@
 --     DescribesWorld held run w      what is held describes the world, in this run
 --     IsWorldOf held lanes s      the world that is described, at the begin of the next run
 --     IsWorldFault lanes held key      the key that is named where none is described
-use Rattle.std.specs.Prelude.{◌≡◌, ℕ, ◌⊎◌, List, Result, Err}
+use Rattle.std.specs.Prelude.{◌≡◌, ℕ, ◌⊎◌, List, Result, Ok, Err}
 use Rattle.flush_journal.specs.Records.{Held, Record}
 use Rattle.flush_journal.specs.declared.why.Why.{Why}
 use Rattle.flush_journal.specs.declared.why.Why.TheVariants as why
@@ -96,6 +96,16 @@ abbrev pub Names : List ℕ → InstallFault → Type 0
 Names key (BadRecord k) = k.items ≡ key
 Names key RunsUsed = ⊥
 Names key NoMemory = Unit {0}
+
+-- the key is told; but for want of memory
+abbrev pub IsKeyTold : List ℕ → InstallFault → Type 0
+IsKeyTold key (BadRecord k) = k.items ≡ key
+IsKeyTold key RunsUsed = ⊥
+IsKeyTold key NoMemory = Unit {0}
+
+abbrev pub TellsKey : {A : Type 0} → List ℕ → Result A InstallFault → Type 0
+TellsKey key (Ok s) = ⊥
+TellsKey key (Err fault) = IsKeyTold key fault
 
 -- ---- the begin of a run
 

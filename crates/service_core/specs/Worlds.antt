@@ -21,6 +21,15 @@ pub record State : Type 0 where
 abbrev pub seen : State → World
 seen s = record { register = s.register; objects = whole s.lanes }
 
+-- the owners of some lanes, one after another, and how many there is room for
+pub record OwnerList : Type 0 where
+  pub owners : List Lane
+  pub room : ℕ
+
+-- each of them, and no room for more
+abbrev pub full_of : List Lane → OwnerList
+full_of owners = record { owners = owners; room = length owners }
+
 -- one owner for each lane, in order, and all that they hold was given
 pub record IsBuilt (register : RegisterState) (owners : List Lane) : Type 0 where
   pub count : length owners ≡ length register.issued

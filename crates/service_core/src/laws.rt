@@ -1,6 +1,6 @@
 //! What holds of every step, and of many.
 
-ghost use Rattle.service_core.specs.Keeps.{DenialsKeep, RefusalsKeep};
+ghost use Rattle.service_core.specs.Keeps.{DenialsKeep, OthersKeepTheCatalogue, RefusalsKeep};
 ghost use Rattle.service_core.specs.Laws.{DomainsAreForgotten, LinkedThenMade, MadeAlone, OneObject};
 ghost use Rattle.service_core.specs.Laws.{PlacesGoOn, PlacesInOrder, ReplaysAlike, StepsAlike};
 ghost use Rattle.service_core.specs.Replays.{CallsAreReplays};
@@ -22,6 +22,12 @@ pub fn unserved_requests_keep_the_world()
 {
     refusals_leave_all();
 }
+
+/// What neither makes, changes nor removes a folder or domain, nor puts an entry into its list, leaves the catalogue,
+/// whatever it is answered.
+pub fn other_requests_keep_the_catalogue()
+    ensures { OthersKeepTheCatalogue }
+{}
 
 /// Calls have the places in order, one each, whatever they are answered.
 pub fn places_in_order()

@@ -11,13 +11,15 @@ mod faults;
 pub mod journals;
 mod kept;
 mod laws;
+mod owners;
 pub mod strays;
 mod turns;
 mod world;
 
 pub use answers::{Answer, What};
 pub use laws::{
-    calls_are_replays, granted_requests_in_other_words, places_and_tickets_tell_nothing,
-    places_in_order, unserved_requests_keep_the_world,
+    calls_are_replays, granted_requests_in_other_words, other_requests_keep_the_catalogue,
+    places_and_tickets_tell_nothing, places_in_order, unserved_requests_keep_the_world,
 };
+pub use owners::Owners;
 pub use world::World;

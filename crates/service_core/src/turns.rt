@@ -8,6 +8,8 @@ ghost use Rattle.chunk_owner.specs.Acts.{acted};
 ghost use Rattle.register.specs.Tickets.{AreEach};
 ghost use Rattle.chunk_owner.specs.Owners.Joined.{AreLanes, whole};
 ghost use Rattle.chunk_owner.specs.Owners.Records.{LanesStillSay};
+ghost use Rattle.service_core.specs.Marking.{AddsLaneMarks, IsForgetMark, IsServiceMark};
+ghost use Rattle.service_core.specs.Marking.{IsStepMark, IsTakenMark, IsTurnMark};
 ghost use Rattle.service_core.specs.Steps.{Runs, Serves, Takes, without_domain};
 ghost use Rattle.service_core.specs.Turns.{AreReady, AreServable, IsReadyAt};
 
@@ -42,8 +44,11 @@ fn act_in(
         result (whole owners.new) }
     ensures lanes { AreLanes (length owners.old) 0 owners.new }
     ensures says { LanesStillSay owners.old owners.new }
+    ensures alone { AddsLaneMarks (IsStepMark grant.now op.now step (whole owners.old))
+        owners.old owners.new }
 {
     let owner = &mut owners[lane as usize];
+    owner.is_whole();
     owner.act(op, step, grant)
 }
 
@@ -64,6 +69,8 @@ fn take_turn(
     ensures acts { Takes grant.now op.now turn.now.step (whole owners.old) result (whole owners.new) }
     ensures lanes { AreLanes (length owners.old) 0 owners.new }
     ensures says { LanesStillSay owners.old owners.new }
+    ensures alone { AddsLaneMarks (IsTakenMark grant.now op.now turn.now.step (whole owners.old))
+        owners.old owners.new }
 {
     match turn.step {
         Some(step) => act_in(owners, turn.lane, step, op, grant),
@@ -87,6 +94,9 @@ fn run_turns(
         (whole owners.new) }
     ensures lanes { AreLanes (length owners.old) 0 owners.new }
     ensures says { LanesStillSay owners.old owners.new }
+    ensures alone { AddsLaneMarks
+        (IsTurnMark tickets.old.grant op.now tickets.old.left (whole owners.old))
+        owners.old owners.new }
 {
     let grant = tickets.grant();
     let mut reply = Reply::done(alloc, 200);
@@ -106,9 +116,12 @@ fn forget_turns(owners: &mut [Owner], tickets: &mut Tickets, number: u64)
     ensures rest { whole owners.new ≡ without_domain number (whole owners.old) }
     ensures lanes { AreLanes (length owners.old) 0 owners.new }
     ensures says { LanesStillSay owners.old owners.new }
+    ensures alone { AddsLaneMarks (IsForgetMark number (whole owners.old))
+        owners.old owners.new }
 {
     'lanes: while let Some(turn) = tickets.next() {
         let owner = &mut owners[turn.lane as usize];
+        owner.is_whole();
         owner.forget(number);
     }
 }
@@ -133,6 +146,8 @@ fn take_turns(
     ensures serves { Serves op.now tickets.old (whole owners.old) result (whole owners.new) }
     ensures lanes { AreLanes (length owners.old) 0 owners.new }
     ensures says { LanesStillSay owners.old owners.new }
+    ensures alone { AddsLaneMarks (IsServiceMark op.now tickets.old (whole owners.old))
+        owners.old owners.new }
 {
     match op {
         Op::DropNode => {
@@ -157,6 +172,8 @@ pub(crate) fn serve(
     ensures serves { Serves op.now tickets (whole owners.old) result (whole owners.new) }
     ensures lanes { AreLanes (length owners.old) 0 owners.new }
     ensures says { LanesStillSay owners.old owners.new }
+    ensures alone { AddsLaneMarks (IsServiceMark op.now tickets (whole owners.old))
+        owners.old owners.new }
 {
     let done = take_turns(alloc, owners, &mut tickets, op);
     drain(&mut tickets);

@@ -1,6 +1,6 @@
 //! The world.
 
-ghost use Rattle.std.specs.Prelude.{◌≡◌, ◌↔◌, IsTrue, ◌+◌, ◌<◌, ◌≤◌, [], ◌∷◌, length, None, IfErr, IfOk, IfSome, OnErr, OnOk, option_map};
+ghost use Rattle.std.specs.Prelude.{◌≡◌, ◌↔◌, ℕ, IsTrue, ◌+◌, ◌<◌, ◌≤◌, List, [], ◌∷◌, length, None, IfErr, IfOk, IfSome, OnErr, OnOk, option_map};
 ghost use Rattle.std.specs.FinMap.{empty, get, insert};
 ghost use Rattle.std.specs.Option.{option_copied};
 ghost use Rattle.object_ids.specs.Ids.{lane_of};
@@ -21,15 +21,23 @@ ghost use Rattle.register.specs.Kept.{IsUsedUp, MatchFault, MatchUsed, RegisterS
 ghost use Rattle.register.specs.Decided.{HasRoom, IsRegister, domain_added, domain_refused, fresh_given, serial_limit};
 ghost use Rattle.chunk_owner.specs.Owners.Joined.{AreLanes, whole};
 ghost use Rattle.chunk_owner.specs.Owners.Records.{AreStillIn, AreUndropped, LanesStillSay};
+ghost use Rattle.chunk_owner.specs.Slots.Slots.{IsMarkedIn};
+ghost use Rattle.chunk_owner.specs.declared.slots.slot.Mark.TheVariants.{Changed};
+ghost use Rattle.service_core.specs.Cutting.{StopsCut};
+ghost use Rattle.service_core.specs.Marking.{AddsLaneMarks, AddsWorldMarks, IsRequestMark};
+ghost use Rattle.service_core.specs.Marking.{IsVerdictMark};
 ghost use Rattle.service_core.specs.Records.{DescribesWorld, IsCutRecord, IsKept, IsSameWorld};
 ghost use Rattle.service_core.specs.Records.{IsWorldFault, IsWorldMarked};
-ghost use Rattle.service_core.specs.Records.{IsWorldOf, OrNoMemory, WorldSays, WorldStillSays, run_record};
+ghost use Rattle.service_core.specs.Records.{IsWorldOf, OrNoMemory, TellsKey, WorldSays};
+ghost use Rattle.service_core.specs.Records.{WorldStillSays, run_record};
 ghost use Rattle.service_core.specs.Steps.{IsGiven, IsWorld, Obeys, Steps};
 ghost use Rattle.service_core.specs.Turns.{IsServable};
-ghost use Rattle.service_core.specs.Worlds.{IsFreshId, IsNew, lesser, seen, with_object, with_register};
+ghost use Rattle.service_core.specs.Worlds.{IsBuilt, IsFreshId, IsNew, full_of, lesser, seen};
+ghost use Rattle.service_core.specs.Worlds.{with_object, with_register};
 
 use crate::answers::{Answer, What};
 use crate::faults::bad_record;
+use crate::owners::Owners;
 use crate::strays::first_stray;
 use crate::turns::serve;
 use access_lists::Caller;
@@ -102,8 +110,9 @@ impl World {
     ///
     /// # Errors
     ///
-    /// `BadRecord` with the least key at fault of the register, else of the first lane that has one, else of no part;
-    /// `RunsUsed` exactly where no record of the register is at fault and the kept run is the last; or `NoMemory`.
+    /// `RunsUsed` exactly where no record of the register is at fault and the kept run is the last; else `BadRecord` exactly
+    /// where a key is at fault, with the least one of the register, else of the first lane that has one, else of no part. Or
+    /// `NoMemory`.
     pub fn install(alloc: Global, lanes: u32, kept: Recovered) -> Result<World, InstallFault>
         requires some_lane { 1 ≤ lanes }
         requires few_lanes { lanes ≤ 16 }
@@ -113,6 +122,10 @@ impl World {
         ensures fault { IfErr result (λ e. MatchFault e (IsWorldFault lanes kept)) }
         ensures used { IfErr result (λ e. MatchUsed e (IsUsedUp kept)) }
         ensures told { IsUsedUp kept → TellsUsed result }
+
+        // A key at fault is named exactly where there is one, and a run is left.
+        ensures named { (key : List ℕ) → IsWorldFault lanes kept key → (IsUsedUp kept → ⊥)
+            → TellsKey key result }
     {
         let register = Register::install(alloc, lanes, &kept)?;
         let next = register.catalogue().next_number();
@@ -124,6 +137,33 @@ impl World {
                 register,
                 owners,
             }),
+        }
+    }
+
+    /// The register and the owners of all its lanes, for those who run them side by side. Takes no memory.
+    pub fn parts(self) -> (Register, Owners)
+        ensures register { result.0 ≡ self.register }
+        ensures owners { result.1 ≡ full_of self.lanes }
+        ensures built { IsBuilt self.register self.lanes }
+    {
+        let World {
+            alloc,
+            register,
+            owners,
+        } = self;
+        (register, Owners::of_all(alloc, owners))
+    }
+
+    /// The world of a register and the owners of all its lanes, in order, whose objects were all given. Takes no memory.
+    pub fn of_parts(register: Register, owners: Owners) -> World
+        requires { IsBuilt register owners.owners }
+        ensures { result ≡ record { register = register; lanes = owners.owners } }
+    {
+        let (alloc, owners) = owners.into_all();
+        World {
+            alloc,
+            register,
+            owners,
         }
     }
 
@@ -242,6 +282,7 @@ impl World {
         ensures ok { OnOk result (seen self.new ≡ with_object (seen self.old) id (unmarked object)) }
         ensures err { OnErr result (seen self.new ≡ seen self.old) }
         ensures says { WorldStillSays self.old self.new }
+        ensures alone { AddsWorldMarks (IsMarkedIn id Changed object.body) self.old self.new }
         ensures undropped { AreUndropped self.old.lanes → AreUndropped self.new.lanes }
     {
         let lane = lane(&id, self.register.lanes());
@@ -253,8 +294,8 @@ impl World {
     ///
     /// # Errors
     ///
-    /// Only where memory runs out. The cuts that were done stand; what was appended stays in the batch, and the marks of what
-    /// is not cut stay.
+    /// Only where memory runs out. In the register, all is as it was; in a lane, the register and the lanes before it are cut
+    /// whole, that lane and all later ones are as they were, and behind the records of the others nothing was appended.
     pub fn cut(&mut self, into: &mut Batch) -> Result<(), AllocError>
         ensures cut { (base : Held) → IsCut (IsWorldMarked self.old) base
             (records into.old) (records into.new)
@@ -262,6 +303,8 @@ impl World {
         ensures bodies { AppendsOnce (IsCutRecord self.old) (records into.old) (records into.new) }
         ensures kept { OnOk result (IsKept self.new) }
         ensures same { IsSameWorld self.old self.new }
+        ensures stops { OnErr result (StopsCut self.old self.new
+            (records into.old) (records into.new)) }
     {
         lanes_are_whole(self.owners.as_slice());
         self.register.cut(into)?;
@@ -314,6 +357,10 @@ impl World {
         requires op { IsSoundOp request.now.op }
         ensures steps { Steps (seen self.old) caller.now request.now result (seen self.new) }
         ensures says { WorldStillSays self.old self.new }
+
+        // Only what the request changes is marked for the next cut.
+        ensures alone { AddsWorldMarks (IsRequestMark (seen self.old) caller.now request.now)
+            self.old self.new }
     {
         is_sound(&self.register);
         let place = self.register.places();
@@ -373,6 +420,8 @@ fn put_in(owners: &mut [Owner], lane: u32, id: ObjectId, object: Object) -> Resu
     ensures err { OnErr result (whole owners.new ≡ whole owners.old) }
     ensures lanes { AreLanes (length owners.old) 0 owners.new }
     ensures says { LanesStillSay owners.old owners.new }
+    ensures alone { AddsLaneMarks (IsMarkedIn id Changed object.body)
+        owners.old owners.new }
     ensures undropped { AreUndropped owners.old → AreUndropped owners.new }
 {
     let owner = &mut owners[lane as usize];
@@ -396,6 +445,8 @@ fn obey(alloc: Global, owners: &mut [Owner], op: &Op, verdict: Verdict) -> What
     ensures obeys { Obeys op.now verdict (whole owners.old) result (whole owners.new) }
     ensures lanes { AreLanes (length owners.old) 0 owners.new }
     ensures says { LanesStillSay owners.old owners.new }
+    ensures alone { AddsLaneMarks (IsVerdictMark op.now verdict (whole owners.old))
+        owners.old owners.new }
 {
     match verdict {
         Verdict::Granted(tickets) => match serve(alloc, owners, tickets, op) {

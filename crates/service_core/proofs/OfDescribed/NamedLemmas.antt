@@ -35,7 +35,7 @@ module _ (lanes run next : ℕ) (held : Held) where
       | inr behind ↦ absurd (y.before x.lane (omega (arith, behind, apart)) key x.least.has)
     ]
 
-same_lane_fault : (lanes run next last after : ℕ) (held : Held) (key : List ℕ) → IsRun held run → IsRun held last → IsNextNumber held next → IsNextNumber held after → IsFirstFault lanes last after held key
+pub same_lane_fault : (lanes run next last after : ℕ) (held : Held) (key : List ℕ) → IsRun held run → IsRun held last → IsNextNumber held next → IsNextNumber held after → IsFirstFault lanes last after held key
     → IsFirstFault lanes run next held key
 same_lane_fault lanes run next last after held key is_run is_last is_next is_after first =
     subst (λ (n : ℕ). IsFirstFault lanes n next held key) (same_run held last run is_last is_run)

@@ -1,5 +1,5 @@
 -- A register that records describe.
-use Rattle.std.proofs.Common.{◌≡◌, ◌≤◌, ◌<◌, ◌^◌, sym, ◌∙◌}
+use Rattle.std.proofs.Common.{◌≡◌, sym, ◌∙◌}
 use Rattle.std.specs.Cmp.Lexicographic.{nat_list_cmp_total}
 use Rattle.std.specs.FinMap.{same_map}
 use Rattle.containers.proofs.TextMaps.KeyedMaps.{exact_texts}

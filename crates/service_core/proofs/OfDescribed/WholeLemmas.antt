@@ -11,7 +11,6 @@ use Rattle.object_ids.specs.IdValues.{Id}
 use Rattle.object_ids.specs.Ids.{InRange}
 use Rattle.object_ids.proofs.IdOrders.{id_order_once}
 use Rattle.object_acts.specs.Objects.{unmarked, Objects}
-use Rattle.object_acts.specs.declared.objects.Body.TheVariants as body
 use Rattle.object_acts.specs.declared.objects.Object.{Object}
 use Rattle.object_records.specs.Objects.{IsKeptBody}
 use Rattle.containers.proofs.Passing.{by_bool}

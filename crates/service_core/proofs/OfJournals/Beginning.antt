@@ -1,10 +1,9 @@
 -- A run of an opened world begins, or is refused.
-use Rattle.std.proofs.Common.{◌≡◌, inl, inr, ⊎_elim, ℕ, ◌+◌, ◌≤◌, List, [], ◌∷◌, length, Some, None, Result, Ok, Err, refl, sym, ap, subst, ◌∙◌, arith}
+use Rattle.std.proofs.Common.{◌≡◌, inl, inr, ⊎_elim, ℕ, ◌≤◌, List, [], ◌∷◌, Some, None, Result, Ok, Err, refl, sym, ap, subst, ◌∙◌, arith}
 use Rattle.service_core.specs.Described.Told.{AreWhole}
 use Rattle.edge_traits.specs.declared.disk.Disk.{Ghosts}
 use Rattle.flush_journal.specs.Files.{Content, content, held}
-use Rattle.flush_journal.specs.Frames.{frame_of, need_of}
-use Rattle.flush_journal.specs.declared.report.Report.{Report}
+use Rattle.flush_journal.specs.Frames.{need_of}
 use Rattle.flush_journal.specs.Records.{Held, Record, put_record}
 use Rattle.flush_journal.specs.Refusals.{MayRefuse}
 use Rattle.flush_journal.specs.Standing.{HasEither, HoldsEither, IsSettled, disk_of, end_of, pending_of, with_batch}
@@ -38,11 +37,6 @@ kept_then j w c is = record {
 pub run_idle : {D : Type 0} {met : Ghosts D} (old new : Journal D met) (rs : List Record) → OrNoMemory (Ok tt) (new ≡ old) (Tries old new rs (Ok tt)) → pending_of new ≡ None
 run_idle old new rs (inl h) = let no : ◌≡◌ {A = Result (Unit {0}) Why} (Ok tt) (Err why.NoMemory) = h.0 in absurd (cc)
 run_idle old new rs (inr h) = h.done
-
--- the journal ends behind the record of the run
-pub run_grows : {D : Type 0} {met : Ghosts D} (old new : Journal D met) (rs : List Record) → OrNoMemory (Ok tt) (new ≡ old) (Tries old new rs (Ok tt)) → end_of new ≡ end_of old + length (frame_of rs)
-run_grows old new rs (inl h) = let no : ◌≡◌ {A = Result (Unit {0}) Why} (Ok tt) (Err why.NoMemory) = h.0 in absurd (cc)
-run_grows old new rs (inr h) = ap (λ (n : Report). n.end) h.counted
 
 -- why a run isn't begun
 refused_by : (w : World) (end room before now : ℕ) (e : Why) → MayRefuse end (need_of (run_record w.register ∷ [])) room before now e → MayRefuseRun w end room before now e
@@ -142,17 +136,15 @@ module _ {D : Type 0} {met : Ghosts D} (old new : Journal D met) (w s : State) (
     by (inl h) = let wrong : ◌≡◌ {A = Result (Unit {0}) Why} (Ok tt) (Err why.NoMemory) = h.0 in absurd (cc)
     by (inr h) = h
 
-  pub is_begun : OrNoMemory (Ok tt) (new ≡ old) (Tries old new (run_record w.register ∷ []) (Ok tt)) → ((m : Held) → WorldSays w m → WorldSays s (put_record (run_record w.register) m))
+  pub is_begun : ((m : Held) → WorldSays w m → WorldSays s (put_record (run_record w.register) m))
       → (IsKept s → (m : Held) → WorldSays s m → DescribesWorld m s.register.run (seen s)) → IsBegun new s c
-  is_begun tries says described =
+  is_begun says described =
       let said : WorldSays s (put_record (run_record s.register) c.held) = subst (λ (r : Record). WorldSays s (put_record r c.held)) (sym same_record) (says c.held is.says) in
       let kept : IsKept s = subst IsKept (sym same) (kept_then old w c is) in
       record {
         recovered = subst (λ (x : State). IsRecovered c.held (seen x)) (sym same) (recovered_begun c.held w (recovered c.held c.lanes w is.world is.whole));
         kept = kept;
         settled = subst (λ (r : Record). IsSettled new (with_batch c (r ∷ []))) (sym same_record) writes.ok;
-        end = run_grows old new (run_record w.register ∷ []) tries ∙ ap (λ (n : ℕ). n + length (frame_of (run_record w.register ∷ []))) is.settled.numbers.end
-            ∙ ap (λ (r : Record). c.end + length (frame_of (r ∷ []))) (sym same_record);
         says = said;
         describes = described kept (put_record (run_record s.register) c.held) said;
       }

@@ -2,12 +2,12 @@
 --     IsRecovered held w      the world that is held, at the begin of the run after the kept one
 --     IsOpened j w c      a journal is opened with its content, and tells the world
 --     IsUnbegun before after why      the record of a run was refused
---     IsBegun j s c      the journal has the record of the run that the world is in
+--     IsBegun j s c      the journal is settled, with the record of the run that the world is in
 --     IsUnstarted before after fault      no run was begun
-use Rattle.std.specs.Prelude.{◌≡◌, ⊤, ℕ, ◌+◌, List, [], ◌∷◌, length, Ok}
+use Rattle.std.specs.Prelude.{◌≡◌, ⊤, ℕ, ◌+◌, List, [], ◌∷◌, Ok}
 use Rattle.edge_traits.specs.declared.disk.Disk.{Ghosts}
 use Rattle.flush_journal.specs.Files.{Content, content}
-use Rattle.flush_journal.specs.Frames.{frame_of, need_of}
+use Rattle.flush_journal.specs.Frames.{need_of}
 use Rattle.flush_journal.specs.Moments.{CrashLeaves, CrashLeavesSince}
 use Rattle.flush_journal.specs.Records.{Held, put_record}
 use Rattle.flush_journal.specs.Refusals.{MayRefuse}
@@ -76,12 +76,12 @@ begun w = with_register w (run_kept w.register)
 
 -- ---- a run that was begun
 
--- the journal holds the run's record behind what it held, and tells the world with it, of which nothing is to be written
+-- the journal is settled, with the run's record behind what it held, and tells the world with it,
+-- of which nothing is to be written
 pub record IsBegun {D : Type 0} {met : Ghosts D} (j : Journal D met) (s : State) (c : Content) : Type 0 where
   pub recovered : IsRecovered c.held (seen s)
   pub kept : IsKept s
   pub settled : IsSettled j (with_batch c (run_record s.register ∷ []))
-  pub end : end_of j ≡ c.end + length (frame_of (run_record s.register ∷ []))
   pub says : WorldSays s (put_record (run_record s.register) c.held)
   pub describes : DescribesWorld (put_record (run_record s.register) c.held) s.register.run (seen s)
 

@@ -3,17 +3,15 @@
 --     AreFirstRecords catalogue rs      the records that make such a map, in whatever order
 --     IsFirstJournal catalogue lanes file      a journal for so many lanes of one batch, which is such records
 --     MayRefuseMaking      why no journal is made
-use Rattle.std.specs.Prelude.{◌≡◌, ◌≢◌, ◌⊎◌, ℕ, ◌+◌, ◌<◌, List, [], take, Ok}
+use Rattle.std.specs.Prelude.{◌≡◌, ◌≢◌, ℕ, List, [], Ok}
 use Rattle.std.specs.FinMap.{empty}
 use Rattle.std.specs.List.{AllByRecursion}
-use Rattle.edge_traits.specs.Causes.{Rose}
-use Rattle.flush_journal.specs.Files.{content, fresh, magic}
-use Rattle.flush_journal.specs.Frames.{need_of}
+use Rattle.flush_journal.specs.Files.{content, fresh}
 use Rattle.flush_journal.specs.Records.{Held, Record, put_all}
-use Rattle.flush_journal.specs.Refusals.{NoMagic}
+use Rattle.flush_journal.specs.Refusals.{MayRefuseFirst}
 use Rattle.flush_journal.specs.Standing.{with_batch}
 use Rattle.flush_journal.specs.declared.why.Why.{Why}
-use Rattle.flush_journal.specs.declared.why.Why.TheVariants.{DiskFault, NotAJournal, JournalFull, Exists, NoMemory}
+use Rattle.flush_journal.specs.declared.why.Why.TheVariants.{NoMemory}
 use Rattle.flush_journal.specs.Cuts.Cuts.{AreOnce}
 use Rattle.domains.specs.Contents.{Contents}
 use Rattle.service_core.specs.Records.{DescribesWorld, IsWorldRecord}
@@ -41,21 +39,8 @@ pub record IsFirstJournal (catalogue : Contents) (lanes : ℕ) (file : List ℕ)
   pub first : AreFirstRecords catalogue records
   pub is_journal : content file ≡ Ok (with_batch (fresh lanes) records)
 
--- so many bytes behind a place don't fit: the header with a marker at the front, or the batch behind the header
-abbrev pub DoesNotFit : List Record → (end need room : ℕ) → Type 0
-DoesNotFit rs end need room = (room < end + need) × (((end ≡ 0) × (need ≡ 17)) ⊎ ((end ≡ 16) × (need ≡ need_of rs)))
-
--- Writing a journal of these records may be refused so: where one stands; else where there is no room for it; and by a fault only
--- where the count rose.
-abbrev pub MayRefuseWriting : List Record → Type 0 → List ℕ → (room before now : ℕ) → Why → Type 0
-MayRefuseWriting rs told file room before now DiskFault = Rose before now
-MayRefuseWriting rs told file room before now Exists = told → take 8 file ≡ magic
-MayRefuseWriting rs told file room before now (JournalFull end need r) = (r ≡ room) × DoesNotFit rs end need room × NoMagic told file
-MayRefuseWriting rs told file room before now (NotAJournal at) = ⊥
-MayRefuseWriting rs told file room before now NoMemory = ⊥
-
--- and making the journal of a catalogue for want of memory too
+-- Making the journal of a catalogue may be refused as making one of such records is, and for want of memory.
 abbrev pub MayRefuseMaking : Contents → Type 0 → List ℕ → (room before now : ℕ) → Why → Type 0
 MayRefuseMaking catalogue told file room before now NoMemory = Unit {0}
 MayRefuseMaking catalogue told file room before now why =
-    (rs : List Record) × AreFirstRecords catalogue rs × MayRefuseWriting rs told file room before now why
+    (rs : List Record) × AreFirstRecords catalogue rs × MayRefuseFirst rs told file room before now why

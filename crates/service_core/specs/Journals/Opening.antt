@@ -50,6 +50,18 @@ abbrev pub TellsNoRun : {A D : Type 0} → Result A (OpenRefused D) → Type 0
 TellsNoRun (Ok opened) = ⊥
 TellsNoRun (Err refused) = IsUseTold refused.why
 
+-- the key is told; but for a fault of the disk, and want of memory
+abbrev pub IsBadKeyTold : List ℕ → OpenFault → Type 0
+IsBadKeyTold key DiskFault = Unit {0}
+IsBadKeyTold key (NotAJournal at) = ⊥
+IsBadKeyTold key (BadRecord k) = k.items ≡ key
+IsBadKeyTold key RunsUsed = ⊥
+IsBadKeyTold key NoMemory = Unit {0}
+
+abbrev pub TellsBadKey : {A D : Type 0} → List ℕ → Result A (OpenRefused D) → Type 0
+TellsBadKey key (Ok opened) = ⊥
+TellsBadKey key (Err refused) = IsBadKeyTold key refused.why
+
 -- ---- what the calls below say
 
 abbrev pub of_install : InstallFault → OpenFault

@@ -4,12 +4,13 @@ ghost use Rattle.std.specs.Prelude.{◌≡◌, ◌≢◌, ◌≤◌, ℕ, List, 
 ghost use Rattle.flush_journal.specs.Batches.{records};
 ghost use Rattle.flush_journal.specs.Files.{fresh, magic};
 ghost use Rattle.flush_journal.specs.Records.{Record};
-ghost use Rattle.flush_journal.specs.Refusals.{NoMagic};
+ghost use Rattle.flush_journal.specs.Firsts.{MakesFirst};
+ghost use Rattle.flush_journal.specs.Refusals.{NoMagic, MayRefuseFirst};
 ghost use Rattle.flush_journal.specs.Standing.{IsSettled, disk_of, numbers_of, pending_of, with_batch};
 ghost use Rattle.flush_journal.specs.Unchanged.{SameBytes, SameDisk};
 ghost use Rattle.service_core.specs.Journals.Groups.{AreFirstRoots};
 ghost use Rattle.service_core.specs.Journals.FirstJournals.{AreFirstRecords, IsFirstJournal};
-ghost use Rattle.service_core.specs.Journals.FirstJournals.{MayRefuseMaking, MayRefuseWriting};
+ghost use Rattle.service_core.specs.Journals.FirstJournals.{MayRefuseMaking};
 
 use crate::journals::faults::MakeRefused;
 use crate::journals::first_world::first_world;
@@ -26,8 +27,9 @@ use std::alloc::{AllocError, Global};
 /// # Errors
 ///
 /// `NoMemory`, for which the disk isn't called; then `Exists` where the disk begins with a journal's first bytes, which
-/// stays as it was; else `JournalFull` where there is no room for the header and a marker, or behind the header for the batch:
-/// then a journal without a batch stands there. `DiskFault` where the disk had a fault.
+/// stays as it was; else `JournalFull` where there is no room for the header and the whole batch behind it, and the
+/// disk stays as it was too. `DiskFault` where the disk had a fault: then its first 17 bytes may be torn, or a journal
+/// stands there, without a batch or with this one.
 pub fn make_journal<D: Disk>(
     alloc: Global,
     disk: D,
@@ -53,6 +55,12 @@ pub fn make_journal<D: Disk>(
     ensures none { OnOk result (NoMagic D.honest (D.reads disk)) }
     ensures found { D.honest → take 8 (D.reads disk) ≡ magic
         → IfErr result (λ r. SameBytes D.Disk disk r.disk) }
+
+    // What stands behind a refusal, and behind a fault at each moment.
+    ensures refused { D.honest → IfErr result (λ r. r.why ≢ Why.DiskFault
+        → SameBytes D.Disk disk r.disk) }
+    ensures stands { D.honest → IfErr result (λ r. r.why ≡ Why.DiskFault → (rs : List Record)
+        × AreFirstRecords catalogue rs × MakesFirst D.Disk lanes rs disk r.disk) }
 
     // What is refused, and why.
     ensures why { IfErr result (λ r. MayRefuseMaking catalogue D.honest (D.reads disk)
@@ -98,17 +106,15 @@ fn write_first<D: Disk>(disk: D, lanes: u32, batch: Batch) -> Result<Journal<D>,
     ensures none { OnOk result (NoMagic D.honest (D.reads disk)) }
     ensures found { D.honest → take 8 (D.reads disk) ≡ magic
         → IfErr result (λ r. SameBytes D.Disk disk r.disk) }
-    ensures why { IfErr result (λ r. MayRefuseWriting (records batch) D.honest (D.reads disk)
+    ensures refused { D.honest → IfErr result (λ r. r.why ≢ Why.DiskFault
+        → SameBytes D.Disk disk r.disk) }
+    ensures moments { D.honest → MatchResult result
+        (λ j. MakesFirst D.Disk lanes (records batch) disk (disk_of j))
+        (λ r. MakesFirst D.Disk lanes (records batch) disk r.disk) }
+    ensures why { IfErr result (λ r. MayRefuseFirst (records batch) D.honest (D.reads disk)
         (D.most disk) (D.faults disk) (D.faults r.disk) r.why) }
     ensures same { MatchResult result (λ j. SameDisk D.Disk disk (disk_of j))
         (λ r. SameDisk D.Disk disk r.disk) }
 {
-    let mut journal = Journal::create(disk, lanes)?;
-    match journal.append(batch) {
-        Ok(()) => Ok(journal),
-        Err(why) => Err(MakeRefused {
-            disk: journal.into_disk(),
-            why,
-        }),
-    }
+    Journal::create_with(disk, lanes, batch)
 }

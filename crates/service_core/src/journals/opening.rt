@@ -1,15 +1,16 @@
 //! The world that a journal keeps.
 
-ghost use Rattle.std.specs.Prelude.{◌≡◌, ◌≢◌, ℕ, None, Ok, Err, IfErr, IfOk, MatchResult};
+ghost use Rattle.std.specs.Prelude.{◌≡◌, ◌≢◌, ℕ, List, None, Ok, Err, IfErr, IfOk, MatchResult};
 ghost use Rattle.edge_traits.specs.Disks.{Only};
 ghost use Rattle.flush_journal.specs.Files.{Content, content};
 ghost use Rattle.flush_journal.specs.Standing.{IsSettled, disk_of, pending_of};
 ghost use Rattle.flush_journal.specs.Unchanged.{SameBytes, SameDisk};
 ghost use Rattle.chunk_owner.specs.Owners.Records.{AreStillIn};
 ghost use Rattle.register.specs.Kept.{IsUsedUp};
-ghost use Rattle.service_core.specs.Records.{IsWorldOf, WorldSays};
-ghost use Rattle.service_core.specs.Journals.Opening.{IsOfReading, MayRefuseOpening, TellsNoRun};
-ghost use Rattle.service_core.specs.Journals.Opening.{TellsPlace, of_reading};
+ghost use Rattle.flush_journal.specs.Records.{IsRecordMap};
+ghost use Rattle.service_core.specs.Records.{IsWorldFault, IsWorldOf, WorldSays};
+ghost use Rattle.service_core.specs.Journals.Opening.{IsOfReading, MayRefuseOpening, TellsBadKey};
+ghost use Rattle.service_core.specs.Journals.Opening.{TellsNoRun, TellsPlace, of_reading};
 
 use crate::World;
 use crate::journals::faults::{OpenFault, OpenRefused};
@@ -31,15 +32,18 @@ pub struct Opened<D: Disk> {
 ///
 /// # Errors
 ///
-/// `NotAJournal` with the place of what is wrong, where no journal stands there; else `BadRecord` with the least key whose
-/// record is missing or can't stand; `RunsUsed` where none is of the register, and the kept run is the last. `DiskFault`
-/// where the disk had a fault, and `NoMemory`.
+/// `NotAJournal` with the place of what is wrong, exactly where no journal stands there; else `RunsUsed` exactly where no
+/// record of the register is at fault and the kept run is the last; else `BadRecord` exactly where a record is missing or
+/// can't stand, with the least key of the register, else of the first lane, else of no part. But for `DiskFault`, where the
+/// disk had a fault, and `NoMemory`.
 pub fn open_world<D: Disk>(alloc: Global, disk: D) -> Result<Opened<D>, OpenRefused<D>>
     ensures opened { D.honest → IfOk result (λ o. (c : Content)
         × (content (D.reads disk) ≡ Ok c) × IsSettled o.journal c
         × IsWorldOf c.held c.lanes o.world × WorldSays o.world c.held) }
     ensures idle { IfOk result (λ o. pending_of o.journal ≡ None) }
     ensures still { IfOk result (λ o. AreStillIn o.world.lanes) }
+    ensures sizes { D.honest → IfOk result (λ _. (c : Content) → content (D.reads disk) ≡ Ok c
+        → IsRecordMap c.held) }
 
     // What is refused, and why.
     ensures why { IfErr result (λ r. MayRefuseOpening D.honest (D.reads disk)
@@ -48,6 +52,9 @@ pub fn open_world<D: Disk>(alloc: Global, disk: D) -> Result<Opened<D>, OpenRefu
         → TellsPlace at result }
     ensures used_up { D.honest → (c : Content) → content (D.reads disk) ≡ Ok c
         → IsUsedUp c.held → TellsNoRun result }
+    ensures bad_key { D.honest → (c : Content) → content (D.reads disk) ≡ Ok c
+        → (key : List ℕ) → IsWorldFault c.lanes c.held key → (IsUsedUp c.held → ⊥)
+        → TellsBadKey key result }
 
     // The disk is as it was.
     ensures same { MatchResult result (λ o. SameDisk D.Disk disk (disk_of o.journal))
@@ -66,6 +73,7 @@ pub fn open_world<D: Disk>(alloc: Global, disk: D) -> Result<Opened<D>, OpenRefu
             });
         }
     };
+    kept.sizes();
     match World::install(alloc, journal.report().lanes, kept) {
         Ok(world) => Ok(Opened { journal, world }),
         Err(fault) => Err(OpenRefused {

@@ -2,7 +2,9 @@ use Rattle.std.proofs.Common.{ℕ, Ok, sym, subst, ◌∙◌}
 use Rattle.std.specs.declared.alloc.AllocError.{AllocError}
 use Rattle.object_ops.specs.declared.grants.Grant.{Grant}
 use Rattle.chunk_owner.specs.Owners.Joined.{AreLanes, whole}
+use Rattle.service_core.specs.Marking.{AddsLaneMarks, IsTakenMark}
 use Rattle.service_core.specs.Steps.{Takes}
+use Rattle.service_core.proofs.TurnMarks.{turn_marks}
 use Rattle.service_core.proofs.TurnLemmas.{ended, more, ready_next, stopped}
 use Rattle.chunk_owner.proofs.OfOwners.SaidLemmas.{said_on}
 use Rattle.service_core.proofs.turns.run_turns.Goals as goal
@@ -21,6 +23,9 @@ turns-preserved c =
       more c.args.tickets.now.grant c.args.op.now c.args.tickets.now.left (whole c.args.owners.now) AllocError c.turns.reply c.in_ok-reply.reply (whole c.turns.owners) (whole c.take_turn.new.owners)
           c.turns.tickets.left c.next.new.self.left c.in-Some.turn c.in-Some.ensures.turn is_done did i.5,
       said_on c.args.owners.now c.turns.owners c.take_turn.new.owners i.6 c.in_ok-reply.ensures.says,
+      turn_marks c.args.tickets.now.grant c.args.op.now c.args.tickets.now.left c.args.owners.now c.turns.owners c.take_turn.new.owners c.turns.reply c.turns.tickets.left c.next.new.self.left c.in-Some.turn
+          c.in-Some.ensures.turn is_done i.5 i.7
+          (subst (λ (g : Grant). AddsLaneMarks (IsTakenMark g c.args.op.now c.in-Some.turn.step (whole c.turns.owners)) c.turns.owners c.take_turn.new.owners) i.1 c.in_ok-reply.ensures.alone),
     )
 
 pub returns-clause-runs : goal.returns-clause-runs
@@ -30,3 +35,11 @@ returns-clause-runs c =
 
 pub returns-in_err-reply-clause-says : goal.returns-in_err-reply-clause-says
 returns-in_err-reply-clause-says c = said_on c.args.owners.now c.turns.owners c.take_turn.new.owners c.turns.invariant.6 c.in_err-reply.ensures.says
+
+pub returns-in_err-reply-clause-alone : goal.returns-in_err-reply-clause-alone
+returns-in_err-reply-clause-alone c =
+    let i = c.turns.invariant in
+    let is_done = sym c.is_done.ensures ∙ c.turns-test.true in
+    turn_marks c.args.tickets.now.grant c.args.op.now c.args.tickets.now.left c.args.owners.now c.turns.owners c.take_turn.new.owners c.turns.reply c.turns.tickets.left c.next.new.self.left c.in-Some.turn
+    c.in-Some.ensures.turn is_done i.5 i.7
+    (subst (λ (g : Grant). AddsLaneMarks (IsTakenMark g c.args.op.now c.in-Some.turn.step (whole c.turns.owners)) c.turns.owners c.take_turn.new.owners) i.1 c.in_err-reply.ensures.alone)

@@ -3,6 +3,9 @@ use Rattle.object_acts.specs.Objects.{unmarked}
 use Rattle.chunk_owner.proofs.OfOwners.WholeLemmas.{home_by_lane, kept_whole, lane_put, none_here, put_whole}
 use Rattle.chunk_owner.proofs.OfOwners.SaidLemmas.{said_set}
 use Rattle.chunk_owner.proofs.OfOwners.UndroppedLemmas.{undropped_set}
+use Rattle.chunk_owner.specs.Slots.Slots.{IsMarkedIn}
+use Rattle.chunk_owner.specs.declared.slots.slot.Mark.TheVariants.{Changed}
+use Rattle.service_core.proofs.TurnMarks.{marked_set}
 use Rattle.service_core.proofs.world.put_in.Goals as goal
 
 pub put_object-requires-clause-lane : goal.put_object-requires-clause-lane
@@ -49,3 +52,9 @@ returns-clause-undropped c =
     let ls = c.args.owners.now in
     let l = get_or ls c.args.lane c.index-owners-lane.result in
     undropped_set l c.put_object.new.self c.put_object.ensures.undropped c.args.lane ls (sym (ap (get_or ls c.args.lane) c.index-owners-lane.is))
+
+pub returns-clause-alone : goal.returns-clause-alone
+returns-clause-alone c =
+    let ls = c.args.owners.now in
+    let l = get_or ls c.args.lane c.index-owners-lane.result in
+    marked_set (IsMarkedIn c.args.id Changed c.args.object.body) l c.put_object.new.self c.put_object.ensures.alone c.args.lane ls (sym (ap (get_or ls c.args.lane) c.index-owners-lane.is))

@@ -2,9 +2,9 @@ use Rattle.std.proofs.Common.{◌∙◌, ℕ, ap, subst, sym}
 use Rattle.flush_journal.specs.Records.{Held}
 use Rattle.flush_journal.specs.declared.report.Report.{Report}
 use Rattle.service_core.specs.Records.{IsWorldOf, WorldSays}
-use Rattle.service_core.specs.Journals.Opening.{MayRefuseOpening}
+use Rattle.service_core.specs.Journals.Opening.{IsBadKeyTold, MayRefuseOpening}
 use Rattle.service_core.specs.declared.journals.faults.OpenFault.{OpenFault}
-use Rattle.service_core.proofs.OfJournals.OpeningLemmas.{install_refused}
+use Rattle.service_core.proofs.OfJournals.OpeningLemmas.{bad_key_told, fault_read, install_refused, sizes_read, unused_read}
 use Rattle.service_core.proofs.journals.opening.open_world.Goals as goal
 
 pub returns-in-Ok-install-clause-opened : goal.returns-in-Ok-install-clause-opened
@@ -30,3 +30,25 @@ returns-in-Err-install-clause-why g c =
     let got = c.in-Ok.ensures.recovered honest in
     (got.0, got.1, ap (λ (r : Report). r.lanes) c.report.ensures.numbers ∙ got.2.numbers.lanes, got.3))
     c.in-Err-install.ensures.fault c.in-Err-install.ensures.used)
+
+pub returns-in-Ok-install-clause-sizes : goal.returns-in-Ok-install-clause-sizes
+returns-in-Ok-install-clause-sizes g c = λ honest content' is.
+    let got = c.in-Ok.ensures.recovered honest in
+    let lanes = ap (λ (r : Report). r.lanes) c.report.ensures.numbers ∙ got.2.numbers.lanes in
+    sizes_read (g.D.Disk.reads c.args.disk) got.0 content' got.1 is c.report.result.lanes c.in-Ok.found.1 lanes got.3 c.sizes.ensures
+
+pub returns-in-Ok-install-clause-bad_key : goal.returns-in-Ok-install-clause-bad_key
+returns-in-Ok-install-clause-bad_key g c = λ honest content' is key fault unused.
+    let got = c.in-Ok.ensures.recovered honest in
+    let lanes = ap (λ (r : Report). r.lanes) c.report.ensures.numbers ∙ got.2.numbers.lanes in
+    c.in-Ok-install.ensures.named key (fault_read (g.D.Disk.reads c.args.disk) got.0 content' got.1 is c.report.result.lanes c.in-Ok.found.1 lanes got.3 key fault)
+    (unused_read (g.D.Disk.reads c.args.disk) got.0 content' got.1 is c.report.result.lanes c.in-Ok.found.1 lanes got.3 unused)
+
+pub returns-in-Err-install-clause-bad_key : goal.returns-in-Err-install-clause-bad_key
+returns-in-Err-install-clause-bad_key g c = λ honest content' is key fault unused.
+    let got = c.in-Ok.ensures.recovered honest in
+    let lanes = ap (λ (r : Report). r.lanes) c.report.ensures.numbers ∙ got.2.numbers.lanes in
+    subst (λ (e : OpenFault). IsBadKeyTold key e) (sym c.from.ensures)
+    (bad_key_told key c.in-Err-install.fault (c.in-Err-install.ensures.named key
+    (fault_read (g.D.Disk.reads c.args.disk) got.0 content' got.1 is c.report.result.lanes c.in-Ok.found.1 lanes got.3 key fault)
+    (unused_read (g.D.Disk.reads c.args.disk) got.0 content' got.1 is c.report.result.lanes c.in-Ok.found.1 lanes got.3 unused)))

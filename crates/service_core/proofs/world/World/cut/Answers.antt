@@ -1,4 +1,4 @@
-use Rattle.std.proofs.Common.{List, sym, subst, ◌∙◌}
+use Rattle.std.proofs.Common.{List, OnErr, sym, ap, subst, ◌∙◌}
 use Rattle.std.specs.FinMap.{empty}
 use Rattle.std.specs.List.{AllByRecursion}
 use Rattle.flush_journal.specs.Batches.{records}
@@ -6,11 +6,15 @@ use Rattle.flush_journal.specs.Records.{Held}
 use Rattle.flush_journal.specs.Cuts.Cuts.{AppendsEach, AppendsOnce, IsCut}
 use Rattle.chunk_owner.specs.Slots.Bodies.{IsObjectRecord}
 use Rattle.chunk_owner.specs.Lanes.{IsWhole, Lane}
+use Rattle.chunk_owner.specs.Owners.Cutting.{CutsFront}
 use Rattle.chunk_owner.specs.Owners.Joined.{whole}
 use Rattle.chunk_owner.specs.Owners.Records.{IsMarkedIn, IsStandingIn, LanesSay}
+use Rattle.register.specs.Decided.{RegisterState}
+use Rattle.service_core.specs.Cutting.{StopsCut, in_register}
 use Rattle.service_core.specs.Records.{IsCutRecord, IsWorldMarked, WorldSays}
 use Rattle.service_core.specs.Worlds.{State}
 use Rattle.service_core.proofs.RecordLemmas.{both_cut, both_records, register_alone, register_records}
+use Rattle.service_core.proofs.CutRecords.{err_stops, lanes_stop}
 use Rattle.service_core.proofs.WorldLemmas.{written}
 use Rattle.service_core.proofs.world.World.cut.Goals as goal
 
@@ -53,3 +57,19 @@ returns-clause-bodies c =
     let standing = subst (λ (ls : List Lane). AppendsEach (IsStandingIn ls) mid last) value c.cut_lanes.ensures.standing in
     subst (λ (x : State). AppendsOnce (IsCutRecord x) first last) c.self.view_is
     (both_records s empty first mid _ c.in_ok-cut.ensures.bodies last (both_cut s wholes c.cut.new.self first mid c.in_ok-cut.ensures.cut left last lanes empty) objects standing)
+
+pub returns-in_err-cut-clause-stops : goal.returns-in_err-cut-clause-stops
+returns-in_err-cut-clause-stops c =
+    err_stops c.from_residual.result (in_register (ap (λ (d : RegisterState). record { register = d; lanes = c.self.inside.owners.items }) c.in_err-cut.ensures.err ∙ c.self.view_is) c.in_err-cut.ensures.back)
+
+pub returns-clause-stops : goal.returns-clause-stops
+returns-clause-stops c =
+    let left = c.cut_lanes.new.owners in
+    let first = records c.args.into.now in
+    let mid = records c.cut.new.into in
+    let last = records c.cut_lanes.new.into in
+    let front = subst (λ (ls : List Lane). OnErr c.cut_lanes.result (CutsFront ls left mid last)) c.as_mut_slice.ensures.value c.cut_lanes.ensures.front in
+    subst (λ (ls : List Lane). OnErr c.cut_lanes.result (StopsCut c.args.self.now (record { register = c.cut.new.self; lanes = ls }) first last)) (sym (written _ left _ (c.cut_lanes.auto.owners ∙ c.as_mut_slice.ensures.len)))
+    (subst (λ (s : State). OnErr c.cut_lanes.result (StopsCut s (record { register = c.cut.new.self; lanes = left }) first last)) c.self.view_is
+    (lanes_stop c.cut_lanes.result c.self.inside.register c.cut.new.self c.self.inside.owners.items left first mid last
+    (record { cut = c.in_ok-cut.ensures.cut; bodies = c.in_ok-cut.ensures.bodies; kept = c.in_ok-cut.ensures.still }) front))

@@ -1,12 +1,16 @@
-use Rattle.std.proofs.Common.{List, length, sym, subst, ap, ◌∙◌, OnOk, OnErr, ◌≡◌}
+use Rattle.std.proofs.Common.{inl, List, length, sym, subst, ap, ◌∙◌, OnOk, OnErr, ◌≡◌}
 use Rattle.std.specs.FinMap.{insert}
 use Rattle.object_acts.specs.Objects.{unmarked}
 use Rattle.chunk_owner.specs.Lanes.{Lane}
 use Rattle.chunk_owner.specs.Owners.Joined.{AreLanes, whole}
 use Rattle.chunk_owner.specs.Owners.Records.{AreUndropped, LanesStillSay}
+use Rattle.chunk_owner.specs.Slots.Slots.{IsMarkedIn}
+use Rattle.chunk_owner.specs.declared.slots.slot.Mark.TheVariants.{Changed}
+use Rattle.service_core.specs.Marking.{AddsLaneMarks, AddsWorldMarks}
 use Rattle.service_core.specs.Records.{WorldStillSays}
 use Rattle.service_core.specs.Steps.{IsGiven}
 use Rattle.service_core.specs.Worlds.{IsBuilt, State}
+use Rattle.service_core.proofs.TurnMarks.{both_marks}
 use Rattle.service_core.proofs.RecordLemmas.{both_still}
 use Rattle.service_core.proofs.WorldLemmas.{built_put, written}
 use Rattle.service_core.proofs.world.World.put_object.Goals as goal
@@ -37,3 +41,15 @@ returns-clause-undropped c =
     let lanes = subst (λ (ls : List Lane). AreUndropped ls → AreUndropped left) c.as_mut_slice.ensures.value c.put_in.ensures.undropped in
     subst (λ (ls : List Lane). AreUndropped c.args.self.now.lanes → AreUndropped ls) (sym (written _ left _ (c.put_in.auto.owners ∙ c.as_mut_slice.ensures.len)))
     (subst (λ (s : State). AreUndropped s.lanes → AreUndropped left) c.self.view_is lanes)
+
+pub returns-clause-alone : goal.returns-clause-alone
+returns-clause-alone c =
+    let left = c.put_in.new.owners in
+    let register = c.self.inside.register in
+    let items = c.self.inside.owners.items in
+    let lanes = subst (λ (ls : List Lane). AddsLaneMarks (IsMarkedIn c.args.id Changed c.args.object.body) ls left) c.as_mut_slice.ensures.value c.put_in.ensures.alone in
+    subst (λ (ls : List Lane). AddsWorldMarks (IsMarkedIn c.args.id Changed c.args.object.body) c.args.self.now (record { register = register; lanes = ls }))
+    (sym (written _ left _ (c.put_in.auto.owners ∙ c.as_mut_slice.ensures.len)))
+    (subst (λ (s : State). AddsWorldMarks (IsMarkedIn c.args.id Changed c.args.object.body) s (record { register = register; lanes = left })) c.self.view_is
+    (both_marks (λ key. ⊥) (IsMarkedIn c.args.id Changed c.args.object.body) (IsMarkedIn c.args.id Changed c.args.object.body) register register items left
+    (λ key none. absurd none) (λ key p. p) (λ key was. inl was) lanes))
