@@ -20,12 +20,12 @@ mod title_maps;
 mod types;
 
 pub use arrays::read_array;
-pub use attribute_lists::read_attributes;
+pub use attribute_lists::{MAX_ATTRIBUTE_CELLS, read_attributes};
 pub use faults::{DocCause, DocFault, refused, refused_at};
 pub use fresh_arrays::FreshArray;
 pub use ids::{IdText, has_id, is_id};
 pub use items::{members, numbered};
-pub use laws::{cells_have_elements, parts_or_fault};
+pub use laws::{cells_have_elements, limits_of_parts, parts_or_fault};
 pub use link_lists::read_links;
 pub use paths::DocPath;
 pub use sound_types::SoundType;

@@ -1,22 +1,24 @@
 -- Messages that are taken from an input.
-use Rattle.std.proofs.Common.{◌≡◌, ℕ, ◌+◌, ◌-◌, ◌<◌, ◌≤◌, min, length-take, length-drop, List, [], ◌++◌, length, length-append, take, drop, Option, None, Some, Ok, Err, refl, sym, ap, ◌∙◌, subst, inl, inr, append_assoc, arith}
+use Rattle.std.proofs.Common.{◌≡◌, ℕ, ◌+◌, ◌-◌, ◌<◌, ◌≤◌, min, length-take, length-drop, List, [], ◌++◌, append-nil, length, length-append, take, drop, Option, None, Some, Ok, Err, refl, sym, ap, ◌∙◌, subst, inl, inr, append_assoc, arith}
 use Rattle.std.proofs.Math.Seq.{take-append_seam, drop-append_seam}
 use Rattle.std.proofs.lemmas.List.{take-append-drop, drop-drop, drop_all}
 use Rattle.std.specs.Io.KnownBytes.{Keeps, Consumes, prepend_known}
 use Rattle.httparse.specs.Grammar.{RequestHead, IsRequestHead, ReadsRequest, HasNoRequest, print_request}
 use Rattle.httparse.proofs.GrammarLemmas.{request_unique}
 use Rattle.http_wire.specs.Heads.{IsSmall, IsUnfinished}
-use Rattle.http_wire.specs.Messages.{RequestMessage, IsSpelled, spelling, HasNoMessage, HasNoBadSize, StopsInside, body_size, IsSizeFault, IsRefusedFor}
+use Rattle.http_wire.specs.Messages.{RequestMessage, IsSpelled, spelling, HasNoMessage, HasNoBadSize, StopsInBody, StopsInside, body_size, IsSizeFault, IsRefusedFor}
 use Rattle.http_wire.specs.declared.message_fault.MessageFault.{MessageFault}
 use Rattle.http_wire.specs.declared.message_fault.MessageFault.TheVariants.{BadHead, HeadTooLong, BadLength, BodyTooLong, TransferCoding}
 use Rattle.httparse.specs.declared.spans.HeaderSpan.{HeaderSpan}
 use Rattle.http_wire.specs.declared.taken.Taken.{Taken}
 use Rattle.http_wire.specs.declared.taken.Taken.TheVariants as taken
-use Rattle.http_wire.specs.Taken.{IsTaken}
+use Rattle.http_wire.specs.Taken.{IsTaken, IsHeldAfter, LeavesPart, waiting, head_bytes}
+use Rattle.http_wire.specs.declared.inbox.Inbox.{Inbox}
 use Rattle.http_wire.proofs.Pending.{used}
 use Rattle.http_wire.proofs.Inputs.{some_bytes}
 use Rattle.edge_traits.proofs.Pieces.{rest_slice}
 use Rattle.http_wire.proofs.Windows.{known_less}
+use Rattle.std.proofs.KnownBytes.{Keeps-refl, Keeps-trans}
 
 -- without a head there is no message
 pub no_message : (bytes : List ℕ) → HasNoRequest bytes → HasNoMessage bytes
@@ -223,3 +225,64 @@ not_behind shown unused h m rest len size e short whole sized reads spelled is =
 -- the head of a message at the front
 pub head_at_front : (bytes : List ℕ) (m : RequestMessage) (rest : List ℕ) → IsSpelled m → bytes ≡ spelling m ++ rest → ReadsRequest bytes m.head (m.body ++ rest)
 head_at_front bytes m rest spelled e = (spelled.head, e ∙ append_assoc (print_request m.head) m.body rest)
+
+-- the bytes stop inside a body, of which some stand in the buffer and some came behind
+pub stops_behind : (unused got : List ℕ) (h : RequestHead) (len size : ℕ) → IsRequestHead h → IsSmall h → Ok size ≡ body_size h
+    → unused ≡ print_request h ++ drop len unused → length (drop len unused ++ got) < size → StopsInBody (unused ++ got)
+stops_behind unused got h len size is small sized reads short =
+    (h, drop len unused ++ got, size, (is, ap (λ l. l ++ got) reads ∙ append_assoc (print_request h) (drop len unused) got), small, sym sized, short)
+
+-- what a slice of the bytes behind the head says of them
+pub short_here : (shown unused got : List ℕ) (len size : ℕ) → shown ≡ unused → length (take (length shown - len) (drop len shown) ++ got) < size
+    → length (drop len unused ++ got) < size
+short_here shown unused got len size e short =
+    subst (λ (l : List ℕ). length l < size) (ap (λ l. l ++ got) (front_is shown unused len e)) short
+
+-- ---- what waits behind a message that didn't come whole
+
+-- nothing waits: all that was there was dropped, and what came behind it
+pub leaves_nothing : (inbox : Inbox) (a b : Option (List ℕ)) (bytes got : List ℕ) → waiting inbox ≡ [] → waiting inbox ≡ head_bytes inbox → Consumes a b got
+    → StopsInBody (bytes ++ got) → LeavesPart (prepend_known bytes a) b inbox (bytes ++ got)
+leaves_nothing inbox a b bytes got none same gave stops =
+    let front : waiting inbox ++ (bytes ++ got) ≡ bytes ++ got = ap (λ l. l ++ (bytes ++ got)) none in record {
+      came = subst (λ l. Consumes (prepend_known bytes a) b l) (sym front) (rest_behind a b bytes got gave);
+      why = inr (subst (λ l. StopsInBody l) (sym front) stops);
+      unused = same;
+    }
+
+-- all that was there waits: what came behind it was dropped
+pub leaves_front : (inbox : Inbox) (a b : Option (List ℕ)) (bytes got : List ℕ) → waiting inbox ≡ bytes → waiting inbox ≡ head_bytes inbox → Consumes a b got
+    → StopsInBody (bytes ++ got) → LeavesPart (prepend_known bytes a) b inbox got
+leaves_front inbox a b bytes got is same gave stops = record {
+  came = subst (λ l. Consumes (prepend_known bytes a) b (l ++ got)) (sym is) (rest_behind a b bytes got gave);
+  why = inr (subst (λ l. StopsInBody (l ++ got)) (sym is) stops);
+  unused = same;
+}
+
+-- all that came waits
+pub leaves_all : (inbox : Inbox) (all left : Option (List ℕ)) → waiting inbox ≡ head_bytes inbox → Keeps all (prepend_known (waiting inbox) left)
+    → LeavesPart all left inbox []
+leaves_all inbox all left same kept = record {
+  came = subst (λ l. Consumes all left l) (sym (append-nil (waiting inbox))) (used all _ left (waiting inbox) kept (rest_kept left left (waiting inbox) (Keeps-refl left)));
+  why = inl refl;
+  unused = same;
+}
+
+pub refused_waits : (left : Option (List ℕ)) (bytes waits : List ℕ) (refused : MessageFault) → waits ≡ bytes → IsRefusedFor bytes refused
+    → Keeps (prepend_known bytes left) (prepend_known waits left) × IsRefusedFor waits refused
+refused_waits left bytes waits refused is fault = (
+  subst (λ l. Keeps (prepend_known bytes left) (prepend_known l left)) (sym is) (Keeps-refl (prepend_known bytes left)),
+  subst (λ l. IsRefusedFor l refused) (sym is) fault,
+)
+
+part_kept : (all old left : Option (List ℕ)) (inbox : Inbox) (dropped : List ℕ) → Keeps all old → LeavesPart old left inbox dropped → LeavesPart all left inbox dropped
+part_kept all old left inbox dropped kept part = record { came = used all old left _ kept part.came; why = part.why; unused = part.unused }
+
+-- a call kept all that is pending, and then one left this of it
+pub held_on : (all old left : Option (List ℕ)) (inbox : Inbox) (t : Taken) → Keeps all old → IsHeldAfter old left inbox t → IsHeldAfter all left inbox t
+held_on all old left inbox (taken.Message spans body) kept is = tt
+held_on all old left inbox taken.End kept is = is
+held_on all old left inbox (taken.Cut n) kept is = (is.0, part_kept all old left inbox is.0 kept is.1, is.2)
+held_on all old left inbox (taken.Refused r) kept is = (Keeps-trans all old _ kept is.0, is.1)
+held_on all old left inbox (taken.Skipped close) kept is = tt
+held_on all old left inbox taken.Fault kept is = (is.0, part_kept all old left inbox is.0 kept is.1)

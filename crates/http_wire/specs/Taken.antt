@@ -1,12 +1,12 @@
 -- What an inbox took from the front of its input.
-use Rattle.std.specs.Prelude.{◌≡◌, ℕ, ◌<◌, ◌≤◌, List, [], ◌++◌, length, drop, Option}
-use Rattle.std.specs.Io.KnownBytes.{Consumes, IsAtEnd, prepend_known}
+use Rattle.std.specs.Prelude.{◌≡◌, ℕ, ◌<◌, ◌≤◌, ◌⊎◌, List, [], ◌++◌, length, drop, Option, ⊤}
+use Rattle.std.specs.Io.KnownBytes.{Keeps, Consumes, IsAtEnd, prepend_known}
 use Rattle.httparse.specs.Grammar.{RequestHead, print_request}
 use Rattle.httparse.specs.Spans.{IsRequestAt, IsRequestWithin}
 use Rattle.httparse.specs.declared.spans.HeaderSpan.{HeaderSpan}
 use Rattle.httparse.specs.declared.spans.RequestSpans.{RequestSpans}
 use Rattle.http_wire.specs.Buffers.{unused_bytes, header_spans, AreSpansIn, IsHeadIn}
-use Rattle.http_wire.specs.Messages.{RequestMessage, IsSpelled, spelling, closes, HasNoMessage, HasNoBadSize, StopsInside, IsRefusedFor}
+use Rattle.http_wire.specs.Messages.{RequestMessage, IsSpelled, spelling, closes, HasNoMessage, HasNoBadSize, StopsInBody, StopsInside, IsRefusedFor}
 use Rattle.http_wire.specs.declared.inbox.Inbox.{Inbox}
 use Rattle.http_wire.specs.declared.limits.TheConstants.{HEAD_LIMIT}
 use Rattle.http_wire.specs.declared.taken.Taken.{Taken}
@@ -52,3 +52,24 @@ IsTaken old bytes headers pending left taken.Fault = (rest : List ℕ) × Consum
 abbrev pub Takes : List ℕ → Option (List ℕ) → Inbox → Option (List ℕ) → Taken → Type 0
 Takes bytes before inbox left t =
     IsTaken (prepend_known bytes before) (head_bytes inbox) (head_spans inbox) (prepend_known (waiting inbox) left) left t
+
+-- what an inbox holds behind a message that didn't come whole: of what was pending, bytes that still wait, and then those that were dropped,
+-- some only of a body whose head stands in front; and no byte that it holds counts as used
+pub record LeavesPart (all left : Option (List ℕ)) (inbox : Inbox) (dropped : List ℕ) : Type 0 where
+  pub came : Consumes all left (waiting inbox ++ dropped)
+  pub why : (dropped ≡ []) ⊎ StopsInBody (waiting inbox ++ dropped)
+  pub unused : waiting inbox ≡ head_bytes inbox
+
+-- what an inbox holds after each answer that gives no message; what waits behind a message stands in IsTaken
+abbrev pub IsHeldAfter : Option (List ℕ) → Option (List ℕ) → Inbox → Taken → Type 0
+IsHeldAfter all left inbox (taken.Message spans body) = ⊤
+IsHeldAfter all left inbox taken.End = waiting inbox ≡ []
+IsHeldAfter all left inbox (taken.Cut unread) =
+    (dropped : List ℕ) × LeavesPart all left inbox dropped × (length (waiting inbox ++ dropped) ≡ unread)
+IsHeldAfter all left inbox (taken.Refused fault) = Keeps all (prepend_known (waiting inbox) left) × IsRefusedFor (waiting inbox) fault
+IsHeldAfter all left inbox (taken.Skipped close) = ⊤
+IsHeldAfter all left inbox taken.Fault = (dropped : List ℕ) × LeavesPart all left inbox dropped
+
+-- of the bytes that were there, and what the source had left
+abbrev pub Holds : List ℕ → Option (List ℕ) → Inbox → Option (List ℕ) → Taken → Type 0
+Holds bytes before inbox left t = IsHeldAfter (prepend_known bytes before) left inbox t

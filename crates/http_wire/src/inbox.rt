@@ -34,7 +34,8 @@ pub struct Inbox {
 
 impl Inbox {
     ghost use Rattle.http_wire.specs.HeldAnswers.{SameInput, answer_in};
-    ghost use Rattle.http_wire.specs.Taken.{waiting, head_bytes, AreSpansOf, IsHeadOf, Takes};
+    ghost use Rattle.http_wire.specs.Taken.{waiting, head_bytes, AreSpansOf, IsHeadOf};
+    ghost use Rattle.http_wire.specs.Taken.{Takes, Holds};
 
     /// An inbox of which nothing was taken, with an empty answer.
     ///
@@ -60,6 +61,10 @@ impl Inbox {
         ensures names { S.names source.new ≡ S.names source.old }
         ensures later { S.faults source.old ≤ S.faults source.new }
         ensures fault { result ≡ taken.Fault → Rose (S.faults source.old) (S.faults source.new) }
+
+        // What still waits after an answer that gives no message.
+        ensures held { Holds (waiting self.old) (S.left source.old) self.new (S.left source.new)
+            result }
 
         // The answer stays.
         ensures answer { answer_in self.new ≡ answer_in self.old }
@@ -150,9 +155,12 @@ impl Inbox {
         source: &mut S,
         spans: RequestSpans,
     ) -> Taken
-        requires { AreSpansOf self.old spans }
+        requires spans { AreSpansOf self.old spans }
+        requires unused { waiting self.old ≡ head_bytes self.old }
         ensures taken { (h : RequestHead) → IsHeadOf self.old spans h → IsSmall h
             → Takes (head_bytes self.old) (S.left source.old) self.new (S.left source.new) result }
+        ensures held { (h : RequestHead) → IsHeadOf self.old spans h → IsSmall h
+            → Holds (head_bytes self.old) (S.left source.old) self.new (S.left source.new) result }
         ensures beside { S.beside source.new ≡ S.beside source.old }
         ensures names { S.names source.new ≡ S.names source.old }
         ensures later { S.faults source.old ≤ S.faults source.new }
@@ -199,6 +207,9 @@ impl Inbox {
         ensures taken { (h : RequestHead) → IsHeadOf self.old spans h → IsSmall h
             → Ok size ≡ body_size h
             → Takes (head_bytes self.old) (S.left source.old) self.new (S.left source.new) result }
+        ensures held { (h : RequestHead) → IsHeadOf self.old spans h → IsSmall h
+            → Ok size ≡ body_size h
+            → Holds (head_bytes self.old) (S.left source.old) self.new (S.left source.new) result }
         ensures beside { S.beside source.new ≡ S.beside source.old }
         ensures names { S.names source.new ≡ S.names source.old }
         ensures later { S.faults source.old ≤ S.faults source.new }

@@ -19,7 +19,10 @@ use Rattle.hdf_values.specs.declared.attributes.Attribute.{Attribute}
 use Rattle.hdf_values.specs.declared.attributes.AttributeFault.{AttributeFault}
 use Rattle.hdf_values.specs.declared.attributes.AttributeFault.TheVariants.{NoMemory, BadType, BadShape as NoShape}
 use Rattle.shapes.specs.Extents.{dims_in}
+use Rattle.shapes.specs.RowMajor.{room_of}
+use Rattle.shapes.specs.Shapes.{dims_of}
 use Rattle.shapes.specs.Spelled.{few_of}
+use Rattle.shapes.specs.declared.Shape.{Shape}
 use Rattle.shapes.specs.declared.ShapeFault.{ShapeFault}
 use Rattle.shapes.specs.declared.ShapeFault.TheVariants.{NotAShape, Rank, DimOverMax, TooLarge}
 use Rattle.groups_links.specs.IdTexts.{id_of}
@@ -99,6 +102,14 @@ attribute_or (Err fault) = Err (attribute_refusal fault)
 
 abbrev pub attribute_in : Data → Result Attribute Refusal
 attribute_in d = attribute_or (content_of d)
+
+-- how many cells a shape has, with an extent of 0 counted as 1
+abbrev pub room : Shape → ℕ
+room shape = room_of (dims_of shape)
+
+-- the most of them that an attribute of a request may have
+abbrev pub most_cells : ℕ
+most_cells = 65536
 
 -- ---- ids, titles, links
 

@@ -1,12 +1,13 @@
 //! Bodies that spell an attribute.
 
-ghost use Rattle.std.specs.Prelude.{◌≡◌, IfOk};
+ghost use Rattle.std.specs.Prelude.{◌≡◌, ◌-◌, ◌^◌, ◌≤◌, min, nat_le, IfOk};
 ghost use Rattle.hdf_values.specs.Attributes.{IsSoundAttribute, content};
 ghost use Rattle.request_bodies.specs.Bodies.{attribute_in, attribute_refusal, shape_fault_word};
 ghost use Rattle.request_bodies.specs.Bodies.{shape_refusal, type_refusal};
 ghost use Rattle.request_bodies.specs.Refusing.{Answers};
 ghost use Rattle.request_bodies.specs.declared.faults.BodyFault.TheVariants.{NoMemory, Refused};
-ghost use Rattle.request_bodies.specs.Bodies.{attribute_fault};
+ghost use Rattle.request_bodies.specs.Bodies.{attribute_fault, room, most_cells};
+ghost use Rattle.shapes.specs.RowMajor.{room_of};
 
 use crate::faults::BodyFault;
 use crate::keys::bad_field;
@@ -14,20 +15,48 @@ use hdf_types::{Cause, TypeFault};
 use hdf_values::{Attribute, AttributeFault, read_attribute};
 use json_trees::Tree;
 use object_ops::{FieldWord, Refusal, ShapeWord};
-use shapes::ShapeFault;
+use shapes::{Shape, ShapeFault};
 use std::alloc::Global;
+
+/// The most cells of an attribute, with an extent of 0 counted as 1: as many lists may be in its value.
+pub const MAX_ATTRIBUTE_CELLS: u64 = 65_536;
 
 /// The attribute that a body spells (PUT of an attribute): its `type`, its `value`, and maybe its `shape`.
 ///
 /// # Errors
 ///
 /// The first of `BadField` with `type`, `UnsupportedType` and `BadShape`; where the type and the shape are
-/// accepted, `BadField` with `value` for a fault of the value or of its size.
+/// accepted, `BadField` with `value` for a fault of the value or of its size. `NoMemory` also where it has more than
+/// [`MAX_ATTRIBUTE_CELLS`] cells.
 pub fn attribute_of(alloc: Global, body: &Tree) -> Result<Attribute, BodyFault>
     ensures exact { Answers result (attribute_in body.now) }
     ensures sound { IfOk result (λ a. IsSoundAttribute (content a)) }
+    ensures few { IfOk result (λ a. room a.shape ≤ most_cells) }
 {
-    Ok(read_attribute(alloc, body.value())?)
+    let attribute = read_attribute(alloc, body.value())?;
+    if has_few_cells(&attribute.shape) {
+        Ok(attribute)
+    } else {
+        Err(BodyFault::NoMemory)
+    }
+}
+
+fn has_few_cells(shape: &Shape) -> bool
+    ensures { result ≡ nat_le (room shape.now) most_cells }
+{
+    let dims = shape.dims();
+    room(dims.as_slice()) <= MAX_ATTRIBUTE_CELLS
+}
+
+// The product of the dims, each at least 1, or the largest number where it is above that.
+fn room(dims: &[u64]) -> u64
+    ensures { result ≡ min (room_of dims.now) (2 ^ 64 - 1) }
+{
+    let mut total = 1u64;
+    for n in dims {
+        total = total.saturating_mul((*n).max(1));
+    }
+    total
 }
 
 impl From<AttributeFault> for BodyFault {

@@ -6,11 +6,13 @@ ghost use Rattle.object_ids.specs.declared.ids.Kind.{Kind};
 ghost use Rattle.request_bodies.specs.Bodies.{attribute_in};
 ghost use Rattle.request_bodies.specs.Makes.{make_in};
 ghost use Rattle.request_bodies.specs.Order.{attribute_tests, fault, first_of, make_tests};
+ghost use Rattle.request_bodies.specs.declared.attributes.TheConstants.{MAX_ATTRIBUTE_CELLS};
 ghost use Rattle.request_bodies.specs.declared.links.TheConstants.{MAX_NAME};
 
 /// The limits, as numbers.
 pub fn limits_of_bodies()
-    ensures { MAX_NAME ≡ 255 }
+    ensures name { MAX_NAME ≡ 255 }
+    ensures cells { MAX_ATTRIBUTE_CELLS ≡ 65536 }
 {}
 
 /// The order in which new objects are refused. Of six tests, each on the body alone, the first that finds a refusal

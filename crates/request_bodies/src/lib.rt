@@ -17,7 +17,7 @@ mod makes;
 mod properties;
 mod values;
 
-pub use attributes::attribute_of;
+pub use attributes::{MAX_ATTRIBUTE_CELLS, attribute_of};
 pub use bodies::body_of;
 pub use faults::BodyFault;
 pub use keys::{dims_of, folder_of, rights_of};

@@ -146,7 +146,7 @@ key_tests form d = []
 abbrev pub bad_field : Text → Form → Data → Option Refusal
 bad_field path form d = first_of (bad_id form path ∷ key_tests form d)
 
--- the class of the type isn't held
+-- the class of the type isn't supported
 abbrev pub bad_class : Form → Data → Option Refusal
 bad_class (MakeObject kind) d = bodies.bad_class kind d
 bad_class (PutAttribute kind) d = class_of (type_at d)

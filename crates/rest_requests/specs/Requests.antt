@@ -1,6 +1,7 @@
 -- The request that a message is, or the first refusal.
 use Rattle.std.specs.Prelude.{◌≡◌, ℕ, List, Bool, false, Option, Some, None, Result, Ok, Err, codes, option_and_then, if◌then◌else◌}
 use Rattle.std.specs.Option.{option_copied, option_map_or}
+use Rattle.std.specs.Borrow.{Bor}
 use Rattle.std.specs.Str.{bytes_eq}
 use Rattle.json_trees.specs.Faults.{Gives, ◌>>=◌}
 use Rattle.access_lists.specs.declared.people.Caller.{Caller}
@@ -96,3 +97,11 @@ Tells target (Refused refusal allow) r = (r ≡ Err refusal) × (allow ≡ allow
 -- a call gives what the tests find of a message with this target, or memory ran out
 abbrev pub AnswersAt : {A : Type 0} → Text → Result A RequestFault → Result A Refusal → Type 0
 AnswersAt target given found = Gives (Tells target) (λ x. x) given found
+
+-- a caller that is lent, and a request
+abbrev pub copied : Bor Caller × Request → Caller × Request
+copied read = (read.0.now, read.1)
+
+-- the same, where the caller is lent
+abbrev pub LendsAt : Text → Result (Bor Caller × Request) RequestFault → Result (Caller × Request) Refusal → Type 0
+LendsAt target given found = Gives (Tells target) copied given found

@@ -1,7 +1,11 @@
 //! Why a message is no request.
 
+ghost use Rattle.std.specs.Prelude.{◌≡◌};
+ghost use Rattle.rest_requests.specs.declared.fault.RequestFault.TheVariants as fault;
+
 use crate::routes::Methods;
 use object_ops::Refusal;
+use std::alloc::AllocError;
 
 /// Why a message is no request.
 #[derive(Drop)]
@@ -15,4 +19,12 @@ pub enum RequestFault {
     },
     /// Memory ran out.
     NoMemory,
+}
+
+impl From<AllocError> for RequestFault {
+    ghost from_gives = { λ _ e. e ≡ fault.NoMemory };
+
+    fn from(_error: AllocError) -> RequestFault {
+        RequestFault::NoMemory
+    }
 }

@@ -25,5 +25,5 @@ pub use fault::RequestFault;
 pub use forms::methods_are_served;
 pub use laws::refusals_in_order;
 pub use parts::RequestParts;
-pub use reading::read_request;
+pub use reading::{lent_request, read_request};
 pub use tokens::Tokens;

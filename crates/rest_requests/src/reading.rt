@@ -4,8 +4,8 @@ ghost use Rattle.std.specs.Prelude.{◌≡◌, IfOk};
 ghost use Rattle.std.specs.Option.{option_copied};
 ghost use Rattle.object_ops.specs.Conditions.{IsSoundOp};
 ghost use Rattle.request_bodies.specs.Refusing.{Answers, Gives};
-ghost use Rattle.rest_requests.specs.Requests.{AnswersAt, allow_of, form_by, form_of, is_flush};
-ghost use Rattle.rest_requests.specs.Requests.{known};
+ghost use Rattle.rest_requests.specs.Requests.{AnswersAt, LendsAt, allow_of, copied, form_by};
+ghost use Rattle.rest_requests.specs.Requests.{form_of, is_flush, known};
 ghost use Rattle.rest_requests.specs.Requests.{methods_at, request_of, routed, said};
 
 use crate::domain::domain_of;
@@ -21,7 +21,7 @@ use object_ops::{Refusal, Request};
 use request_bodies::BodyFault;
 use std::alloc::{AllocError, Global};
 
-/// The caller and the request that a message is.
+/// The caller and the request that a message is. The caller is a copy; [`lent_request`] lends it.
 ///
 /// # Errors
 ///
@@ -37,6 +37,24 @@ pub fn read_request(
         (request_of tokens.now (said parts.now)) }
     ensures sound { IfOk result (λ read. IsSoundOp read.1.op) }
 {
+    let (caller, request) = lent_request(alloc, parts, tokens)?;
+    Ok((caller.copy()?, request))
+}
+
+/// The caller, whom the tokens lend, and the request that a message is.
+///
+/// # Errors
+///
+/// Those of [`read_request`].
+pub fn lent_request<'t>(
+    alloc: Global,
+    parts: &RequestParts<'_>,
+    tokens: &'t Tokens,
+) -> Result<(&'t Caller, Request), RequestFault>
+    ensures exact { LendsAt (said parts.now).target result
+        (request_of tokens.now (said parts.now)) }
+    ensures sound { IfOk result (λ read. IsSoundOp read.1.op) }
+{
     match request(alloc, parts, tokens) {
         Ok(read) => Ok(read),
         Err(BodyFault::NoMemory) => Err(RequestFault::NoMemory),
@@ -47,12 +65,12 @@ pub fn read_request(
     }
 }
 
-fn request(
+fn request<'t>(
     alloc: Global,
     parts: &RequestParts<'_>,
-    tokens: &Tokens,
-) -> Result<(Caller, Request), BodyFault>
-    ensures exact { Answers result (request_of tokens.now (said parts.now)) }
+    tokens: &'t Tokens,
+) -> Result<(&'t Caller, Request), BodyFault>
+    ensures exact { Gives copied result (request_of tokens.now (said parts.now)) }
     ensures sound { IfOk result (λ read. IsSoundOp read.1.op) }
 {
     let (path, query) = path_and_query(parts.target);
@@ -62,7 +80,6 @@ fn request(
     let domain = domain_of(alloc, query, parts.domain)?;
     let form = form_by(alloc, query, form)?;
     let op = op_of(alloc, form, path, query, parts.body)?;
-    let caller = caller.copy()?;
     Ok((caller, Request { path: domain, op }))
 }
 

@@ -3,3 +3,5 @@ pub mod KeptWorlds
 pub mod WaitingRecords
 pub mod OfKept
 pub mod OfLinks
+pub mod AnswerSizes
+pub mod KeptNodes

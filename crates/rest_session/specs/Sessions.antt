@@ -15,7 +15,7 @@ use Rattle.flush_journal.specs.declared.why.Why.TheVariants as why
 use Rattle.flush_journal.specs.declared.keepings.keeping.Keeping.{Keeping}
 use Rattle.object_ops.specs.Needs.{decided_at}
 use Rattle.object_ops.specs.declared.ops.Op.{Op}
-use Rattle.object_ops.specs.declared.ops.Op.TheVariants.{DropNode, Flush, PutAcl, PutNode}
+use Rattle.object_ops.specs.declared.ops.Op.TheVariants as op
 use Rattle.object_ops.specs.declared.ops.Request.{Request}
 use Rattle.object_ops.specs.declared.refusals.Refusal.{Refusal}
 use Rattle.object_ops.specs.declared.refusals.Refusal.TheVariants.{DiskFault, JournalFull}
@@ -54,15 +54,35 @@ pub record Served {D : Type 0} (met : Ghosts D) : Type 0 where
 -- ---- what is kept before it is answered
 
 abbrev pub is_to_keep : Op → Bool
-is_to_keep Flush = true
-is_to_keep (PutNode folder) = true
-is_to_keep DropNode = true
-is_to_keep (PutAcl name rights) = true
-is_to_keep op = false
+is_to_keep op.Flush = true
+is_to_keep (op.PutNode folder) = true
+is_to_keep op.DropNode = true
+is_to_keep (op.PutAcl name rights) = true
+is_to_keep op.GetNode = false
+is_to_keep op.ListNodes = false
+is_to_keep op.GetAcls = false
+is_to_keep (op.GetAcl name) = false
+is_to_keep (op.MakeObject make link) = false
+is_to_keep (op.GetObject id) = false
+is_to_keep (op.DropObject id) = false
+is_to_keep (op.ListLinks id) = false
+is_to_keep (op.GetLink id title) = false
+is_to_keep (op.PutLink id title link) = false
+is_to_keep (op.DropLink id title) = false
+is_to_keep (op.ListAttributes id) = false
+is_to_keep (op.GetAttribute id name) = false
+is_to_keep (op.PutAttribute id name attribute) = false
+is_to_keep (op.DropAttribute id name) = false
+is_to_keep (op.GetShape id) = false
+is_to_keep (op.PutShape id dims) = false
+is_to_keep (op.GetElem id) = false
+is_to_keep (op.GetValue id select) = false
+is_to_keep (op.PutValue id part value) = false
+is_to_keep (op.GetPoints id points) = false
 
 abbrev pub acknowledges : Op → What → Bool
-acknowledges op (Replied (outcome.Done status body)) = is_to_keep op
-acknowledges op what = false
+acknowledges asked (Replied (outcome.Done status body)) = is_to_keep asked
+acknowledges asked what = false
 
 -- the answer where a change stands that was not kept; or that there was no memory
 abbrev pub IsUnkept : Why → Bool → List ℕ → Type 0

@@ -1,6 +1,9 @@
 //! Laws over the definitions of this crate. No program calls these functions; the contract of each is the law.
 
-ghost use Rattle.std.specs.Prelude.{◌≡◌, ◌≤◌, ℕ, Bool, List, [], ◌∷◌, None, Option, true};
+ghost use Rattle.std.specs.Prelude.{◌≡◌, ◌<◌, ◌≤◌, ◌^◌, ℕ, Bool, List, [], ◌∷◌, length};
+ghost use Rattle.std.specs.Prelude.{None, Option, false, true};
+ghost use Rattle.access_lists.specs.declared.people.Caller.{Caller};
+ghost use Rattle.access_lists.specs.declared.right.Right.{Right};
 ghost use Rattle.flush_journal.specs.Batches.{records};
 ghost use Rattle.flush_journal.specs.Moments.{CrashLeaves};
 ghost use Rattle.flush_journal.specs.Standing.{disk_of, pending_of};
@@ -12,8 +15,16 @@ ghost use Rattle.http_wire.specs.Replies.{fault_reply, no_memory_reply};
 ghost use Rattle.http_wire.specs.declared.message_fault.MessageFault.{MessageFault};
 ghost use Rattle.rest_requests.specs.Routes.Methods.{no_methods};
 ghost use Rattle.service_core.specs.declared.answers.What.TheVariants.{NoMemory};
+ghost use Rattle.flush_journal.specs.declared.why.Why.{Why};
+ghost use Rattle.http_wire.specs.declared.limits.TheConstants.{ANSWER_ROOM};
+ghost use Rattle.object_ops.specs.declared.ops.Request.{Request};
+ghost use Rattle.object_ops.specs.declared.refusals.Refusal.TheVariants.{DiskFault, JournalFull};
+ghost use Rattle.service_core.specs.Steps.{Steps, World as Seen};
+ghost use Rattle.service_core.specs.declared.answers.Answer.{Answer};
+ghost use Rattle.service_core.specs.declared.answers.What.TheVariants.{Denied};
 ghost use Rattle.rest_session.specs.Responses.{refusal_of, refused, said};
-ghost use Rattle.rest_session.specs.Sessions.{IsServed, Served};
+ghost use Rattle.rest_session.specs.Sessions.{IsServed, IsUnkept, Served, acknowledges};
+ghost use Rattle.rest_session.specs.Sessions.{is_to_keep};
 ghost use Rattle.rest_session.specs.Stood.{AreOfStood, HoldsStood, IsBackedBy, IsBackedByStood};
 ghost use Rattle.rest_session.specs.Stood.{IsStretch};
 
@@ -31,6 +42,35 @@ pub fn faults_are_refused()
 pub fn no_memory_is_said()
     ensures { (path : List ℕ) (close : Bool)
         → no_memory_reply close ≡ said path NoMemory close }
+{}
+
+/// A request that isn't kept before it is answered leaves folders, domains and lists as they were, and the next number.
+pub fn what_is_not_kept_changes_no_node()
+    ensures { (w v : Seen) (caller : Caller) (request : Request) (answer : Answer)
+        → Steps w caller request answer v → is_to_keep request.op ≡ false
+        → v.register.catalogue ≡ w.register.catalogue }
+{}
+
+/// The bytes of an answer that acknowledges a change, or that all is kept, are never those by which it is said that a
+/// change was not kept, a 503 or a 507.
+pub fn what_is_acknowledged_is_told_apart()
+    ensures { (w v : Seen) (caller : Caller) (request : Request) (answer : Answer)
+        (path : List ℕ) (close shut : Bool) (why : Why) (bytes : List ℕ)
+        → Steps w caller request answer v → acknowledges request.op answer.what ≡ true
+        → bytes ≡ said path answer.what close → IsUnkept why shut bytes → ⊥ }
+{}
+
+/// An answer that denies a right at a path, and one that says that a change was not kept, have at most 8,192 bytes: as many
+/// as an inbox has room for.
+pub fn short_answers()
+    ensures room { ANSWER_ROOM ≡ 8192 }
+    ensures denied { (path : List ℕ) (right : Right) (close : Bool)
+        → length path ≤ 1024 → length (said path (Denied right) close) ≤ ANSWER_ROOM }
+    ensures fault { (close : Bool)
+        → length (refused [] DiskFault no_methods close) ≤ ANSWER_ROOM }
+    ensures full { (end need room : ℕ) (close : Bool)
+        → end < 2 ^ 64 → need < 2 ^ 64 → room < 2 ^ 64
+        → length (refused [] (JournalFull end need room) no_methods close) ≤ ANSWER_ROOM }
 {}
 
 /// The disk stays the same one while a link is served, and its count of faults doesn't fall. On a disk that keeps its rule,

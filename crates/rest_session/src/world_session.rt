@@ -22,7 +22,7 @@ use flush_journal::keepings::Keeping;
 use http_wire::Message;
 use object_ops::{Op, Refusal, Reply, Request, on_text};
 use rest_requests::routes::Methods;
-use rest_requests::{RequestFault, RequestParts, Tokens, read_request};
+use rest_requests::{RequestFault, RequestParts, Tokens, lent_request};
 use service_core::answer_trees::bodies_have_no_floats;
 use service_core::{What, World};
 use std::alloc::{AllocError, Global};
@@ -52,14 +52,14 @@ impl<'a, D: Disk> Service for WorldSession<'a, D> {
     ghost fixed = { λ s. (s.world.ghost_name, s.keeping.ghost_name, s.tokens.now) };
 
     fn answer(&mut self, message: &Message<'_>) -> Response {
-        match read_request(self.alloc, &parts_of(message), self.tokens) {
+        match lent_request(self.alloc, &parts_of(message), self.tokens) {
             Ok((caller, request)) => {
                 step(
                     self.alloc,
                     self.tokens,
                     self.world,
                     self.keeping,
-                    &caller,
+                    caller,
                     &request,
                 )
             }
@@ -141,7 +141,27 @@ fn is_to_keep(op: &Op) -> bool
 {
     match op {
         Op::Flush | Op::PutNode { .. } | Op::DropNode | Op::PutAcl { .. } => true,
-        _ => false,
+        Op::GetNode
+        | Op::ListNodes
+        | Op::GetAcls
+        | Op::GetAcl { .. }
+        | Op::MakeObject { .. }
+        | Op::GetObject { .. }
+        | Op::DropObject { .. }
+        | Op::ListLinks { .. }
+        | Op::GetLink { .. }
+        | Op::PutLink { .. }
+        | Op::DropLink { .. }
+        | Op::ListAttributes { .. }
+        | Op::GetAttribute { .. }
+        | Op::PutAttribute { .. }
+        | Op::DropAttribute { .. }
+        | Op::GetShape { .. }
+        | Op::PutShape { .. }
+        | Op::GetElem { .. }
+        | Op::GetValue { .. }
+        | Op::PutValue { .. }
+        | Op::GetPoints { .. } => false,
     }
 }
 

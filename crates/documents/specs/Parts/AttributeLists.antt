@@ -1,15 +1,17 @@
 -- The attributes of an object of a document: the first fault in the stated order.
-use Rattle.std.specs.Prelude.{◌≡◌, ℕ, List, Option, Result, Ok, Err, codes, decimal}
-use Rattle.std.specs.FinMap.{empty, insert}
+use Rattle.std.specs.Prelude.{◌≡◌, ◌≤◌, ℕ, List, Option, Some, Result, Ok, Err, codes, decimal}
+use Rattle.std.specs.FinMap.{empty, get, insert}
 use Rattle.serde_json.specs.Data.{Data, Members}
 use Rattle.json_trees.specs.Faults.{◌>>=◌}
 use Rattle.json_trees.specs.Trees.{text_at}
-use Rattle.hdf_types.specs.Elems as elems
 use Rattle.hdf_values.specs.Attributes.{Content, attribute_of, attribute}
 use Rattle.hdf_values.specs.declared.attributes.Attribute.{Attribute}
 use Rattle.hdf_values.specs.declared.attributes.AttributeFault.{AttributeFault}
 use Rattle.hdf_values.specs.declared.attributes.AttributeFault.TheVariants as attributes
 use Rattle.attributes.specs.AttributeMaps.{AttributeMap, most_attributes}
+use Rattle.shapes.specs.RowMajor.{room_of}
+use Rattle.shapes.specs.Shapes.{dims_of}
+use Rattle.shapes.specs.declared.Shape.{Shape}
 use Rattle.documents.specs.Parts.Faults.{Fault, Tells, fault}
 use Rattle.documents.specs.Parts.Items.{listed_at, members_at}
 use Rattle.documents.specs.Parts.Names.{new_name}
@@ -57,3 +59,17 @@ attribute_step path i m d = attribute_at (under path (decimal i)) m d
 -- the attributes of a list at a path; an absent one has none
 unfoldable pub attributes_at : List ℕ → Option Data → Result AttributeMap Fault
 attributes_at path o = listed_at most_attributes path (attribute_step path) empty o
+
+-- ---- how many cells an attribute may have
+
+-- how many cells a shape has, with an extent of 0 counted as 1
+abbrev pub room : Shape → ℕ
+room shape = room_of (dims_of shape)
+
+-- the most of them that an attribute of a document may have
+abbrev pub most_cells : ℕ
+most_cells = 65536
+
+-- no attribute has more
+abbrev pub HaveFewCells : AttributeMap → Type 0
+HaveFewCells m = (name : List ℕ) (a : Attribute) → get m name ≡ Some a → room a.shape ≤ most_cells

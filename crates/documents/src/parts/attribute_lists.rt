@@ -1,24 +1,30 @@
 //! The attributes of an object of a document.
 
-ghost use Rattle.std.specs.Prelude.{◌≡◌, IfOk, map};
+ghost use Rattle.std.specs.Prelude.{◌≡◌, ◌-◌, ◌^◌, ◌≤◌, min, nat_le, IfOk, map};
 ghost use Rattle.std.specs.FinMap as finite;
 ghost use Rattle.serde_json.specs.View.{view};
 ghost use Rattle.json_trees.specs.Shown.{shown};
 ghost use Rattle.hdf_values.specs.Attributes.{IsSoundAttribute, content};
 ghost use Rattle.documents.specs.Parts.AttributeLists.{IsToldOf, attribute_at, attributes_at};
 ghost use Rattle.documents.specs.Parts.AttributeLists.{attribute_step, content_at};
+ghost use Rattle.documents.specs.Parts.AttributeLists.{HaveFewCells, most_cells, room};
 ghost use Rattle.documents.specs.Parts.Faults.{Answers, Leaves};
 ghost use Rattle.documents.specs.Parts.Items.{each_item};
+ghost use Rattle.shapes.specs.RowMajor.{room_of};
 
 use crate::parts::faults::{DocCause, DocFault, refused_at};
 use crate::parts::items::{items, members, numbered};
 use crate::parts::names::new_name;
 use crate::parts::paths::DocPath;
-use attributes::{Attributes, MAX_ATTRIBUTES};
+use attributes::{Attributes, MAX_ATTRIBUTES, PutFault};
 use hdf_values::{Attribute, AttributeFault, read_attribute};
 use json_trees::member_text;
 use serde_json::Value;
+use shapes::Shape;
 use std::alloc::Global;
+
+/// The most cells of an attribute, with an extent of 0 counted as 1: as many lists may be in its value.
+pub const MAX_ATTRIBUTE_CELLS: u64 = 65_536;
 
 /// The attributes that a list at a path spells, of which an absent one has none.
 ///
@@ -26,14 +32,16 @@ use std::alloc::Global;
 ///
 /// The first fault: of the list that it is none, that it has more than
 /// [`MAX_ATTRIBUTES`](attributes::MAX_ATTRIBUTES) members, and then of each member that it is no
-/// object, of its name, its type, its shape, its size and its value.
+/// object, of its name, its type, its shape, its size and its value. `NoMemory` also where one has
+/// more than [`MAX_ATTRIBUTE_CELLS`] cells.
 #[tactic(auto, unfolding(crate::specs::Parts::AttributeLists::attributes_at))]
 pub fn read_attributes(
     alloc: Global,
     path: &str,
     tree: Option<&Value>,
 ) -> Result<Attributes, DocFault>
-    ensures { Answers result (attributes_at path.now (shown tree.entry)) }
+    ensures exact { Answers result (attributes_at path.now (shown tree.entry)) }
+    ensures few { IfOk result HaveFewCells }
 {
     let Some(tree) = tree else {
         return Ok(Attributes::new(alloc));
@@ -43,7 +51,9 @@ pub fn read_attributes(
 }
 
 fn listed(alloc: Global, path: &str, items: &[Value]) -> Result<Attributes, DocFault>
-    ensures { Answers result (each_item (attribute_step path.now) finite.empty 0 (map view items.now)) }
+    ensures exact { Answers result
+        (each_item (attribute_step path.now) finite.empty 0 (map view items.now)) }
+    ensures few { IfOk result HaveFewCells }
 {
     let mut attributes = Attributes::new(alloc);
     for (index, item) in items.iter().enumerate() {
@@ -59,8 +69,10 @@ fn put_item(
     item: &Value,
     attributes: &mut Attributes,
 ) -> Result<(), DocFault>
-    ensures { Leaves result attributes.new
+    requires { HaveFewCells attributes.old }
+    ensures exact { Leaves result attributes.new
         (attribute_step path.now index attributes.old (view item.now)) }
+    ensures few { HaveFewCells attributes.new }
 {
     let path = numbered(alloc, path, index)?;
     put_attribute(alloc, path.text(), item, attributes)
@@ -73,8 +85,10 @@ fn put_attribute(
     item: &Value,
     attributes: &mut Attributes,
 ) -> Result<(), DocFault>
-    ensures { Leaves result attributes.new
+    requires { HaveFewCells attributes.old }
+    ensures exact { Leaves result attributes.new
         (attribute_at path.now attributes.old (view item.now)) }
+    ensures few { HaveFewCells attributes.new }
 {
     members(alloc, path, item)?;
     let key = DocPath::under(alloc, path, "name")?;
@@ -83,18 +97,42 @@ fn put_attribute(
     // The name is new and the list within the limit, so that memory alone can be wanting.
     match attributes.put(name, attribute) {
         Ok(()) => Ok(()),
-        Err(_) => Err(DocFault::NoMemory),
+        Err(PutFault::Taken | PutFault::Limit | PutFault::NoMemory) => Err(DocFault::NoMemory),
     }
 }
 
 fn content_at(alloc: Global, path: &str, item: &Value) -> Result<Attribute, DocFault>
     ensures exact { Answers result (content_at path.now (view item.now)) }
     ensures sound { IfOk result (λ a. IsSoundAttribute (content a)) }
+    ensures few { IfOk result (λ a. room a.shape ≤ most_cells) }
 {
-    match read_attribute(alloc, item) {
-        Ok(attribute) => Ok(attribute),
-        Err(fault) => Err(told(alloc, path, fault)),
+    let attribute = match read_attribute(alloc, item) {
+        Ok(attribute) => attribute,
+        Err(fault) => return Err(told(alloc, path, fault)),
+    };
+    if has_few_cells(&attribute.shape) {
+        Ok(attribute)
+    } else {
+        Err(DocFault::NoMemory)
     }
+}
+
+fn has_few_cells(shape: &Shape) -> bool
+    ensures { result ≡ nat_le (room shape.now) most_cells }
+{
+    let dims = shape.dims();
+    room(dims.as_slice()) <= MAX_ATTRIBUTE_CELLS
+}
+
+// The product of the dims, each at least 1, or the largest number where it is above that.
+fn room(dims: &[u64]) -> u64
+    ensures { result ≡ min (room_of dims.now) (2 ^ 64 - 1) }
+{
+    let mut total = 1u64;
+    for n in dims {
+        total = total.saturating_mul((*n).max(1));
+    }
+    total
 }
 
 // The fault of an attribute as one of the document.

@@ -16,9 +16,15 @@ ghost use Rattle.documents.specs.Parts.LinkLists.{links_at};
 ghost use Rattle.documents.specs.Parts.Spelled.{AreAttributesAt, AreLinksAt, IsArray};
 ghost use Rattle.documents.specs.Parts.TitleMaps.{TargetMap};
 ghost use Rattle.documents.specs.Parts.Types.{kind_at};
+ghost use Rattle.documents.specs.declared.parts.attribute_lists.TheConstants.{MAX_ATTRIBUTE_CELLS};
 
 use chunk_store::cells_after_calls;
 use shapes::{cells_are_inside, indices_number_the_cells};
+
+/// The limit of an attribute's cells, as a number.
+pub fn limits_of_parts()
+    ensures { MAX_ATTRIBUTE_CELLS ≡ 65536 }
+{}
 
 /// The tests in order find no fault exactly where the trees spell what is read.
 pub fn parts_or_fault()

@@ -21,6 +21,7 @@ use crate::parts::targets::Target;
 use crate::parts::title_maps::Targets;
 use groups_links::{LinkFault, LinkTo, MAX_LINKS, read_link};
 use json_trees::member_text;
+use object_ids::PutFault;
 use serde_json::Value;
 use std::alloc::{AllocError, Global};
 
@@ -92,7 +93,7 @@ fn put_link(
     // The title is new and the list within the limit, so that memory alone can be wanting.
     match links.put(title, target) {
         Ok(()) => Ok(()),
-        Err(_) => Err(DocFault::NoMemory),
+        Err(PutFault::Taken | PutFault::Limit | PutFault::NoMemory) => Err(DocFault::NoMemory),
     }
 }
 

@@ -7,13 +7,13 @@ use Rattle.flush_journal.specs.Files.{Content}
 use Rattle.flush_journal.specs.Keepings.Keepings.{IsBacked, settled}
 use Rattle.flush_journal.specs.Moments.{CrashLeaves, CrashLeavesSince}
 use Rattle.flush_journal.specs.Records.{Record, put_record}
-use Rattle.flush_journal.specs.Standing.{HoldsEither, disk_of, end_of, with_batch}
+use Rattle.flush_journal.specs.Standing.{HoldsEither, disk_of, with_batch}
 use Rattle.flush_journal.specs.declared.journal.Journal.{Journal}
 use Rattle.flush_journal.specs.declared.keepings.keeping.Keeping.{Keeping}
 use Rattle.flush_journal.specs.declared.why.Why.{Why}
 use Rattle.flush_journal.proofs.Moments.{joined, weaker}
 use Rattle.http_wire.specs.Messages.{RequestMessage}
-use Rattle.service_core.specs.Journals.Begun.{IsBegunSince, IsOfDisk, IsUnstarted}
+use Rattle.service_core.specs.Journals.Begun.{IsBegun, IsBegunSince, IsOfDisk, IsUnstarted}
 use Rattle.service_core.specs.Journals.Opening.{IsOf}
 use Rattle.service_core.specs.KeptWorlds.{TellsWorld}
 use Rattle.service_core.specs.Records.{WorldSays, as_kept, run_record}
@@ -81,7 +81,7 @@ module _ {D : Type 0} (met : Ghosts D) (before : D) (j : Journal D met) (v : Sta
     served_since after lb la hb ha closed last on none link = (
       first,
       refl,
-      (λ honest. let o = on honest in (o.0, o.1, record { recovered = o.2.begun.recovered; kept = o.2.begun.kept; end = ap end_of same ∙ o.2.begun.end })),
+      (λ honest. let o = on honest in (o.0, o.1, subst (λ (x : Journal D met). IsBegun x v o.0) (sym same) o.2.begun)),
       link,
       λ honest. let o = on honest in (o.0, o.1, left_since link.final link.taken link.stretch o.0 o.2 after none (link.last_crash honest first link.stretch)),
     )

@@ -24,7 +24,7 @@ same_reading (m ∷ ms) (n ∷ ns) x y a b p q e =
     let more = same_reading ms ns x y a.2 b.2 p q both.1 in
     (λ i. both.0 i ∷ more.0 i, more.1)
 
-none_empty : (m : RequestMessage) (rest : List ℕ) → [] ≡ spelling m ++ rest → ⊥
+pub none_empty : (m : RequestMessage) (rest : List ℕ) → [] ≡ spelling m ++ rest → ⊥
 none_empty m rest e =
     let l = ap length e in let p = length-append (spelling m) rest in let q = length-append (print_request m.head) m.body in let s = some_bytes m.head in
     omega (arith, l, p, q, s)
@@ -51,14 +51,14 @@ bad_size m behind rest left fault spelled e w =
     let no : Err fault ≡ Ok (length m.body) = sym w.4 ∙ ap body_size both.0 ∙ spelled.size in cc
 
 -- nor are they refused
-refused_first : (m : RequestMessage) (behind rest left : List ℕ) (fault : MessageFault) → IsSpelled m → rest ++ left ≡ spelling m ++ behind → IsRefusedFor rest fault → ⊥
+pub refused_first : (m : RequestMessage) (behind rest left : List ℕ) (fault : MessageFault) → IsSpelled m → rest ++ left ≡ spelling m ++ behind → IsRefusedFor rest fault → ⊥
 refused_first m behind rest left BadHead spelled e w = w.1 left m.head (m.body ++ behind) (spelled.head, e ∙ append_assoc (print_request m.head) m.body behind)
 refused_first m behind rest left HeadTooLong spelled e w = w.1 left m.head (m.body ++ behind) (spelled.head, e ∙ append_assoc (print_request m.head) m.body behind) spelled.small
 refused_first m behind rest left BadLength spelled e w = bad_size m behind rest left BadLength spelled e w
 refused_first m behind rest left BodyTooLong spelled e w = bad_size m behind rest left BodyTooLong spelled e w
 refused_first m behind rest left TransferCoding spelled e w = bad_size m behind rest left TransferCoding spelled e w
 
-some_refused : (rest : List ℕ) (fault : MessageFault) → IsRefusedFor rest fault → 0 < length rest
+pub some_refused : (rest : List ℕ) (fault : MessageFault) → IsRefusedFor rest fault → 0 < length rest
 some_refused rest BadHead w = w.0
 some_refused rest HeadTooLong w = w.0
 some_refused rest BadLength w = let s = some_bytes w.0 in let e = ap length w.2.1 in let p = length-append (print_request w.0) w.1 in omega (arith, s, e, p)

@@ -2,29 +2,28 @@
 --     IsServedFrom c first      a session begins with it, and with nothing to be written
 --     IsLinkKept first after ..      a link was served from a world on, and what changed was kept
 --     IsEnded before after .. outcome      what a session came to
-use Rattle.std.specs.Prelude.{◌≡◌, ◌⊎◌, ℕ, ◌+◌, List, [], ◌∷◌, length, Option, Some, Result, Err, OnOk}
+use Rattle.std.specs.Prelude.{◌≡◌, ◌⊎◌, ℕ, List, Option, Some, Result, Err, OnOk}
 use Rattle.std.specs.Io.KnownBytes.{Appends, Consumes}
 use Rattle.std.specs.List.{AllByRecursion}
 use Rattle.access_lists.specs.Tokens.Bearer.{TokenTable}
 use Rattle.edge_traits.specs.declared.disk.Disk.{Ghosts}
 use Rattle.flush_journal.specs.Files.{Content, held}
-use Rattle.flush_journal.specs.Frames.{frame_of}
 use Rattle.flush_journal.specs.Moments.{CrashLeaves, CrashLeavesSince}
 use Rattle.flush_journal.specs.Keepings.Keepings.{IsNewKeeping}
 use Rattle.flush_journal.specs.Records.{Held, Record}
-use Rattle.flush_journal.specs.Standing.{disk_of, end_of, pending_of}
+use Rattle.flush_journal.specs.Standing.{disk_of, pending_of}
 use Rattle.flush_journal.specs.Unchanged.{SameBytes}
 use Rattle.flush_journal.specs.declared.why.Why.{Why}
 use Rattle.flush_journal.specs.declared.why.Why.TheVariants as why
 use Rattle.flush_journal.specs.declared.keepings.keeping.Keeping.{Keeping}
 use Rattle.service_core.specs.Journals.Opening.{IsOf, MayRefuseOpening}
-use Rattle.service_core.specs.Journals.Begun.{IsRecovered, IsUnbegun}
+use Rattle.service_core.specs.Journals.Begun.{IsBegun, IsUnbegun}
 use Rattle.service_core.specs.declared.journals.beginning.BeginFault.{BeginFault}
 use Rattle.service_core.specs.declared.journals.beginning.BeginFault.TheVariants as begin
 use Rattle.service_core.specs.declared.journals.faults.OpenFault.TheVariants as fault
 use Rattle.rest_session.specs.Links.Links.{HasCauses, IsTranscript}
-use Rattle.service_core.specs.Records.{IsKept, as_kept, run_record}
-use Rattle.service_core.specs.Worlds.{State, seen}
+use Rattle.service_core.specs.Records.{as_kept}
+use Rattle.service_core.specs.Worlds.{State}
 use Rattle.rest_session.specs.Sessions.{IsServed, Served}
 use Rattle.service_core.specs.KeptWorlds.{KeepsWorld, HoldsWorld}
 use Rattle.rest_session.specs.Stood.{HoldsStood, IsOfStood, IsStretch}
@@ -35,11 +34,9 @@ use Rattle.rest_session.specs.declared.kept.outcome.Outcome.TheVariants as outco
 
 -- ---- the world at the begin of a session
 
--- the world that a file's content holds is served, all of it is kept, and the journal ends behind the record of its run
-pub record IsServedFrom {D : Type 0} {met : Ghosts D} (c : Content) (first : Served met) : Type 0 where
-  pub recovered : IsRecovered c.held (seen first.world)
-  pub kept : IsKept first.world
-  pub end : end_of first.keeping.journal ≡ c.end + length (frame_of (run_record first.world.register ∷ []))
+-- the world that a file's content holds is served, all of it is kept, and the journal is settled, with the record of its run
+abbrev pub IsServedFrom : {D : Type 0} {met : Ghosts D} → Content → Served met → Type 0
+IsServedFrom c first = IsBegun first.keeping.journal first.world c
 
 -- ---- what a crash leaves
 

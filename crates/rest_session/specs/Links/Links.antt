@@ -1,12 +1,16 @@
 -- What a link gave and what was written to it, over any step of a world.
-use Rattle.std.specs.Prelude.{◌≡◌, ◌⊎◌, ℕ, ◌<◌, ◌≤◌, List, [], ◌∷◌, ◌++◌, length, true, false, Option, ⊤}
+use Rattle.std.proofs.Common.{inl, inr}
+use Rattle.std.specs.Prelude.{◌≡◌, ◌⊎◌, ℕ, ◌<◌, ◌≤◌, List, [], ◌∷◌, ◌++◌, length, true, false, Option, Some, None, ⊤}
 use Rattle.std.specs.List.{flat_map}
 use Rattle.std.specs.Io.KnownBytes.{IsAtEnd}
 use Rattle.edge_traits.specs.Causes.{Rose}
+use Rattle.httparse.specs.Grammar.{EndsInTarget}
+use Rattle.httparse.specs.Spans.{RequestExceeds}
 use Rattle.http_wire.specs.Messages.{RequestMessage, IsSpelled, spelling, closes, HasNoMessage, HasNoBadSize, StopsInside, IsRefusedFor}
 use Rattle.http_wire.specs.Replies.{fault_reply, no_memory_reply}
-use Rattle.http_wire.specs.declared.limits.TheConstants.{HEAD_LIMIT}
+use Rattle.http_wire.specs.declared.limits.TheConstants.{FIELD_LIMIT, HEAD_LIMIT}
 use Rattle.http_wire.specs.declared.message_fault.MessageFault.{MessageFault}
+use Rattle.http_wire.specs.declared.message_fault.MessageFault.TheVariants.{BadHead, HeadTooLong, BadLength, BodyTooLong, TransferCoding}
 use Rattle.rest_session.specs.declared.links.end.LinkEnd.{LinkEnd}
 use Rattle.rest_session.specs.declared.links.end.LinkEnd.TheVariants.{Closed, Cut, Ended, ReadFault, WriteFault, Budget, NoMemory}
 use Rattle.rest_session.specs.declared.links.end.TheConstants.{BUDGET}
@@ -118,3 +122,43 @@ IsOfBytes ReadFault = ⊥
 IsOfBytes WriteFault = ⊥
 IsOfBytes Budget = ⊤
 IsOfBytes NoMemory = ⊥
+
+-- ---- the same bytes in other pieces
+
+-- the message with which a link closed, where it was one
+abbrev pub closing_message : {W : Type 0} (step : Step W) (w : W) (tail sent : List ℕ) (left : Option (List ℕ)) (v : W)
+    → IsEnd step w tail sent left v Closed → Option RequestMessage
+closing_message step w tail sent left v (inl s) = None
+closing_message step w tail sent left v (inr s) = Some s.0.message
+
+-- a refusal of a head, not for what it says of its body
+abbrev pub IsHeadFault : MessageFault → Type 0
+IsHeadFault BadHead = ⊤
+IsHeadFault HeadTooLong = ⊤
+IsHeadFault BadLength = ⊥
+IsHeadFault BodyTooLong = ⊥
+IsHeadFault TransferCoding = ⊥
+
+-- bytes of a head that one reading takes for cut short and another refuses: they stop inside a target, or have too many fields
+abbrev pub IsUndecided : List ℕ → Type 0
+IsUndecided bytes = EndsInTarget bytes ⊎ RequestExceeds FIELD_LIMIT bytes
+
+-- the ends that the same bytes have in whatever pieces they come, where they end by the bytes alone; of the two faults of a head either may come
+abbrev pub AreAlike : List ℕ → LinkEnd → LinkEnd → Type 0
+AreAlike bytes Closed Closed = ⊤
+AreAlike bytes Closed (Cut k) = ⊥
+AreAlike bytes Closed (Ended other) = ⊥
+AreAlike bytes Closed Budget = ⊥
+AreAlike bytes (Cut n) Closed = ⊥
+AreAlike bytes (Cut n) (Cut k) = n ≡ k
+AreAlike bytes (Cut n) (Ended other) = IsHeadFault other × IsUndecided bytes
+AreAlike bytes (Cut n) Budget = ⊥
+AreAlike bytes (Ended fault) Closed = ⊥
+AreAlike bytes (Ended fault) (Cut k) = IsHeadFault fault × IsUndecided bytes
+AreAlike bytes (Ended fault) (Ended other) = (fault ≡ other) ⊎ (IsHeadFault fault × IsHeadFault other)
+AreAlike bytes (Ended fault) Budget = ⊥
+AreAlike bytes Budget Closed = ⊥
+AreAlike bytes Budget (Cut k) = ⊥
+AreAlike bytes Budget (Ended other) = ⊥
+AreAlike bytes Budget Budget = ⊤
+AreAlike bytes end other = ⊥

@@ -5,7 +5,8 @@ ghost use Rattle.rest_session.specs.declared.links.end.LinkEnd.{LinkEnd};
 ghost use Rattle.rest_session.specs.declared.links.end.LinkEnd.TheVariants.{Closed};
 ghost use Rattle.rest_session.specs.declared.links.end.TheConstants.{BUDGET};
 ghost use Rattle.rest_session.specs.Links.Links.{AllOpen, AllSpelled, spellings, Replays, IsTranscript};
-ghost use Rattle.rest_session.specs.Links.Links.{IsOfBytes, IsPeaceful};
+ghost use Rattle.rest_session.specs.Links.Links.{AreAlike, IsOfBytes, IsPeaceful};
+ghost use Rattle.rest_session.specs.Links.Links.{closing_message};
 
 use crate::links::service::Service;
 
@@ -41,14 +42,27 @@ pub fn whole_messages_are_served<V: Service>()
 {}
 
 /// How the bytes were divided into pieces doesn't matter: two links that give the same bytes, and end neither by a fault
-/// nor for want of memory, give the same messages.
+/// nor for want of memory, give the same messages and end alike, with the same message where one closes. Of the two faults
+/// of a head either may be told; and bytes that stop inside a target, or behind too many fields, may be cut or refused.
 pub fn pieces_do_not_matter<V: Service>()
-    ensures { (u v w x : V.World) (taken sent left others written remaining : List ℕ)
+    ensures messages { (u v w x : V.World) (taken sent left others written remaining : List ℕ)
         (end other : LinkEnd)
         → (t : IsTranscript V.step u taken sent (Some left) v end)
         → (s : IsTranscript V.step w others written (Some remaining) x other)
         → taken ++ left ≡ others ++ remaining → IsOfBytes end → IsOfBytes other
         → t.messages ≡ s.messages }
+    ensures ends { (u v w x : V.World) (taken sent left others written remaining : List ℕ)
+        (end other : LinkEnd)
+        → (t : IsTranscript V.step u taken sent (Some left) v end)
+        → (s : IsTranscript V.step w others written (Some remaining) x other)
+        → taken ++ left ≡ others ++ remaining → IsOfBytes end → IsOfBytes other
+        → AreAlike (t.tail ++ left) end other }
+    ensures closing { (u v w x : V.World) (taken sent left others written remaining : List ℕ)
+        → (t : IsTranscript V.step u taken sent (Some left) v Closed)
+        → (s : IsTranscript V.step w others written (Some remaining) x Closed)
+        → taken ++ left ≡ others ++ remaining
+        → closing_message V.step t.mid t.tail t.last (Some left) v t.ends
+        ≡ closing_message V.step s.mid s.tail s.last (Some remaining) x s.ends }
 {}
 
 /// A transcript holds of what the worlds show, too: where each step of one service is, between what its worlds show, a

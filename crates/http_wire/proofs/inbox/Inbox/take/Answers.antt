@@ -1,7 +1,10 @@
-use Rattle.std.proofs.Common.{length, ap, sym, ◌∙◌, arith}
+use Rattle.std.proofs.Common.{length, append-nil, refl, ap, sym, ◌∙◌, arith}
 use Rattle.std.proofs.KnownBytes.{Keeps-refl}
-use Rattle.http_wire.proofs.MessageLemmas.{looked, head_at_front, no_message, no_bad_size, in_head, rest_kept, kept_skipped}
+use Rattle.http_wire.proofs.MessageLemmas.{looked, head_at_front, no_message, no_bad_size, in_head, rest_kept, kept_skipped, held_on, leaves_all}
 use Rattle.http_wire.proofs.Pending.{used}
+use Rattle.http_wire.specs.Buffers.{unused_bytes}
+use Rattle.http_wire.specs.Taken.{waiting}
+use Rattle.std.specs.Io.KnownBytes.{prepend_known}
 use Rattle.http_wire.proofs.Rooms.{unused_room, waiting_room}
 use Rattle.http_wire.proofs.inbox.Inbox.take.Goals as goal
 
@@ -86,3 +89,26 @@ returns-in-HeadTooLong-clause-room g c = unused_room c.read_head.new.self
 
 pub returns-in-Fault-clause-room : goal.returns-in-Fault-clause-room
 returns-in-Fault-clause-room g c = unused_room c.read_head.new.self
+
+pub returns-in-Head-clause-held : goal.returns-in-Head-clause-held
+returns-in-Head-clause-held g c =
+    let found = c.in-Head.ensures.found.1 in
+    held_on (prepend_known (waiting c.args.self.now) (g.S.Source.left c.args.source.now))
+    (prepend_known (unused_bytes c.read_head.new.self) (g.S.Source.left c.read_head.new.source)) (g.S.Source.left c.take_message.new.source)
+    c.take_message.new.self c.take_message.result (kept_skipped _ _ _ _ c.skip.ensures c.in-Head.ensures.kept) (c.take_message.ensures.held found.0 found.1 found.2)
+
+pub returns-in-Cut-clause-held : goal.returns-in-Cut-clause-held
+returns-in-Cut-clause-held g c = (
+  _,
+  leaves_all _ _ _ refl (kept_skipped _ _ _ _ c.skip.ensures c.in-Cut.ensures.kept),
+  ap length (append-nil _ ∙ sym c.unused.ensures.value),
+)
+
+pub returns-in-BadHead-clause-held : goal.returns-in-BadHead-clause-held
+returns-in-BadHead-clause-held g c = (kept_skipped _ _ _ _ c.skip.ensures c.in-BadHead.ensures.kept, c.in-BadHead.ensures.found)
+
+pub returns-in-HeadTooLong-clause-held : goal.returns-in-HeadTooLong-clause-held
+returns-in-HeadTooLong-clause-held g c = (kept_skipped _ _ _ _ c.skip.ensures c.in-HeadTooLong.ensures.kept, c.in-HeadTooLong.ensures.found)
+
+pub returns-in-Fault-clause-held : goal.returns-in-Fault-clause-held
+returns-in-Fault-clause-held g c = (_, leaves_all _ _ _ refl (kept_skipped _ _ _ _ c.skip.ensures c.in-Fault.ensures.kept))
