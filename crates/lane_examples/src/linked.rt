@@ -8,15 +8,15 @@ pub struct LinkedObjects;
 impl Lanes for LinkedObjects {
     ghost use Rattle.lane_examples.specs.Links.{contents, links};
 
-    ghost service = { links };
+    ghost service = { λ lanes. links };
 
-    ghost contents = { contents };
+    ghost contents = { λ lanes. contents };
 }
 
 impl ReadyLanes for LinkedObjects {
     ghost use Rattle.lane_examples.specs.Links.{links, readiness};
 
-    ghost service = { links };
+    ghost service = { λ lanes. links };
 
-    ghost readiness = { readiness };
+    ghost readiness = { λ lanes. readiness };
 }

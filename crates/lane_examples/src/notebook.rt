@@ -1,6 +1,6 @@
 //! Notes in two lanes, and one right to write them.
 
-ghost use Rattle.std.specs.Prelude.{◌≡◌, ℕ, List};
+ghost use Rattle.std.specs.Prelude.{◌≡◌, ℕ};
 ghost use Rattle.lane_examples.specs.Marks.{MarkedNotes, marking};
 ghost use Rattle.lane_examples.specs.Notes.{Held};
 ghost use Rattle.lane_histories.specs.Since.{CutsMarked, IsSince};
@@ -13,9 +13,9 @@ pub struct Notebook;
 impl Lanes for Notebook {
     ghost use Rattle.lane_examples.specs.Notes.{contents, notes};
 
-    ghost service = { notes };
+    ghost service = { λ lanes. notes };
 
-    ghost contents = { contents };
+    ghost contents = { λ lanes. contents };
 }
 
 /// The same, whose lanes know whether they changed since their last cut.
@@ -25,18 +25,18 @@ impl MarkedLanes for MarkedNotebook {
     ghost use Rattle.lane_examples.specs.Marks.{marking};
     ghost use Rattle.lane_examples.specs.Notes.{contents, notes};
 
-    ghost service = { notes };
+    ghost service = { λ lanes. notes };
 
-    ghost contents = { contents };
+    ghost contents = { λ lanes. contents };
 
-    ghost marking = { marking };
+    ghost marking = { λ lanes. marking };
 }
 
-/// A lane that was since what the journal was told last is told by its next cut as it stands.
+/// A lane each of whose changes since its last cut is marked is told by its next cut as it stands.
 pub fn marked_lane_is_cut()
-    ensures { (l : ℕ) (o : List ℕ) (old new : MarkedNotes) (before after : Held)
-        → IsSince marking l o old → before.written l ≡ o → CutsMarked marking l old new before after
-        → after.written l ≡ old.written }
+    ensures { (l : ℕ) (last old new : MarkedNotes) (before after : Held)
+        → IsSince marking l last old → marking.Says before l last
+        → CutsMarked marking l old new before after → after.written l ≡ old.written }
 {
     cuts_tell_the_lane::<MarkedNotebook>();
 }

@@ -3,7 +3,7 @@ use Rattle.std.proofs.Common.{◌≡◌, ◌≢◌, inl, inr, ℕ, Bool, true, f
 use Rattle.std.specs.List.{AllByRecursion}
 use Rattle.lane_histories.specs.Services.{Service, World}
 use Rattle.lane_histories.specs.Histories.{cut_of, Outcome, LaneItem, Passed, WasCut, ticket_of, IsIn, tickets, issued, objects_left, objects_step, objects_after, LaneList, TicketList}
-use Rattle.lane_histories.specs.Legal.{IsNext, IsLegalLaneItem}
+use Rattle.lane_histories.specs.Legal.{IsReachedBy, IsNext, IsLegalLaneItem}
 use Rattle.lane_histories.specs.Kept.{IsBelow}
 use Rattle.lane_histories.specs.JournalContents.{JournalContents, KeepsCatalogue, KeepsLane}
 use Rattle.lane_histories.specs.Core.{Core, CutsLaneShort, CutsLaneWell, TakesTurn, history, with_built, with_lane}
@@ -11,12 +11,12 @@ use Rattle.lane_histories.proofs.Growth.{below_cut}
 use Rattle.lane_histories.proofs.Lists.{all_both, all_in, in_back, take_all}
 use Rattle.lane_histories.proofs.RegisterLists.{cut_was_drawn}
 use Rattle.lane_histories.proofs.LaneLists.{at_both, objects_push}
-use Rattle.lane_histories.proofs.Pushes.{ReachedBy, earlier, lane_longer, lane_pushed, seconds_pushed}
+use Rattle.lane_histories.proofs.Pushes.{earlier, lane_longer, lane_pushed, seconds_pushed}
 use Rattle.lane_histories.proofs.Sound.{BuiltLane, IsSound, desk_longer, desk_rebuilt, lane_still_built}
 
 module _ (s : Service) (j : JournalContents s) (start : World s) (core : Core s j) (sound : IsSound s j start core) (l : ℕ) where
   module _ (item : LaneItem s.Task s.Reply) (next : IsNext s (history core) l (ticket_of item))
-      (reached : ReachedBy s (history core) item) (objects : s.Objects) (torn : Bool)
+      (reached : IsReachedBy s (history core) item) (objects : s.Objects) (torn : Bool)
       (may : IsLegalLaneItem s (core.objects l) item) (step : objects ≡ objects_step s (core.objects l) item) where
     item_sound : (built : j.Content) → BuiltLane s j start core.list built l (core.items l ++ item ∷ []) torn
         → ((m : ℕ) → m ≢ l → KeepsLane j m core.desk.built built) → KeepsCatalogue j core.desk.built built

@@ -26,3 +26,4 @@ pub mod AnswerLemmas
 pub mod SinceLemmas
 pub mod ReadyLemmas
 pub mod BackLemmas
+pub mod OwnEntries

@@ -1,4 +1,4 @@
--- IsLegal histories cut short.
+-- Legal histories cut short.
 use Rattle.std.proofs.Common.{◌≡◌, ℕ, suc, ◌≤◌, [], ◌∷◌, ◌++◌, length, refl, ap, sym, ◌∙◌, subst, arith, append_assoc}
 use Rattle.lane_histories.specs.Services.{Service}
 use Rattle.lane_histories.specs.Histories.{tickets, ticket_of, tickets_of, issued, register_step, objects_step, RegisterList, LaneList}

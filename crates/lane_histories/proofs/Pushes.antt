@@ -3,16 +3,11 @@ use Rattle.std.proofs.Common.{◌≡◌, ◌≢◌, ◌⊎◌, inl, inr, ⊎_eli
 use Rattle.lane_histories.specs.Services.{Service, World}
 use Rattle.lane_histories.specs.Histories.{RegisterItem, Keeping, First, Second, part_of, Outcome, LaneItem, Passed, WasCut, ticket_of, History, IsIn, StartsWith, changed_at, tickets, tickets_of, issued, places, drawn, register_after, objects_after, LaneList}
 use Rattle.lane_histories.specs.TicketOrder.{Precedes}
-use Rattle.lane_histories.specs.Legal.{IsLegalRegisterItem, IsNext, IsPrefix, IsReached, IsLegalLaneItem, IsLegalLane, IsLegal, PairsAgree, SecondsFollow, is_skipped, is_well, with_register_item, with_keeping, with_lane_item}
+use Rattle.lane_histories.specs.Legal.{IsLegalRegisterItem, IsNext, IsPrefix, IsReached, IsReachedBy, IsLegalLaneItem, IsLegalLane, IsLegal, PairsAgree, SecondsFollow, is_skipped, is_well, with_register_item, with_keeping, with_lane_item}
 use Rattle.lane_histories.proofs.Lists.{in_front, in_last, starts_itself}
 use Rattle.lane_histories.proofs.Orders.{InOrder, behind, issued_ordered, lane_ordered, order_front, same_first}
 use Rattle.lane_histories.proofs.RegisterLists.{register_push, issued_push}
 use Rattle.lane_histories.proofs.LaneLists.{at_case, at_each, lane_push, tickets_push}
-
--- what an item says of the turns before it
-abbrev pub ReachedBy : (s : Service) → History s → LaneItem s.Task s.Reply → Type 0
-ReachedBy s h (Passed place part task y) = IsReached s h place part y
-ReachedBy s h (WasCut number c found) = Unit {0}
 
 module _ (s : Service) (start : World s) (h : History s) (legal : IsLegal s start h) where
   -- ---- the register's list
@@ -71,12 +66,12 @@ module _ (s : Service) (start : World s) (h : History s) (legal : IsLegal s star
     stays_in : (m : ℕ) (x : LaneItem s.Task s.Reply) → IsIn (h.lane m) x → IsIn ((with_lane_item h l item).lane m) x
     stays_in m x here = let more = lanes_longer m in subst (λ (xs : LaneList s). IsIn xs x) (sym more.1) (in_front _ more.0 x here)
 
-    module _ (seconds : SecondsFollow s h.lane) (reached : ReachedBy s h item) where
+    module _ (seconds : SecondsFollow s h.lane) (reached : IsReachedBy s h item) where
       -- the new item is a second turn
       second_new : (a place : ℕ) (task other : s.Task) (x y : Outcome s.Reply) → item ≡ Passed place (Second a) other y
           → IsIn (h.lane a) (Passed place First task x) → is_skipped y ≡ not (is_well s x)
       second_new a place task other x y is here =
-          let there : IsReached s h place (Second a) y = subst (ReachedBy s h) is reached in
+          let there : IsReached s h place (Second a) y = subst (IsReachedBy s h) is reached in
           let same = same_first s (h.lane a) place task there.0 x there.1 (lane_ordered s start h a legal) here there.2 in
           let alike : x ≡ there.1 = cc in
           there.3 ∙ ap (λ (z : Outcome s.Reply). not (is_well s z)) (sym alike)
@@ -112,7 +107,7 @@ module _ (s : Service) (start : World s) (h : History s) (legal : IsLegal s star
       seconds_pushed a b place other y here = ⊎_elim
           (λ old. let one = seconds a b place other y old in (one.0, one.1, stays_in a _ one.2))
           (λ (new : (b ≡ l) × (item ≡ Passed place (Second a) other y)).
-          let one : IsReached s h place (Second a) y = subst (ReachedBy s h) new.1 reached in
+          let one : IsReached s h place (Second a) y = subst (IsReachedBy s h) new.1 reached in
           (one.0, one.1, stays_in a _ one.2))
           (item_in b _ here)
 

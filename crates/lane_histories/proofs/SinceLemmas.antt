@@ -2,17 +2,20 @@
 use Rattle.std.proofs.Common.{subst}
 use Rattle.lane_histories.specs.Services.{Service}
 use Rattle.lane_histories.specs.JournalContents.{JournalContents}
-use Rattle.lane_histories.specs.Since.{CutsTell, IsSince, Marking, StillIsSince, TurnsStaySince}
+use Rattle.lane_histories.specs.Since.{CutsTell, LanesAreSinceThemselves, Marking, TurnsStaySince}
 
 module _ {s : Service} {j : JournalContents s} (m : Marking s j) where
-  pub turns_stay_since : TurnsStaySince m
-  turns_stay_since l o old new since marks x told = marks x (since x told)
+  pub since_themselves : LanesAreSinceThemselves m
+  since_themselves l marked x says = says
 
-  pub still_is_since : StillIsSince m
-  still_is_since says l marked still x told = says.told x l marked still told
+  pub turns_stay_since : TurnsStaySince m
+  turns_stay_since l last old new since marks x says = marks x (since x says)
 
   pub cuts_tell : CutsTell m
-  cuts_tell says l o old new before after since told cut = (
-    subst (j.TellsLane after l) cut.objects (says.tells after l new cut.still (cut.says (since before told))),
-    subst (λ (x : s.Objects). IsSince m l x new) cut.objects (still_is_since says l new cut.still),
-  )
+  cuts_tell all l last old new before after since said cut =
+      let says = cut.says (since before said) in
+      record {
+        told = subst (j.TellsLane after l) cut.objects (all after l new cut.still says);
+        says = says;
+        since = since_themselves l new;
+      }

@@ -1,10 +1,10 @@
 -- What holds of every history.
-use Rattle.std.specs.Prelude.{◌≡◌, ◌⊎◌, ℕ, ◌<◌, ◌≤◌, List, [], ◌∷◌, ◌++◌, Some, None, slice_get}
+use Rattle.std.specs.Prelude.{◌≡◌, ◌⊎◌, ℕ, ◌<◌, ◌≤◌, List, [], ◌∷◌, ◌++◌, Some, None, slice_get, if◌then◌else◌, ◌==◌}
 use Rattle.std.specs.List.{AllByRecursion}
 use Rattle.lane_histories.specs.Services.{Service, World}
-use Rattle.lane_histories.specs.Histories.{Entry, Entered, History, IsIn, Keeping, Part, Outcome, Done, Short, Skipped, LaneItem, Passed, WasCut, LaneList, Reach, Ticket, register_after, register_at, issued, objects_after, places, ticket_of, tickets}
+use Rattle.lane_histories.specs.Histories.{Entry, Entered, History, IsIn, Keeping, StartsWith, own, Part, Outcome, Done, Short, Skipped, LaneItem, Passed, WasCut, LaneList, Reach, Ticket, register_after, register_at, issued, objects_after, places, ticket_of, tickets}
 use Rattle.lane_histories.specs.TicketOrder.{Precedes}
-use Rattle.lane_histories.specs.Legal.{HasTickets, IsPrefix, IsLegal}
+use Rattle.lane_histories.specs.Legal.{HasTickets, IsPrefix, IsLegal, with_register_item}
 use Rattle.lane_histories.specs.Replays.{IsReplay, replayed, staged}
 use Rattle.lane_histories.specs.Replies.{What, answers, entry_at, outcome_of, reply}
 use Rattle.lane_histories.specs.PlainReplays.{plain_answers, plainly}
@@ -119,6 +119,29 @@ abbrev pub OutcomesAreFound : Service → Type 0
 OutcomesAreFound s =
     (start : World s) (h : History s) (l place : ℕ) (part : Part) (task : s.Task) (y : Outcome s.Reply) → IsLegal s start h
     → IsIn (h.lane l) (Passed place part task y) → outcome_of place part (h.lane l) ≡ Some y
+
+-- ---- the entries of one pass
+
+-- they stay as the history grows
+abbrev pub OwnEntriesStay : Service → Type 0
+OwnEntriesStay s = (h g : History s) (by : ℕ) → IsPrefix h g → StartsWith (own by g.register) (own by h.register)
+
+-- what a pass asks is one more of its own entries, and none of another's
+abbrev pub OwnEntriesGrow : Service → Type 0
+OwnEntriesGrow s = (h : History s) (e : Entry s.Asked s.Verdict) (by : ℕ)
+    → own by (with_register_item h (Entered e)).register ≡ own by h.register ++ (if e.by == by then e ∷ [] else [])
+
+-- they stand in the order of their places, each once
+abbrev pub OwnEntriesAreInOrder : Service → Type 0
+OwnEntriesAreInOrder s =
+    (start : World s) (h : History s) → IsLegal s start h → (by : ℕ) (front back : List (Entry s.Asked s.Verdict)) (e f : Entry s.Asked s.Verdict)
+    → own by h.register ≡ front ++ e ∷ back → IsIn back f → e.place < f.place
+
+-- those that come later have no place that was given before
+abbrev pub OwnEntriesAreLater : Service → Type 0
+OwnEntriesAreLater s =
+    (start : World s) (h g : History s) → IsLegal s start g → IsPrefix h g → (by : ℕ) (more : List (Entry s.Asked s.Verdict)) (e : Entry s.Asked s.Verdict)
+    → own by g.register ≡ own by h.register ++ more → IsIn more e → places h.register ≤ e.place
 
 -- ---- what is kept
 

@@ -86,6 +86,11 @@ IsReached s h place First y = Unit {0}
 IsReached s h place (Second a) y =
     (task : s.Task) × (x : Outcome s.Reply) × IsIn (h.lane a) (Passed place First task x) × (is_skipped y ≡ not (is_well s x))
 
+-- what an item says of the turns before it
+abbrev pub IsReachedBy : (s : Service) → History s → LaneItem s.Task s.Reply → Type 0
+IsReachedBy s h (Passed place part task y) = IsReached s h place part y
+IsReachedBy s h (WasCut number c found) = Unit {0}
+
 -- so have all second turns come; of the lists as a pass has seen them it need not be true
 abbrev pub SecondsFollow : (s : Service) → (ℕ → LaneList s) → Type 0
 SecondsFollow s lane = (a b place : ℕ) (next : s.Task) (y : Outcome s.Reply) → IsIn (lane b) (Passed place (Second a) next y)

@@ -13,4 +13,5 @@ pub mod Desks
 pub mod Core
 pub mod Ready
 pub mod Since
+pub mod Counting
 pub mod Laws

@@ -2,9 +2,12 @@
 --     Readiness          what the register gave out, and what a task needs
 --     GivesOut s r       what was given out stays so, and a request's turns need no more than it
 --     TurnsAreReady s r  in a legal history the next turn of a lane finds its objects as it needs them
-use Rattle.std.specs.Prelude.{ℕ, Bool}
+--     KeptIsGiven s r    and what is kept of it was given out
+use Rattle.std.specs.Prelude.{ℕ, Bool, take}
+use Rattle.std.specs.List.{AllByRecursion}
 use Rattle.lane_histories.specs.Services.{Service, Turns, World, no_turn, one_turn, two_turns, each_lane}
-use Rattle.lane_histories.specs.Histories.{History, Part, part_of, objects_after}
+use Rattle.lane_histories.specs.Histories.{History, Part, part_of, objects_after, register_at}
+use Rattle.lane_histories.specs.Kept.{IsBelow}
 use Rattle.lane_histories.specs.Legal.{IsLegal, IsNext}
 
 -- whatever holds before, the task finds what it needs; and something holds of what it leaves
@@ -39,3 +42,10 @@ TurnsAreReady s r =
     GivesOut s r → (start : World s) (h : History s) → IsLegal s start h → ((l : ℕ) → r.Given start.register (start.objects l))
     → (l place : ℕ) (part : Part) (task : s.Task) → IsNext s h l (part_of place part task)
     → r.Needs task (objects_after s (start.objects l) (h.lane l))
+
+-- the objects after some first items of a lane, none of which is of a place of p or above, were given out by the first p requests
+abbrev pub KeptIsGiven : (s : Service) → Readiness s → Type 0
+KeptIsGiven s r =
+    GivesOut s r → (start : World s) (h : History s) → IsLegal s start h → ((l : ℕ) → r.Given start.register (start.objects l))
+    → (l k p : ℕ) → AllByRecursion (IsBelow p) (take k (h.lane l))
+    → r.Given (register_at s p start.register h.register) (objects_after s (start.objects l) (take k (h.lane l)))

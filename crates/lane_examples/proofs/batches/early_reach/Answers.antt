@@ -9,5 +9,5 @@ use Rattle.lane_examples.proofs.batches.early_reach.Goals as goal
 
 pub returns : goal.returns
 returns c = λ x image.
-    let kept = c.events_keep.ensures.images start opened after_early cut_early opened_is early_runs x image in
+    let kept = c.events_keep.ensures.images 2 start opened after_early cut_early opened_is early_runs x image in
     subst (λ (reach : Reach). TellsKept notes contents start (history after_early) x reach) (kept.farther refl) kept.tells

@@ -14,14 +14,14 @@ pub returns-clause-images : goal.returns-clause-images
 returns-clause-images c = refused_images
 
 pub returns-clause-kept : goal.returns-clause-kept
-returns-clause-kept c = c.events_keep.ensures.images start opened (after_late false) (cut_late false) opened_is (late_runs false)
+returns-clause-kept c = c.events_keep.ensures.images 2 start opened (after_late false) (cut_late false) opened_is (late_runs false)
 
 pub returns-clause-settles : goal.returns-clause-settles
 returns-clause-settles c = settled_runs
 
 pub returns-clause-held : goal.returns-clause-held
 returns-clause-held c = λ x image.
-    let kept = c.events_keep.ensures.images start opened after_settled (cut_late false ++ settling) opened_is settled_from_opened x image in
+    let kept = c.events_keep.ensures.images 2 start opened after_settled (cut_late false ++ settling) opened_is settled_from_opened x image in
     subst (λ (reach : Reach). TellsKept notes contents start (history after_settled) x reach) (kept.farther refl) kept.tells
 
 pub returns-clause-crashed : goal.returns-clause-crashed

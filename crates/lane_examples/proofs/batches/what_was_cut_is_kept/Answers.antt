@@ -9,10 +9,10 @@ returns-clause-told c = early_told
 
 pub returns-clause-stays : goal.returns-clause-stays
 returns-clause-stays c =
-    let legal = c.events_keep.ensures.legal start opened after_early cut_early opened_is early_runs in
-    c.cut_pairs_are_kept.ensures.stay start (history after_early) (history written_later) after_early.desk.built legal later_goes_on early_told
+    let legal = c.events_keep.ensures.legal 2 start opened after_early cut_early opened_is early_runs in
+    c.cut_pairs_are_kept.ensures.stay 2 start (history after_early) (history written_later) after_early.desk.built legal later_goes_on early_told
 
 pub returns-clause-kept : goal.returns-clause-kept
 returns-clause-kept c =
-    let legal = c.events_keep.ensures.legal start opened after_early cut_early opened_is early_runs in
-    c.cut_pairs_are_kept.ensures.kept start (history after_early) after_early.desk.built to_its_cut legal early_told (inr (0, early_whole)) refl
+    let legal = c.events_keep.ensures.legal 2 start opened after_early cut_early opened_is early_runs in
+    c.cut_pairs_are_kept.ensures.kept 2 start (history after_early) after_early.desk.built to_its_cut legal early_told (inr (0, early_whole)) refl

@@ -7,18 +7,18 @@ use Rattle.lane_examples.proofs.cuts.notes_are_answered.Goals as goal
 
 pub returns-clause-earlier : goal.returns-clause-earlier
 returns-clause-earlier c =
-    let legal = c.events_keep.ensures.legal start opened (after_late true) (cut_late true) opened_is (late_runs true) in
-    c.prefixes_are_legal.ensures start (history drawn_late) (history (after_late true)) legal drawn_first drawn_has
+    let legal = c.events_keep.ensures.legal 2 start opened (after_late true) (cut_late true) opened_is (late_runs true) in
+    c.prefixes_are_legal.ensures 2 start (history drawn_late) (history (after_late true)) legal drawn_first drawn_has
 
 pub returns-clause-product : goal.returns-clause-product
 returns-clause-product c =
-    let legal = c.events_keep.ensures.legal start opened (after_late true) (cut_late true) opened_is (late_runs true) in
-    c.replays_are_products.ensures.product start (history (after_late true)) legal
+    let legal = c.events_keep.ensures.legal 2 start opened (after_late true) (cut_late true) opened_is (late_runs true) in
+    c.replays_are_products.ensures.product 2 start (history (after_late true)) legal
 
 pub returns-clause-whole : goal.returns-clause-whole
 returns-clause-whole c = late_whole
 
 pub returns-clause-answers : goal.returns-clause-answers
 returns-clause-answers c = λ place few.
-    let legal = c.events_keep.ensures.legal start opened (after_late true) (cut_late true) opened_is (late_runs true) in
-    c.whole_histories_are_plain.ensures.answers start (history (after_late true)) legal late_whole place few
+    let legal = c.events_keep.ensures.legal 2 start opened (after_late true) (cut_late true) opened_is (late_runs true) in
+    c.whole_histories_are_plain.ensures.answers 2 start (history (after_late true)) legal late_whole place few

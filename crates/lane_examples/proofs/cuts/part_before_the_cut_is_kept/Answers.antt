@@ -7,4 +7,4 @@ pub returns-clause-run : goal.returns-clause-run
 returns-clause-run c = late_runs true
 
 pub returns-clause-kept : goal.returns-clause-kept
-returns-clause-kept c = c.events_keep.ensures.images start opened (after_late true) (cut_late true) opened_is (late_runs true)
+returns-clause-kept c = c.events_keep.ensures.images 2 start opened (after_late true) (cut_late true) opened_is (late_runs true)

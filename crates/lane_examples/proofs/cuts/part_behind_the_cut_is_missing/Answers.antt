@@ -6,4 +6,4 @@ pub returns-clause-run : goal.returns-clause-run
 returns-clause-run c = early_runs
 
 pub returns-clause-kept : goal.returns-clause-kept
-returns-clause-kept c = c.events_keep.ensures.images start opened after_early cut_early opened_is early_runs
+returns-clause-kept c = c.events_keep.ensures.images 2 start opened after_early cut_early opened_is early_runs

@@ -3,7 +3,8 @@ use Rattle.lane_examples.specs.Marks.{marking}
 use Rattle.lane_examples.proofs.notebook.marked_lane_is_cut.Goals as goal
 
 says_all : SaysAll marking
-says_all = record { tells = λ x l lane still says. says still; told = λ x l lane still told changed. told }
+says_all x l lane still says = says still
 
 pub returns : goal.returns
-returns c = λ l o old new before after since told cut. (c.cuts_tell_the_lane.ensures.cut says_all l o old new before after since told cut).0
+returns c = λ l last old new before after since said cut.
+    (c.cuts_tell_the_lane.ensures.cut 2 says_all l last old new before after since said cut).told

@@ -3,7 +3,10 @@ use Rattle.lane_histories.proofs.OwnLemmas.{keepings_tell}
 use Rattle.lane_histories.proofs.laws.events_keep.Goals as goal
 
 pub returns : goal.returns
-returns g c =
-    let s = g.S.Lanes.service in
-    let j = g.S.Lanes.contents in
-    record { legal = cores_are_legal s j; lists = cores_stand_for_lists s j; images = images_are_kept s j; numbers = keepings_tell s j; last = keepings_last s j }
+returns g c = record {
+  legal = λ lanes. cores_are_legal (g.S.Lanes.service lanes) (g.S.Lanes.contents lanes);
+  lists = λ lanes. cores_stand_for_lists (g.S.Lanes.service lanes) (g.S.Lanes.contents lanes);
+  images = λ lanes. images_are_kept (g.S.Lanes.service lanes) (g.S.Lanes.contents lanes);
+  numbers = λ lanes. keepings_tell (g.S.Lanes.service lanes) (g.S.Lanes.contents lanes);
+  last = λ lanes. keepings_last (g.S.Lanes.service lanes) (g.S.Lanes.contents lanes);
+}

@@ -3,4 +3,7 @@ use Rattle.lane_histories.proofs.BackLemmas.{replays_are_legal}
 use Rattle.lane_histories.proofs.laws.replays_are_products.Goals as goal
 
 pub returns : goal.returns
-returns g c = record { product = replays_are_products g.S.Lanes.service; legal = replays_are_legal g.S.Lanes.service }
+returns g c = record {
+  product = λ lanes. replays_are_products (g.S.Lanes.service lanes);
+  legal = λ lanes. replays_are_legal (g.S.Lanes.service lanes);
+}

@@ -1,0 +1,152 @@
+-- Cuts of an owner and of the register.
+use Rattle.std.proofs.Common.{◌≡◌, ◌≢◌, ℕ, List, [], ◌∷◌, refl, sym, ap, subst, ◌∙◌}
+use Rattle.std.specs.FinMap.{get}
+use Rattle.std.specs.List.{AllByRecursion}
+use Rattle.flush_journal.specs.Records.{Held, Record, put_all}
+use Rattle.object_ids.specs.IdValues.{Id}
+use Rattle.object_ids.specs.Ids.{InRange, lane_of}
+use Rattle.object_records.specs.Keys.Keys.{next_key, node_key, run_key}
+use Rattle.chunk_owner.specs.Lanes.{IsSameLane, Lane}
+use Rattle.chunk_owner.specs.Slots.Slots.{IsMarked, Says}
+use Rattle.register.specs.Decided.{RegisterState}
+use Rattle.register.specs.Marks.{Marked}
+use Rattle.register.specs.Kept.{is_marked_in, IsHeldNode, IsRegisterMarked, RegisterSays, all_kept}
+use Rattle.lane_histories.specs.JournalContents.{KeepsCatalogue, KeepsLane}
+use Rattle.lane_histories.specs.Since.{IsSince, SaysAll}
+use Rattle.service_histories.specs.ArrayServices.{KeptPart, kept_part}
+use Rattle.service_histories.specs.Cuttings.{CutsOwner, CutsRegister, IsOwnerCut, IsRegisterCut, IsRegisterSince, OwnerCutsTell, OwnersMark, KeptRegistersAreParts, RegisterCutsTell, SaidCutsAreTold}
+use Rattle.service_histories.specs.JournalParts.{TellsLane, TellsRegister, array_contents, kept_register}
+use Rattle.service_histories.specs.Markings.{SaysOwner, array_marking}
+use Rattle.service_histories.proofs.Keys.{IsKeyIn, IsLowKey, KeysDiffer, OthersStay, far_describes, high_strays, low_describes, low_stays, low_strays, of_next, of_node, of_run, register_key, slots_key}
+
+-- ---- an owner of which nothing is marked
+
+-- a property of each record's key of another
+pub all_keys : (P Q : List ℕ → Type 0) → ((key : List ℕ) → P key → Q key) → (rs : List Record) → AllByRecursion (λ r. P r.0) rs → AllByRecursion (λ r. Q r.0) rs
+all_keys P Q f [] h = tt
+all_keys P Q f (r ∷ rs) h = (f r.0 h.0, all_keys P Q f rs h.1)
+
+module _ (lanes : ℕ) where
+  pub says_all : SaysAll (array_marking lanes)
+  says_all held l x still said = record {
+    described = λ id range home. still.owner.described still.still id held
+        (said.says id range (ap (λ n. lane_of n id) said.lanes_are ∙ home ∙ sym said.lane_is));
+    home = λ id o at. ap (λ n. lane_of n id) (sym said.lanes_are) ∙ (still.owner.whole.own id o at).own ∙ said.lane_is;
+    parts = still.owner.parts;
+  }
+
+  same_owner : (l : ℕ) (old new : Lane) (base held : Held) → IsSameLane old new → SaysOwner lanes l base old
+      → ((id : Id) → InRange id → Says (get old.slots id) id base → Says (get new.slots id) id held) → SaysOwner lanes l held new
+  same_owner l old new base held same said later = record {
+    lane_is = same.lane ∙ said.lane_is;
+    lanes_are = same.lanes ∙ said.lanes_are;
+    says = λ id range home. later id range (said.says id range (ap (λ n. lane_of n id) (sym same.lanes) ∙ home ∙ same.lane));
+  }
+
+  pub owners_mark : OwnersMark lanes
+  owners_mark l old new same still held said = same_owner l old new held held same said (λ id range. still id held)
+
+  pub said_cuts_are_told : SaidCutsAreTold lanes
+  said_cuts_are_told start h held was c = record {
+    lanes = λ l few. subst (TellsLane lanes l held) (c.objects l few) (says_all held l (was l) (c.still l few) (c.says l few));
+    catalogue = c.register;
+  }
+
+  -- ---- a cut of an owner
+
+  module _ (others : OthersStay) (differ : KeysDiffer) where
+    module _ (l : ℕ) (was old new : Lane) (base : Held) (first last : List Record) (c : CutsOwner old new base first last)
+        (said_was : SaysOwner lanes l base was) (since : IsSince (array_marking lanes) l was old) where
+      abbrev after : Held
+      after = put_all c.cut.added base
+
+      said : SaysOwner lanes l base old
+      said = since base said_was
+
+      said_new : SaysOwner lanes l after new
+      said_new = same_owner l old new base after c.same said c.cut.stands
+
+      high : AllByRecursion (λ r. IsKeyIn lanes l r.0) c.cut.added
+      high = all_keys (IsMarked old.slots) (IsKeyIn lanes l)
+          (λ key. slots_key lanes l old.slots key (λ id m is.
+          ap (λ n. lane_of n id) (sym said.lanes_are) ∙ ap (lane_of old.lanes) (sym is) ∙ c.owner.whole.slots.home m.id m.slot m.here ∙ said.lane_is))
+          c.cut.added c.cut.changed
+
+      other_lane : (m : ℕ) → m ≢ l → KeepsLane (array_contents lanes) m base after
+      other_lane m far o told = record {
+        described = λ id range home.
+            far_describes others differ lanes l c.cut.added base high id range (λ same. far (sym home ∙ same)) (get o id) (told.described id range home);
+        home = told.home;
+        parts = told.parts;
+      }
+
+      low : (key : List ℕ) → IsLowKey key → get after key ≡ get base key
+      low = low_stays others differ lanes l c.cut.added base high
+
+      register : KeepsCatalogue (array_contents lanes) base after
+      register k told = record {
+        says = record {
+          run = λ off. low run_key (of_run refl) ∙ told.says.run off;
+          next = λ off. low next_key (of_next refl) ∙ told.says.next off;
+          nodes = λ path off. subst (IsHeldNode (get k.contents.nodes path)) (sym (low (node_key path) (of_node path refl))) (told.says.nodes path off);
+        };
+        strays = high_strays others differ lanes l c.cut.added base high told.strays;
+        sound = told.sound;
+      }
+
+      told_new : TellsLane lanes l after old.objects
+      told_new = subst (TellsLane lanes l after) c.objects (says_all after l new c.still said_new)
+
+      pub owner_cut : IsOwnerCut lanes l old new base after
+      owner_cut = record { cuts = record { own = told_new; others = other_lane; catalogue = register }; says = said_new }
+
+    pub owner_cuts_tell : OwnerCutsTell lanes
+    owner_cuts_tell l was old new base first last c said since = owner_cut l was old new base first last c said since
+
+  -- ---- a cut of the register
+
+  -- the same, once all is kept
+  kept_says : (d : RegisterState) (held : Held) → RegisterSays (all_kept d) held → RegisterSays (kept_register (kept_part d)) held
+  kept_says d held said = record { run = said.run; next = said.next; nodes = said.nodes }
+
+  says_kept : (d : RegisterState) (held : Held) → RegisterSays (kept_register (kept_part d)) held → RegisterSays (all_kept d) held
+  says_kept d held said = record { run = said.run; next = said.next; nodes = said.nodes }
+
+  module _ (others : OthersStay) (k : KeptPart) (old new : RegisterState) (base : Held) (first last : List Record) (c : CutsRegister old new base first last)
+      (told : TellsRegister base k) (since : IsRegisterSince k old) where
+    abbrev held_then : Held
+    held_then = put_all c.cut.added base
+
+    keys : AllByRecursion (λ r. IsLowKey r.0) c.cut.added
+    keys = all_keys (IsRegisterMarked old) IsLowKey (register_key old) c.cut.added c.cut.changed
+
+    told_then : TellsRegister held_then (kept_part old)
+    told_then = record {
+      says = kept_says old held_then (subst (λ (d : RegisterState). RegisterSays d held_then) c.still (c.cut.stands (since base told.says)));
+      strays = low_strays others c.cut.added base keys told.strays;
+      sound = c.sound;
+    }
+
+    each_lane_stays : (m : ℕ) → KeepsLane (array_contents lanes) m base held_then
+    each_lane_stays m o said = record {
+      described = λ id range home. low_describes others c.cut.added base keys id range (get o id) (said.described id range home);
+      home = said.home;
+      parts = said.parts;
+    }
+
+    pub register_cut : IsRegisterCut lanes old new base held_then
+    register_cut = record {
+      cuts = record { own = told_then; lanes = each_lane_stays };
+      since = λ held said. subst (λ (d : RegisterState). RegisterSays d held) (sym c.still) (says_kept old held said);
+    }
+
+  pub register_cuts_tell : OthersStay → RegisterCutsTell lanes
+  register_cuts_tell others k old new base first last c told since = register_cut others k old new base first last c told since
+
+pub kept_registers_are_parts : KeptRegistersAreParts
+kept_registers_are_parts d none described held said =
+    described held (record {
+      run = λ off. said.run refl;
+      next = λ off. said.next refl;
+      nodes = λ path off. said.nodes path (ap (λ (m : Marked). is_marked_in d.catalogue m path) (sym none) ∙ off);
+    })

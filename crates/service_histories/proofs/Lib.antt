@@ -1,0 +1,13 @@
+pub mod IdMaps
+pub mod Adding
+pub mod Shapes
+pub mod Decisions
+pub mod Readying
+pub mod StepLemmas
+pub mod EntryLemmas
+pub mod Keys
+pub mod CutLemmas
+pub mod TellLemmas
+pub mod CallLemmas
+pub mod OpeningLemmas
+pub mod ImageLemmas

@@ -1,0 +1,93 @@
+-- What cuts of an owner and of the register do to what is held.
+--     OwnersMark           a change that leaves what is said of each id is marked
+--     OwnerCutsTell        a cut of an owner makes what was cut tell its lane as it stands, and leaves all else
+--     RegisterCutsTell     so does one of the register
+--     SaidCutsAreTold      what says each owner as it was at its last cut tells all cuts
+use Rattle.std.specs.Prelude.{◌≡◌, ℕ, ◌<◌, List}
+use Rattle.std.specs.FinMap.{get}
+use Rattle.flush_journal.specs.Cuts.Cuts.{IsCut}
+use Rattle.flush_journal.specs.Records.{Held, Record, put_all}
+use Rattle.object_ids.specs.IdValues.{Id}
+use Rattle.object_ids.specs.Ids.{InRange}
+use Rattle.chunk_owner.specs.Lanes.{IsSameLane, Lane}
+use Rattle.chunk_owner.specs.Slots.Slots.{IsMarked, Says, StillSays}
+use Rattle.register.specs.Decided.{RegisterState}
+use Rattle.register.specs.Installed.Registers.{DescribesRegister}
+use Rattle.register.specs.Kept.{IsRegisterMarked, RegisterSays, all_kept}
+use Rattle.register.specs.Marks.{no_marks}
+use Rattle.lane_histories.specs.Cuts.{objects_at_cut, register_cut}
+use Rattle.lane_histories.specs.Histories.{History, register_at}
+use Rattle.lane_histories.specs.Services.{World}
+use Rattle.lane_histories.specs.JournalContents.{CutsCatalogue, CutsLane, TellsCuts}
+use Rattle.lane_histories.specs.Since.{IsSince, Marks}
+use Rattle.service_histories.specs.ArrayServices.{KeptPart, array_service, kept_part}
+use Rattle.service_histories.specs.JournalParts.{IsKeptPart, TellsRegister, array_contents, kept_register}
+use Rattle.service_histories.specs.Markings.{IsOwner, IsStillOwner, SaysOwner, array_marking}
+
+-- ---- owners
+
+abbrev pub OwnersMark : ℕ → Type 0
+OwnersMark lanes =
+    (l : ℕ) (old new : Lane) → IsSameLane old new → StillSays old.slots new.slots → Marks (array_marking lanes) l old new
+
+-- a cut of an owner that found memory
+pub record CutsOwner (old new : Lane) (base : Held) (first last : List Record) : Type 0 where
+  pub cut : IsCut (IsMarked old.slots) base first last
+      (λ held. (id : Id) → InRange id → Says (get old.slots id) id base → Says (get new.slots id) id held)
+  pub owner : IsOwner old
+  pub still : IsStillOwner new
+  pub objects : new.objects ≡ old.objects
+  pub same : IsSameLane old new
+
+-- with its records, what was cut tells the lane, and the owner is since this cut
+pub record IsOwnerCut (lanes l : ℕ) (old new : Lane) (base held : Held) : Type 0 where
+  pub cuts : CutsLane (array_contents lanes) l old.objects base held
+  pub says : SaysOwner lanes l held new
+
+abbrev pub OwnerCutsTell : ℕ → Type 0
+OwnerCutsTell lanes =
+    (l : ℕ) (was old new : Lane) (base : Held) (first last : List Record)
+    → (cuts : CutsOwner old new base first last) → SaysOwner lanes l base was → IsSince (array_marking lanes) l was old
+    → IsOwnerCut lanes l old new base (put_all cuts.cut.added base)
+
+-- ---- the register
+
+-- at its last cut the register kept this; each change since is marked
+abbrev pub IsRegisterSince : KeptPart → RegisterState → Type 0
+IsRegisterSince c d = (held : Held) → RegisterSays (kept_register c) held → RegisterSays d held
+
+-- a cut of the register that found memory
+pub record CutsRegister (old new : RegisterState) (base : Held) (first last : List Record) : Type 0 where
+  pub cut : IsCut (IsRegisterMarked old) base first last (λ held. RegisterSays old base → RegisterSays new held)
+  pub sound : IsKeptPart (kept_part old)
+  pub still : new ≡ all_kept old
+
+pub record IsRegisterCut (lanes : ℕ) (old new : RegisterState) (base held : Held) : Type 0 where
+  pub cuts : CutsCatalogue (array_contents lanes) (kept_part old) base held
+  pub since : IsRegisterSince (kept_part old) new
+
+abbrev pub RegisterCutsTell : ℕ → Type 0
+RegisterCutsTell lanes =
+    (c : KeptPart) (old new : RegisterState) (base : Held) (first last : List Record)
+    → (cuts : CutsRegister old new base first last) → TellsRegister base c → IsRegisterSince c old
+    → IsRegisterCut lanes old new base (put_all cuts.cut.added base)
+
+-- where nothing of a register is marked, and what holds its records describes it, it does so of what a journal keeps of it
+abbrev pub KeptRegistersAreParts : Type 0
+KeptRegistersAreParts =
+    (d : RegisterState) → d.marks ≡ no_marks → ((held : Held) → RegisterSays d held → DescribesRegister held d.run d.catalogue)
+    → IsKeptPart (kept_part d)
+
+-- ---- all that was cut
+
+-- what was cut says each owner as it was at its last cut that found memory, and tells the register as it was at its last one
+pub record SaysCuts (lanes : ℕ) (start : World (array_service lanes)) (h : History (array_service lanes)) (held : Held) (was : ℕ → Lane) : Type 0 where
+  pub says : (l : ℕ) → l < lanes → SaysOwner lanes l held (was l)
+  pub still : (l : ℕ) → l < lanes → IsStillOwner (was l)
+  pub objects : (l : ℕ) → l < lanes → (was l).objects ≡ objects_at_cut (array_service lanes) (start.objects l) (h.lane l)
+  pub register : TellsRegister held (kept_part (register_at (array_service lanes) (register_cut h.register) start.register h.register))
+
+abbrev pub SaidCutsAreTold : ℕ → Type 0
+SaidCutsAreTold lanes =
+    (start : World (array_service lanes)) (h : History (array_service lanes)) (held : Held) (was : ℕ → Lane)
+    → SaysCuts lanes start h held was → TellsCuts (array_service lanes) (array_contents lanes) start h held

@@ -1,0 +1,9 @@
+pub mod ArrayServices
+pub mod JournalParts
+pub mod Markings
+pub mod Readies
+pub mod PlainSteps
+pub mod Cuttings
+pub mod Tellings
+pub mod Calls
+pub mod Images

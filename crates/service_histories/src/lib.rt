@@ -1,0 +1,18 @@
+//! The histories of the array service: the register, the owners of its lanes, and what a journal
+//! holds of them, as a service of `lane_histories`, with that crate's laws.
+//!
+//! Definitions and laws alone; no program calls this crate.
+#![tactic(auto)]
+
+mod laws;
+mod service;
+mod tasks;
+
+pub use laws::{
+    calls_are_events, cut_pairs_are_kept, cuts_tell_the_lane, cuts_tell_the_register, events_keep,
+    histories_are_legal, images_open, own_entries_are_in_order, replies_are_replays,
+    turns_are_ready, what_is_kept_stays_kept, whole_histories_are_plain, worlds_are_told,
+    worlds_open,
+};
+pub use service::ArrayService;
+pub use tasks::Task;
