@@ -1,0 +1,293 @@
+-- How the lists grow, the entries of one pass, and what an item adds.
+use Rattle.std.proofs.Common.{◌≡◌, ◌≢◌, ℕ, zero, suc, ◌+◌, ◌<◌, ◌≤◌, List, [], ◌∷◌, ◌++◌, replicate, set, length, length-set, length-append}
+use Rattle.std.proofs.Common.{get_or-set_same, get_or-set_other, cond, Bool, true, false, eqb, refl, sym, ap, ◌∙◌, subst, arith}
+use Rattle.std.proofs.Common.{append_assoc}
+use mathlib.Core.Option.{some, some-ne-none, some-injective}
+use mathlib.Core.Logic.{dite}
+use native.Mathlib.Decide.{ℕ_discrete}
+use lib.ListN.{get_elem?}
+use Rattle.atomic_table.proofs.Lists.{at_longer}
+use Rattle.lane_histories.proofs.Lists.{all_both, nothing_more, starts_itself}
+use Rattle.lane_histories.specs.Histories.{StartsWith, own}
+use Rattle.lane_histories.specs.declared.items.RegisterItem.{RegisterItem}
+use Rattle.lane_histories.specs.declared.items.LaneItem.{LaneItem}
+use Rattle.lane_histories.specs.declared.items.RegisterItem.TheVariants.{Entered, DrawnCut, RegisterCut}
+use Rattle.hall_rule.specs.declared.queue.Queue.{Queue}
+use Rattle.hall_rule.specs.declared.queue.Queue.TheVariants.{OfRegister, OfDesk, OfLane}
+use Rattle.hall_rule.specs.declared.view.Lists.{Lists}
+use Rattle.hall_rule.specs.Queues.{IsQueue}
+use Rattle.hall_rule.specs.Seen.{GrowsBy, IsNoRegisterCut, IsNoLaneCut, GrowsFrom, GrowsUncut, nothing, len_of, SameList, lane_of, Item}
+use Rattle.hall_rule.specs.Seen.{at_register, at_desk, at_lane, queue_of, is_cut, pushed}
+use Rattle.hall_rule.proofs.QueueLemmas.{Apart}
+
+module _ {E : Type 0} where
+  pub starts_front : (a b : List E) → StartsWith (a ++ b) a
+  starts_front a b = (b, refl)
+
+  pub starts_same : (a b : List E) → a ≡ b → StartsWith a b
+  starts_same a b e = subst (StartsWith a) e (starts_itself a)
+
+  pub starts_trans : (a b c : List E) → StartsWith a b → StartsWith b c → StartsWith a c
+  starts_trans a b c x y = (y.0 ++ x.0, x.1 ∙ ap (λ l. l ++ x.0) y.1 ∙ append_assoc c y.0 x.0)
+
+  pub starts_at : (a b : List E) (i : ℕ) (x : E) → StartsWith a b → get_elem? b i ≡ some x → get_elem? a i ≡ some x
+  starts_at a b i x s at = ap (λ l. get_elem? l i) s.1 ∙ at_longer b s.0 i x at
+
+  pub starts_length : (a b : List E) → StartsWith a b → length b ≤ length a
+  starts_length a b s = let e = ap length s.1 ∙ length-append b s.0 in omega arith
+
+  -- a list begins with one item more of what it has there
+  pub starts_next : (whole begun : List E) (x : E) → StartsWith whole begun → get_elem? whole (length begun) ≡ some x
+      → StartsWith whole (begun ++ x ∷ [])
+  starts_next whole begun x s at = go s.0 s.1
+    where
+      there : (l m : List E) → get_elem? (l ++ m) (length l) ≡ get_elem? m 0
+      there [] m = refl
+      there (y ∷ l) m = there l m
+
+      go : (more : List E) → whole ≡ begun ++ more → StartsWith whole (begun ++ x ∷ [])
+      go [] e = absurd (some-ne-none x (sym at ∙ ap (λ l. get_elem? l (length begun)) e ∙ there begun []))
+      go (y ∷ more) e =
+          let same : y ≡ x = some-injective y x (sym (there begun (y ∷ more)) ∙ sym (ap (λ l. get_elem? l (length begun)) e) ∙ at) in
+          (more, e ∙ ap (λ z. begun ++ z ∷ more) same ∙ sym (append_assoc begun (x ∷ []) more))
+
+  pub empty_of_length : (l : List E) → length l ≡ 0 → l ≡ []
+  empty_of_length [] e = refl
+  empty_of_length (x ∷ l) e = absurd (omega arith)
+
+  pub lane_set_same : (lanes : List (List E)) (lane : ℕ) (l : List E) → lane < length lanes → lane_of (set lanes lane l) lane ≡ l
+  lane_set_same lanes lane l lt = get_or-set_same lanes lane l [] lt
+
+  pub lane_set_other : (lanes : List (List E)) (lane other : ℕ) (l : List E) → other ≢ lane
+      → lane_of (set lanes lane l) other ≡ lane_of lanes other
+  lane_set_other lanes lane other l ne = get_or-set_other lanes lane other l [] ne
+
+  pub lane_nothing : (n lane : ℕ) → lane_of (replicate n []) lane ≡ (let none : List E = [] in none)
+  lane_nothing zero lane = refl
+  lane_nothing (suc n) zero = refl
+  lane_nothing (suc n) (suc lane) = lane_nothing n lane
+
+  pub length_replicate : (n : ℕ) (x : E) → length (replicate n x) ≡ n
+  length_replicate zero x = refl
+  length_replicate (suc n) x = ap suc (length_replicate n x)
+
+module _ {X : Type 0} (P : X → Type 0) where
+  pub grows_all : (xs : List X) → GrowsBy P xs xs
+  grows_all xs = ([], sym (nothing_more xs), tt)
+
+  pub grows_one : (xs : List X) (x : X) → P x → GrowsBy P (xs ++ x ∷ []) xs
+  grows_one xs x p = (x ∷ [], refl, (p, tt))
+
+  pub grows_trans : (a b c : List X) → GrowsBy P a b → GrowsBy P b c → GrowsBy P a c
+  grows_trans a b c x y = (y.0 ++ x.0, x.1 ∙ ap (λ l. l ++ x.0) y.1 ∙ append_assoc c y.0 x.0, all_both P y.0 x.0 y.2 x.2)
+
+  pub grows_same : (a b : List X) → a ≡ b → GrowsBy P a b
+  grows_same a b e = subst (GrowsBy P a) e (grows_all a)
+
+module _ {Q V : Type 0} where
+  pub own_append : (by : ℕ) (xs ys : List (RegisterItem Q V)) → own by (xs ++ ys) ≡ own by xs ++ own by ys
+  own_append by [] ys = refl
+  own_append by (Entered e ∷ xs) ys = go (own_append by xs ys) (eqb e.by by)
+    where
+      go : own by (xs ++ ys) ≡ own by xs ++ own by ys → (b : Bool)
+          → cond b (e ∷ own by (xs ++ ys)) (own by (xs ++ ys)) ≡ cond b (e ∷ own by xs) (own by xs) ++ own by ys
+      go more true = ap (λ l. e ∷ l) more
+      go more false = more
+  own_append by (DrawnCut number at ∷ xs) ys = own_append by xs ys
+  own_append by (RegisterCut at found ∷ xs) ys = own_append by xs ys
+
+  pub own_push_none : (by : ℕ) (xs : List (RegisterItem Q V)) (e : RegisterItem Q V) → own by (e ∷ []) ≡ []
+      → own by (xs ++ e ∷ []) ≡ own by xs
+  own_push_none by xs e no_own = own_append by xs (e ∷ []) ∙ ap (λ l. own by xs ++ l) no_own ∙ nothing_more (own by xs)
+
+module _ {Q V T R : Type 0} where
+  pub begins_refl : (h : Lists Q V T R) → GrowsFrom h h
+  begins_refl h = record {
+    sized = refl;
+    register = starts_itself h.register;
+    lanes = λ lane. starts_itself (lane_of h.lanes lane);
+    keepings = starts_itself h.keepings;
+  }
+
+  pub begins_trans : (a b c : Lists Q V T R) → GrowsFrom a b → GrowsFrom b c → GrowsFrom a c
+  begins_trans a b c x y = record {
+    sized = x.sized ∙ y.sized;
+    register = starts_trans a.register b.register c.register x.register y.register;
+    lanes = λ lane. starts_trans (lane_of a.lanes lane) (lane_of b.lanes lane) (lane_of c.lanes lane) (x.lanes lane) (y.lanes lane);
+    keepings = starts_trans a.keepings b.keepings c.keepings x.keepings y.keepings;
+  }
+
+  pub begins_nothing : (h : Lists Q V T R) (n : ℕ) → length h.lanes ≡ n → GrowsFrom h (nothing n)
+  begins_nothing h n sized = record {
+    sized = sized ∙ sym (length_replicate n []);
+    register = (h.register, refl);
+    lanes = λ lane. subst (StartsWith (lane_of h.lanes lane)) (sym (lane_nothing n lane)) (lane_of h.lanes lane, refl);
+    keepings = (h.keepings, refl);
+  }
+
+  pub begins_pushed : (h : Lists Q V T R) (item : Item Q V T R) → IsQueue (length h.lanes) (queue_of item) → GrowsFrom (pushed h item) h
+  begins_pushed h (at_register e) is = record {
+    sized = refl;
+    register = starts_front h.register (e ∷ []);
+    lanes = λ lane. starts_itself
+        (lane_of h.lanes lane);
+    keepings = starts_itself h.keepings;
+  }
+  begins_pushed h (at_desk k) is = record {
+    sized = refl;
+    register = starts_itself h.register;
+    lanes = λ lane. starts_itself
+        (lane_of h.lanes lane);
+    keepings = starts_front h.keepings (k ∷ []);
+  }
+  begins_pushed h (at_lane lane i) is = record {
+    sized = length-set h.lanes lane (lane_of h.lanes lane ++ i ∷ []);
+    register = starts_itself h.register;
+    lanes = λ other. dite (ℕ_discrete other lane)
+        (λ e. subst (λ (x : ℕ). StartsWith (lane_of (set h.lanes lane (lane_of h.lanes lane ++ i ∷ [])) x) (lane_of h.lanes x)) (sym e)
+        (subst (λ l. StartsWith l (lane_of h.lanes lane)) (sym (lane_set_same h.lanes lane (lane_of h.lanes lane ++ i ∷ []) is))
+        (starts_front (lane_of h.lanes lane) (i ∷ []))))
+        (λ ne. starts_same _ _ (lane_set_other h.lanes lane other (lane_of h.lanes lane ++ i ∷ []) ne));
+    keepings = starts_itself h.keepings;
+  }
+
+  -- the other lists stay
+  pub pushed_other : (h : Lists Q V T R) (item : Item Q V T R) (q : Queue) → Apart (queue_of item) q → SameList q h (pushed h item)
+  pushed_other h (at_register e) OfRegister apart = absurd (apart.words refl)
+  pushed_other h (at_register e) OfDesk apart = refl
+  pushed_other h (at_register e) (OfLane l) apart = refl
+  pushed_other h (at_desk k) OfRegister apart = refl
+  pushed_other h (at_desk k) OfDesk apart = absurd (apart.words refl)
+  pushed_other h (at_desk k) (OfLane l) apart = refl
+  pushed_other h (at_lane lane i) OfRegister apart = refl
+  pushed_other h (at_lane lane i) OfDesk apart = refl
+  pushed_other h (at_lane lane i) (OfLane l) apart = sym
+      (lane_set_other h.lanes lane l (lane_of h.lanes lane ++ i ∷ []) (λ e. apart.words (ap (λ x. x + 4) e)))
+
+  pub len_pushed : (h : Lists Q V T R) (item : Item Q V T R) → IsQueue (length h.lanes) (queue_of item)
+      → len_of (pushed h item) (queue_of item) ≡ len_of h (queue_of item) + 1
+  len_pushed h (at_register e) is = length-append h.register (e ∷ [])
+  len_pushed h (at_desk k) is = length-append h.keepings (k ∷ [])
+  len_pushed h (at_lane lane i) is = ap length (lane_set_same h.lanes lane (lane_of h.lanes lane ++ i ∷ []) is)
+      ∙ length-append (lane_of h.lanes lane) (i ∷ [])
+
+  pub same_len : (q : Queue) (a b : Lists Q V T R) → SameList q a b → len_of a q ≡ len_of b q
+  same_len OfRegister a b e = ap length e
+  same_len OfDesk a b e = ap length e
+  same_len (OfLane l) a b e = ap length e
+
+  pub same_list_sym : (q : Queue) (a b : Lists Q V T R) → SameList q a b → SameList q b a
+  same_list_sym OfRegister a b e = sym e
+  same_list_sym OfDesk a b e = sym e
+  same_list_sym (OfLane l) a b e = sym e
+
+  pub same_list_trans : (q : Queue) (a b c : Lists Q V T R) → SameList q a b → SameList q b c → SameList q a c
+  same_list_trans OfRegister a b c d e = d ∙ e
+  same_list_trans OfDesk a b c d e = d ∙ e
+  same_list_trans (OfLane l) a b c d e = d ∙ e
+
+  pub same_list_refl : (q : Queue) (a : Lists Q V T R) → SameList q a a
+  same_list_refl OfRegister a = refl
+  same_list_refl OfDesk a = refl
+  same_list_refl (OfLane l) a = refl
+
+  -- one item more on the same list is the same list
+  pub same_pushed : (s h : Lists Q V T R) (item : Item Q V T R) → length h.lanes ≡ length s.lanes → IsQueue (length h.lanes) (queue_of item)
+      → SameList (queue_of item) s h → SameList (queue_of item) (pushed s item) (pushed h item)
+  same_pushed s h (at_register e) sized is same = ap (λ l. l ++ e ∷ []) same
+  same_pushed s h (at_desk k) sized is same = ap (λ l. l ++ k ∷ []) same
+  same_pushed s h (at_lane lane i) sized is same = lane_set_same s.lanes lane (lane_of s.lanes lane ++ i ∷ []) (omega arith)
+      ∙ ap (λ l. l ++ i ∷ []) same ∙ sym (lane_set_same h.lanes lane (lane_of h.lanes lane ++ i ∷ []) is)
+
+  -- what the pass had seen and the item begin what the hall has after the item
+  pub begins_pushed_both : (h s : Lists Q V T R) (item : Item Q V T R) → IsQueue (length h.lanes) (queue_of item) → GrowsFrom h s
+      → SameList (queue_of item) s h → GrowsFrom (pushed h item) (pushed s item)
+  begins_pushed_both h s (at_register e) is b same =
+      record { sized = b.sized; register = starts_same _ _ (ap (λ l. l ++ e ∷ []) (sym same)); lanes = b.lanes; keepings = b.keepings }
+  begins_pushed_both h s (at_desk k) is b same = record {
+    sized = b.sized;
+    register = b.register;
+    lanes = b.lanes;
+    keepings = starts_same _
+        _ (ap (λ l. l ++ k ∷ []) (sym same));
+  }
+  begins_pushed_both h s (at_lane lane i) is b same =
+      let new : List (LaneItem T R) = lane_of h.lanes lane ++ i ∷ [] in
+      let seen : List (LaneItem T R) = lane_of s.lanes lane ++ i ∷ [] in
+      let sized = b.sized in record {
+        sized = length-set h.lanes lane new ∙ b.sized ∙ sym (length-set s.lanes lane seen);
+        register = b.register;
+        lanes = λ other. dite (ℕ_discrete other lane)
+            (λ e. subst (λ (x : ℕ). StartsWith (lane_of (set h.lanes lane new) x) (lane_of (set s.lanes lane seen) x)) (sym e)
+            (starts_same _ _ (sym (same_pushed s h (at_lane lane i) b.sized is same))))
+            (λ ne. subst (λ (x : List (LaneItem T R) × List (LaneItem T R)). StartsWith x.0 x.1)
+            (λ k. (sym (lane_set_other h.lanes lane other new ne) k, sym (lane_set_other s.lanes lane other seen ne) k))
+            (b.lanes other));
+        keepings = b.keepings;
+      }
+
+  -- ---- lists that go on without a cut
+
+  pub goes_refl : (h : Lists Q V T R) → GrowsUncut h h
+  goes_refl h = record {
+    longer = begins_refl h;
+    register = grows_all IsNoRegisterCut h.register;
+    lanes = λ lane. grows_all IsNoLaneCut (lane_of h.lanes lane);
+  }
+
+  pub goes_trans : (a b c : Lists Q V T R) → GrowsUncut a b → GrowsUncut b c → GrowsUncut a c
+  goes_trans a b c x y = record {
+    longer = begins_trans a b c x.longer y.longer;
+    register = grows_trans IsNoRegisterCut a.register b.register c.register x.register y.register;
+    lanes = λ lane. grows_trans IsNoLaneCut (lane_of a.lanes lane) (lane_of b.lanes lane) (lane_of c.lanes lane) (x.lanes lane)
+        (y.lanes lane);
+  }
+
+  pub goes_pushed : (h : Lists Q V T R) (item : Item Q V T R) → IsQueue (length h.lanes) (queue_of item) → is_cut item ≡ false
+      → GrowsUncut (pushed h item) h
+  goes_pushed h (at_register e) is uncut = record {
+    longer = begins_pushed h (at_register e) is;
+    register = grows_one IsNoRegisterCut h.register e uncut;
+    lanes = λ lane. grows_all IsNoLaneCut (lane_of h.lanes lane);
+  }
+  goes_pushed h (at_desk k) is uncut = record {
+    longer = begins_pushed h (at_desk k) is;
+    register = grows_all IsNoRegisterCut h.register;
+    lanes = λ lane. grows_all IsNoLaneCut (lane_of h.lanes lane);
+  }
+  goes_pushed h (at_lane lane i) is uncut = record {
+    longer = begins_pushed h (at_lane lane i) is;
+    register = grows_all IsNoRegisterCut h.register;
+    lanes = λ other. dite (ℕ_discrete other lane)
+        (λ e. subst (λ (x : ℕ). GrowsBy IsNoLaneCut (lane_of (set h.lanes lane (lane_of h.lanes lane ++ i ∷ [])) x) (lane_of h.lanes x))
+        (sym e)
+        (subst (λ l. GrowsBy IsNoLaneCut l (lane_of h.lanes lane)) (sym (lane_set_same h.lanes lane (lane_of h.lanes lane ++ i ∷ []) is))
+        (grows_one IsNoLaneCut (lane_of h.lanes lane) i uncut)))
+        (λ ne. grows_same IsNoLaneCut _ _ (lane_set_other h.lanes lane other (lane_of h.lanes lane ++ i ∷ []) ne));
+  }
+
+  -- the same item joins both
+  pub goes_pushed_both : (h s : Lists Q V T R) (item : Item Q V T R) → IsQueue (length h.lanes) (queue_of item) → GrowsUncut h s
+      → SameList (queue_of item) s h → GrowsUncut (pushed h item) (pushed s item)
+  goes_pushed_both h s (at_register e) is g same = record {
+    longer = begins_pushed_both h s (at_register e) is g.longer same;
+    register = grows_same IsNoRegisterCut _ _ (ap (λ l. l ++ e ∷ []) (sym same));
+    lanes = g.lanes;
+  }
+  goes_pushed_both h s (at_desk k) is g same = record {
+    longer = begins_pushed_both h s (at_desk k) is g.longer same;
+    register = g.register;
+    lanes = g.lanes;
+  }
+  goes_pushed_both h s (at_lane lane i) is g same =
+      let new : List (LaneItem T R) = lane_of h.lanes lane ++ i ∷ [] in
+      let seen : List (LaneItem T R) = lane_of s.lanes lane ++ i ∷ [] in record {
+        longer = begins_pushed_both h s (at_lane lane i) is g.longer same;
+        register = g.register;
+        lanes = λ other. dite (ℕ_discrete other lane)
+            (λ e. subst (λ (x : ℕ). GrowsBy IsNoLaneCut (lane_of (set h.lanes lane new) x) (lane_of (set s.lanes lane seen) x)) (sym e)
+            (grows_same IsNoLaneCut _ _ (sym (same_pushed s h (at_lane lane i) g.longer.sized is same))))
+            (λ ne. subst (λ (x : List (LaneItem T R) × List (LaneItem T R)). GrowsBy IsNoLaneCut x.0 x.1)
+            (λ k. (sym (lane_set_other h.lanes lane other new ne) k, sym (lane_set_other s.lanes lane other seen ne) k))
+            (g.lanes other));
+      }

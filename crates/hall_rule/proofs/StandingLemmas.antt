@@ -1,0 +1,201 @@
+-- A machine that stands for its list stands for it still as the lists grow.
+use Rattle.std.proofs.Common.{◌≡◌, inl, inr, ⊎_elim, ℕ, true, false, [], ◌∷◌, ◌++◌, refl, sym, ap, ◌∙◌, subst, arith}
+use Rattle.std.specs.List.{AllByRecursion}
+use Rattle.std.specs.Prelude.{length}
+use mathlib.Core.Option.{some}
+use lib.ListN.{get_elem?}
+use Rattle.lane_histories.specs.Services.{Service}
+use Rattle.lane_histories.specs.Histories.{IsIn, LaneList, RegisterList, drawn, objects_step, places, register_after}
+use Rattle.lane_histories.specs.Histories.{register_at, register_step}
+use Rattle.lane_histories.specs.Legal.{IsPrefix, IsLegalRegister, IsLegalRegisterItem}
+use Rattle.lane_histories.specs.Cuts.{GoesOn, IsEntry, IsNoCut, register_cut}
+use Rattle.lane_histories.specs.KeptContents.{IsAsFar}
+use Rattle.lane_histories.specs.declared.items.Answer.TheVariants.{Kept}
+use Rattle.lane_histories.specs.declared.items.Keeping.{Keeping}
+use Rattle.lane_histories.specs.declared.items.LaneItem.{LaneItem}
+use Rattle.lane_histories.specs.declared.items.LaneItem.TheVariants.{Passed, WasCut}
+use Rattle.lane_histories.specs.declared.items.RegisterItem.{RegisterItem}
+use Rattle.lane_histories.specs.declared.items.RegisterItem.TheVariants.{Entered, DrawnCut, RegisterCut}
+use Rattle.lane_histories.proofs.CutLemmas.{objects_cut_now, objects_cut_stays, register_cut_few, register_cut_push}
+use Rattle.lane_histories.proofs.Growth.{at_longer}
+use Rattle.lane_histories.proofs.LaneLists.{objects_push}
+use Rattle.lane_histories.proofs.Lists.{all_both, all_weaker, in_last}
+use Rattle.lane_histories.proofs.RegisterLists.{at_end, register_after_push}
+use Rattle.hall_rule.specs.declared.queue.Queue.{Queue}
+use Rattle.hall_rule.specs.declared.queue.Queue.TheVariants.{OfRegister, OfDesk, OfLane}
+use Rattle.hall_rule.specs.declared.slot.Slot.TheVariants.{Away, AtRegister, AtDesk, AtLane}
+use Rattle.hall_rule.specs.declared.view.Start.{Start}
+use Rattle.hall_rule.specs.Seen.{GrowsFrom, GrowsUncut, IsNoLaneCut, IsNoRegisterCut, SameList, SeenLists, at_desk, history_of, nothing}
+use Rattle.hall_rule.specs.Seen.{pushed}
+use Rattle.hall_rule.specs.Machines.{Machines, objects_in}
+use Rattle.hall_rule.specs.Standing.{HallSlot, IsDeskOf, IsItsKeeping, IsOwnerOf, IsRegisterOf, MarksLane, MarksRegister, StandsFor}
+use Rattle.hall_rule.specs.Standing.{IsFresh, catalogue_cut, lane_cut}
+use Rattle.hall_rule.proofs.SeenLemmas.{goes_pushed, goes_refl, goes_trans}
+
+-- ---- lists that go on, as histories
+
+no_cut_is_entry : {Q V : Type 0} (i : RegisterItem Q V) → IsNoRegisterCut i → IsEntry i
+no_cut_is_entry (Entered e) none = tt
+no_cut_is_entry (DrawnCut number c) none = absurd (cc)
+no_cut_is_entry (RegisterCut p found) none = absurd (cc)
+
+no_cut_is_turn : {T R : Type 0} (i : LaneItem T R) → IsNoLaneCut i → IsNoCut i
+no_cut_is_turn (Passed place part task y) none = tt
+no_cut_is_turn (WasCut number c found) none = absurd (cc)
+
+pub longer_history : (service : Service) (h g : SeenLists service) → GrowsFrom h g → IsPrefix (history_of service g) (history_of service h)
+longer_history service h g longer = record { register = longer.register; lane = longer.lanes; keepings = longer.keepings }
+
+pub goes_on : (service : Service) (h g : SeenLists service) → GrowsUncut h g → GoesOn (history_of service g) (history_of service h)
+goes_on service h g uncut = record {
+  longer = record {
+    register = (uncut.register.0, uncut.register.1);
+    lane = λ l. let more = uncut.lanes l in (more.0, more.1);
+    keepings = uncut.longer.keepings;
+  };
+  entries = all_weaker _ _ uncut.register.0 no_cut_is_entry uncut.register.2;
+  turns = λ l. all_weaker _ _ (uncut.lanes l).0 no_cut_is_turn (uncut.lanes l).2;
+}
+
+module _ {service : Service} {M N P : Type 0} (m : Machines service M N P) (start : Start M N P) where
+  -- ---- the register, with one item more
+
+  cut_before : (items : RegisterList service) (i : RegisterItem service.Asked service.Verdict)
+      → IsLegalRegister service (m.register start.register) 0 0 items → register_cut (items ++ i ∷ []) ≡ register_cut items
+      → catalogue_cut m start (items ++ i ∷ []) ≡ catalogue_cut m start items
+  cut_before items i legal same =
+      let d = m.register start.register in
+      ap (λ (n : ℕ). service.catalogue (register_at service n d (items ++ i ∷ []))) same
+      ∙ at_longer service (register_cut items) d items (i ∷ []) (register_cut_few service d items legal)
+
+  cut_now : (items : RegisterList service) (p : ℕ) → p ≡ places items
+      → catalogue_cut m start (items ++ RegisterCut p true ∷ [])
+      ≡ service.catalogue (register_after service (m.register start.register) items)
+  cut_now items p is =
+      let d = m.register start.register in
+      let i : RegisterItem service.Asked service.Verdict = RegisterCut p true in
+      ap (λ (n : ℕ). service.catalogue (register_at service n d (items ++ i ∷ []))) (register_cut_push service 0 items i ∙ is)
+      ∙ at_longer service (places items) d items (i ∷ []) (omega arith) ∙ ap service.catalogue (at_end service d items)
+
+  still_since : (items : RegisterList service) (old new : M) (i : RegisterItem service.Asked service.Verdict)
+      → IsRegisterOf m start items old → IsLegalRegister service (m.register start.register) 0 0 items
+      → IsLegalRegisterItem service (register_after service (m.register start.register) items) (places items) (drawn items) i
+      → MarksRegister m i old new → m.RegisterIsSince new (catalogue_cut m start (items ++ i ∷ []))
+  still_since items old new (Entered e) is legal may marks =
+      subst (m.RegisterIsSince new) (sym (cut_before items (Entered e) legal (register_cut_push service 0 items (Entered e))))
+      (marks (catalogue_cut m start items) is.since)
+  still_since items old new (DrawnCut number c) is legal may marks =
+      subst (m.RegisterIsSince new) (sym (cut_before items (DrawnCut number c) legal
+      (register_cut_push service 0 items (DrawnCut number c))))
+      (marks (catalogue_cut m start items) is.since)
+  still_since items old new (RegisterCut p true) is legal may marks =
+      subst (m.RegisterIsSince new) (ap service.catalogue is.now ∙ sym (cut_now items p may)) marks
+  still_since items old new (RegisterCut p false) is legal may marks =
+      subst (m.RegisterIsSince new) (sym (cut_before items (RegisterCut p false) legal
+      (register_cut_push service 0 items (RegisterCut p false))))
+      (marks (catalogue_cut m start items) is.since)
+
+  pub register_pushed_on : (items : RegisterList service) (old new : M) (i : RegisterItem service.Asked service.Verdict)
+      → IsRegisterOf m start items old → IsLegalRegister service (m.register start.register) 0 0 items
+      → IsLegalRegisterItem service (register_after service (m.register start.register) items) (places items) (drawn items) i
+      → m.register new ≡ register_step service (m.register old) i → MarksRegister m i old new
+      → IsRegisterOf m start (items ++ i ∷ []) new
+  register_pushed_on items old new i is legal may went marks = record {
+    now = went ∙ ap (λ (x : service.Register). register_step service x i) is.now
+        ∙ sym (register_after_push service (m.register start.register) items i);
+    since = still_since items old new i is legal may marks;
+  }
+
+  -- ---- an owner, with one item more of its lane
+
+  owner_since : (lane : ℕ) (items : LaneList service) (old new : N) (i : LaneItem service.Task service.Reply)
+      → IsOwnerOf m start lane items old → MarksLane m lane i old new → m.OwnerIsSince new lane (lane_cut m start lane (items ++ i ∷ []))
+  owner_since lane items old new (Passed place part task y) is marks =
+      let o = objects_in m start.owners lane in
+      subst (m.OwnerIsSince new lane) (sym (objects_cut_stays service o o items (Passed place part task y ∷ []) (tt, tt)))
+      (marks (lane_cut m start lane items) is.since)
+  owner_since lane items old new (WasCut number c true) is marks =
+      let o = objects_in m start.owners lane in
+      subst (m.OwnerIsSince new lane) (is.now ∙ sym (objects_cut_now service o o items number c)) marks
+  owner_since lane items old new (WasCut number c false) is marks =
+      let o = objects_in m start.owners lane in
+      subst (m.OwnerIsSince new lane) (sym (objects_cut_stays service o o items (WasCut number c false ∷ []) (tt, tt)))
+      (marks (lane_cut m start lane items) is.since)
+
+  pub owner_pushed_on : (lane : ℕ) (items : LaneList service) (old new : N) (i : LaneItem service.Task service.Reply)
+      → IsOwnerOf m start lane items old → m.owner new ≡ objects_step service (m.owner old) i → MarksLane m lane i old new
+      → IsOwnerOf m start lane (items ++ i ∷ []) new
+  owner_pushed_on lane items old new i is went marks = record {
+    now = went ∙ ap (λ (o : service.Objects). objects_step service o i) is.now
+        ∙ sym (objects_push service (objects_in m start.owners lane) items i);
+    since = owner_since lane items old new i is marks;
+  }
+
+  -- ---- the desk
+
+  -- others asked and took turns
+  pub desk_on : (h g : SeenLists service) (d : P) → GrowsUncut h g → h.keepings ≡ g.keepings → IsDeskOf m start g d → IsDeskOf m start h d
+  desk_on h g d goes same is = record {
+    world = is.world;
+    uncut = goes_trans h g (m.note d) goes is.uncut;
+    far = subst (λ ks. AllByRecursion (λ k. IsAsFar k.own (m.reach d)) ks) (sym same) is.far;
+    kept = λ k here. is.kept k (subst (λ ks. IsIn ks k) same here);
+  }
+
+  -- its turn is passed with this item
+  pub desk_pushed_on : (h : SeenLists service) (d : P) (k : Keeping) → IsDeskOf m start h d → IsAsFar k.own (m.reach d)
+      → (k.answer ≡ Kept → (k.own ≡ m.reach d) × (k.moment ≡ m.moment d)) → IsDeskOf m start (pushed h (at_desk k)) d
+  desk_pushed_on h d k is near own = record {
+    world = is.world;
+    uncut = goes_trans (pushed h (at_desk k)) h (m.note d) (goes_pushed h (at_desk k) tt refl) is.uncut;
+    far = all_both _ h.keepings (k ∷ []) is.far (near, tt);
+    kept = λ x here ok. ⊎_elim
+        (λ old. is.kept x old ok)
+        (λ (same : k ≡ x). subst (IsItsKeeping m start d) same (inr (own (ap (λ (y : Keeping). y.answer) same ∙ ok))))
+        (in_last h.keepings k x here);
+  }
+
+  -- its note was brought up in its turn, and it reaches no less far
+  pub desk_brought_up : (h g : SeenLists service) (old new : P) → IsDeskOf m start g old → h.keepings ≡ g.keepings
+      → m.noted_world new ≡ m.noted_world old → GrowsUncut h (m.note new) → (m.note new).keepings ≡ h.keepings
+      → IsAsFar (m.reach old) (m.reach new) → IsDeskOf m start h new
+  desk_brought_up h g old new is same world goes noted far = record {
+    world = world ∙ is.world;
+    uncut = goes;
+    far = subst (λ ks. AllByRecursion (λ k. IsAsFar k.own (m.reach new)) ks) (sym same)
+        (all_weaker _ _ g.keepings (λ (k : Keeping) (near : IsAsFar k.own (m.reach old)).
+        let a = near.c in let b = near.p in let c = far.c in let d = far.p in record { c = omega arith; p = omega arith }) is.far);
+    kept = λ k here _. inl (subst (λ ks. IsIn ks k) (sym noted) here);
+  }
+
+  -- ---- before anything was done
+
+  pub owner_begun : IsFresh m start → (lane : ℕ) (o : N) → get_elem? start.owners lane ≡ some o → m.owner o ≡ objects_in m start.owners lane
+      → IsOwnerOf m start lane [] o
+  owner_begun fresh lane o there same = record { now = same; since = subst (m.OwnerIsSince o lane) same (fresh.owners lane o there) }
+
+  pub desk_begun : IsFresh m start → IsDeskOf m start (nothing (length start.owners)) start.desk
+  desk_begun fresh = record {
+    world = fresh.world;
+    uncut = subst (GrowsUncut (nothing (length start.owners))) (sym fresh.note) (goes_refl (nothing (length start.owners)));
+    far = tt;
+    kept = λ k here _. absurd here;
+  }
+
+  -- ---- whichever
+
+  -- a machine at home stands for its list, whatever joins the other lists; the desk, as long as nobody cuts
+  pub stands_on : (q : Queue) (s : HallSlot service M N P) (h h' : SeenLists service) → SameList q h h' → (q ≡ OfDesk → GrowsUncut h' h)
+      → StandsFor m q s start h → StandsFor m q s start h'
+  stands_on OfRegister Away h h' same goes ok = absurd ok
+  stands_on OfRegister (AtRegister d) h h' same goes ok = subst (λ items. IsRegisterOf m start items d.register) same ok
+  stands_on OfRegister (AtDesk d) h h' same goes ok = absurd ok
+  stands_on OfRegister (AtLane d) h h' same goes ok = absurd ok
+  stands_on OfDesk Away h h' same goes ok = absurd ok
+  stands_on OfDesk (AtRegister d) h h' same goes ok = absurd ok
+  stands_on OfDesk (AtDesk d) h h' same goes ok = desk_on h' h d.desk (goes refl) (sym same) ok
+  stands_on OfDesk (AtLane d) h h' same goes ok = absurd ok
+  stands_on (OfLane l) Away h h' same goes ok = absurd ok
+  stands_on (OfLane l) (AtRegister d) h h' same goes ok = absurd ok
+  stands_on (OfLane l) (AtDesk d) h h' same goes ok = absurd ok
+  stands_on (OfLane l) (AtLane d) h h' same goes ok = subst (λ items. IsOwnerOf m start l items d.owner) same ok

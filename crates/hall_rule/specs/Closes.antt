@@ -1,0 +1,25 @@
+-- What the end of a hall gives back.
+--     HasClosed m start v register owners desk    machines that one history has brought so far
+use Rattle.std.specs.Prelude.{◌≡◌, ℕ, ◌<◌, List, length}
+use mathlib.Core.Option.{some}
+use lib.ListN.{get_elem?}
+use Rattle.lane_histories.specs.Services.{Service}
+use Rattle.hall_rule.specs.declared.view.Start.{Start}
+use Rattle.hall_rule.specs.Machines.{Machines}
+use Rattle.hall_rule.specs.Standing.{IsDeskOf, IsOwnerOf, IsRegisterOf}
+use Rattle.hall_rule.specs.Seen.{SeenLists, lane_of}
+use Rattle.hall_rule.specs.Rule.{HallView}
+use Rattle.hall_rule.specs.Steps.{HasGrown}
+
+-- There is one legal history, which begins with all that the last pass had seen. Each machine is
+-- where its list of it has brought it.
+pub record HasClosed {service : Service} {M N P : Type 0} (m : Machines service M N P)
+    (start : Start M N P) (v : HallView service M N P) (register : M) (owners : List N)
+    (desk : P) : Type 0 where
+  pub seen : SeenLists service
+  pub grown : HasGrown m start v seen
+  pub register_is : IsRegisterOf m start seen.register register
+  pub desk_is : IsDeskOf m start seen desk
+  pub count : length owners ≡ length start.owners
+  pub owners_are : (lane : ℕ) → lane < length start.owners → (o : N)
+      × (get_elem? owners lane ≡ some o) × IsOwnerOf m start lane (lane_of seen.lanes lane) o

@@ -1,0 +1,45 @@
+-- The machines of a hall, as the rule sees them.
+--     Machines          what of the service the register, an owner and the desk are
+--     HallMachines      with their types
+--     world_of m start  the world with which the hall begins
+use Rattle.std.specs.Prelude.{ℕ, zero, suc, List, [], ◌∷◌}
+use Rattle.lane_histories.specs.Services.{Service, World}
+use Rattle.lane_histories.specs.declared.items.Reach.{Reach}
+use Rattle.hall_rule.specs.declared.view.Start.{Start}
+use Rattle.hall_rule.specs.Seen.{SeenLists}
+
+-- of a register M, owners N of the lanes' objects, and a desk P
+pub record Machines (service : Service) (M N P : Type 0) : Type 1 where
+  pub register : M → service.Register
+  pub owner : N → service.Objects
+  -- what a lane has that isn't there
+  pub no_objects : service.Objects
+  -- all that changed since its catalogue, or its lane's objects, were these is marked
+  pub RegisterIsSince : M → service.Catalogue → Type 0
+  pub OwnerIsSince : N → ℕ → service.Objects → Type 0
+  -- the lists in the desk's note, and the world from which they go
+  pub note : P → SeenLists service
+  pub noted_world : P → World service
+  -- how far what its disk holds reaches, and the disk's moment when that was reached
+  pub reach : P → Reach
+  pub moment : P → ℕ
+
+-- with their types
+pub record HallMachines (service : Service) : Type 1 where
+  pub Register : Type 0
+  pub Owner : Type 0
+  pub Desk : Type 0
+  pub machines : Machines service Register Owner Desk
+
+module _ {service : Service} {M N P : Type 0} (m : Machines service M N P) where
+  abbrev pub objects_in : List N → ℕ → service.Objects
+  objects_in [] lane = m.no_objects
+  objects_in (o ∷ os) zero = m.owner o
+  objects_in (o ∷ os) (suc lane) = objects_in os lane
+
+  abbrev pub world_of : Start M N P → World service
+  world_of start = record {
+    register = m.register start.register;
+    objects = objects_in
+        start.owners;
+  }

@@ -1,0 +1,119 @@
+-- The lists as a table's views hold them, what a turn adds, and how they grow.
+--     GrowsFrom h g      each list of h begins with that of g
+--     GrowsUncut h g     and what is more has no cut
+--     Item               what a turn adds to a list, with its queue
+--     pushed h item      the lists with it
+--     history_of s h     the lists as a history of the service
+use Rattle.std.specs.Prelude.{◌≡◌, ℕ, Bool, true, false, List, [], ◌∷◌, ◌++◌, length, replicate}
+use Rattle.std.specs.Prelude.{get_or, set}
+use Rattle.std.specs.List.{AllByRecursion}
+use Rattle.lane_histories.specs.Services.{Service, Turns, no_turn, one_turn, two_turns, each_lane}
+use Rattle.lane_histories.specs.Histories.{History, StartsWith}
+use Rattle.lane_histories.specs.declared.items.RegisterItem.{RegisterItem}
+use Rattle.lane_histories.specs.declared.items.Keeping.{Keeping}
+use Rattle.lane_histories.specs.declared.items.LaneItem.{LaneItem}
+use Rattle.lane_histories.specs.declared.items.RegisterItem.TheVariants.{Entered, DrawnCut}
+use Rattle.lane_histories.specs.declared.items.RegisterItem.TheVariants.{RegisterCut}
+use Rattle.lane_histories.specs.declared.items.LaneItem.TheVariants.{Passed, WasCut}
+use Rattle.hall_rule.specs.declared.queue.Queue.{Queue}
+use Rattle.hall_rule.specs.declared.queue.Queue.TheVariants.{OfRegister, OfDesk, OfLane}
+use Rattle.hall_rule.specs.declared.view.Lists.{Lists}
+use Rattle.hall_rule.specs.Sums.{upward}
+
+abbrev pub lane_of : {E : Type 0} → List (List E) → ℕ → List E
+lane_of lanes lane = get_or lanes lane []
+
+-- the list goes on by elements of this kind
+abbrev pub GrowsBy : {X : Type 0} → (X → Type 0) → List X → List X → Type 0
+GrowsBy {X} P xs front = (more : List X) × (xs ≡ front ++ more) × AllByRecursion P more
+
+abbrev pub is_cut_of_register : {Q V : Type 0} → RegisterItem Q V → Bool
+is_cut_of_register (Entered e) = false
+is_cut_of_register (DrawnCut number at) = true
+is_cut_of_register (RegisterCut at found) = true
+
+abbrev pub is_cut_of_lane : {T R : Type 0} → LaneItem T R → Bool
+is_cut_of_lane (Passed place part task outcome) = false
+is_cut_of_lane (WasCut number at found) = true
+
+abbrev pub IsNoRegisterCut : {Q V : Type 0} → RegisterItem Q V → Type 0
+IsNoRegisterCut i = is_cut_of_register i ≡ false
+
+abbrev pub IsNoLaneCut : {T R : Type 0} → LaneItem T R → Type 0
+IsNoLaneCut i = is_cut_of_lane i ≡ false
+
+module _ {Q V T R : Type 0} where
+  -- list by list, the one goes on from the other
+  pub record GrowsFrom (h g : Lists Q V T R) : Type 0 where
+    pub sized : length h.lanes ≡ length g.lanes
+    pub register : StartsWith h.register g.register
+    pub lanes : (lane : ℕ) → StartsWith (lane_of h.lanes lane) (lane_of g.lanes lane)
+    pub keepings : StartsWith h.keepings g.keepings
+
+  -- the register's and the lanes' by entries and turns alone, and no cut
+  pub record GrowsUncut (h g : Lists Q V T R) : Type 0 where
+    pub longer : GrowsFrom h g
+    pub register : GrowsBy IsNoRegisterCut h.register g.register
+    pub lanes : (lane : ℕ) → GrowsBy IsNoLaneCut (lane_of h.lanes lane) (lane_of g.lanes lane)
+
+  -- the lists of so many lanes before anything was done
+  abbrev pub nothing : ℕ → Lists Q V T R
+  nothing lanes = record { register = []; lanes = replicate lanes []; keepings = [] }
+
+  abbrev pub len_of : Lists Q V T R → Queue → ℕ
+  len_of h OfRegister = length h.register
+  len_of h OfDesk = length h.keepings
+  len_of h (OfLane lane) = length (lane_of h.lanes lane)
+
+  -- the two have the same list of this queue
+  abbrev pub SameList : Queue → Lists Q V T R → Lists Q V T R → Type 0
+  SameList OfRegister g h = g.register ≡ h.register
+  SameList OfDesk g h = g.keepings ≡ h.keepings
+  SameList (OfLane lane) g h = lane_of g.lanes lane ≡ lane_of h.lanes lane
+
+-- what a turn adds to the lists
+pub data Item (Q V T R : Type 0) : Type 0 where
+  at_register : RegisterItem Q V → Item Q V T R
+  at_desk : Keeping → Item Q V T R
+  at_lane : ℕ → LaneItem T R → Item Q V T R
+
+module _ {Q V T R : Type 0} where
+  abbrev pub queue_of : Item Q V T R → Queue
+  queue_of (at_register e) = OfRegister
+  queue_of (at_desk k) = OfDesk
+  queue_of (at_lane lane i) = OfLane lane
+
+  abbrev pub is_cut : Item Q V T R → Bool
+  is_cut (at_register e) = is_cut_of_register e
+  is_cut (at_desk k) = false
+  is_cut (at_lane lane i) = is_cut_of_lane i
+
+  -- the item joins its list
+  abbrev pub pushed : Lists Q V T R → Item Q V T R → Lists Q V T R
+  pushed h (at_register e) = record h { register = h.register ++ e ∷ [] }
+  pushed h (at_desk k) = record h { keepings = h.keepings ++ k ∷ [] }
+  pushed h (at_lane lane i) = record h { lanes = set h.lanes lane (lane_of h.lanes lane ++ i ∷ []) }
+
+-- the lists as the service's items
+abbrev pub SeenLists : Service → Type 0
+SeenLists service = Lists service.Asked service.Verdict service.Task service.Reply
+
+abbrev pub history_of : (service : Service) → SeenLists service → History service
+history_of service h = record {
+  register = h.register;
+  lane = λ l. lane_of h.lanes l;
+  keepings = h.keepings;
+}
+
+-- ---- the lanes whose tickets are issued
+
+abbrev pub lanes_of : {T : Type 0} → ℕ → Turns T → List ℕ
+lanes_of lanes no_turn = []
+lanes_of lanes (one_turn a task) = a ∷ []
+lanes_of lanes (two_turns a task b next) = a ∷ b ∷ []
+lanes_of lanes (each_lane task) = upward 0 lanes
+
+abbrev pub lanes_issued : (service : Service) → RegisterItem service.Asked service.Verdict → List ℕ
+lanes_issued service (Entered e) = lanes_of service.lanes (service.turns e.asked e.verdict)
+lanes_issued service (DrawnCut number at) = upward 0 service.lanes
+lanes_issued service (RegisterCut at found) = []
