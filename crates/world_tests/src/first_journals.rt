@@ -60,8 +60,8 @@ fn making(alloc: Global, bytes: &[u8], room: u64) -> Result<String, Fail> {
 }
 
 static ROOMS: [(u64, &str); 5] = [
-    (0, "17 behind 0"),
-    (16, "17 behind 0"),
+    (0, "96 behind 16"),
+    (16, "96 behind 16"),
     (17, "96 behind 16"),
     (111, "96 behind 16"),
     (112, "made up to 111"),
