@@ -1,4 +1,4 @@
-ghost use Rattle.std.specs.Prelude.{◌≡◌, ℕ, ◌+◌, ◌≤◌, List, length, IfOk, OnOk, OnErr};
+ghost use Rattle.std.specs.Prelude.{◌≡◌, ℕ, ◌+◌, ◌≤◌, List, length, IfOk, IsErr, OnOk, OnErr};
 ghost use Rattle.std.specs.Io.{ReadsAtMost};
 ghost use Rattle.edge_traits.specs.Causes.{HasCause};
 ghost use Rattle.edge_traits.specs.Disks.{Written, Torn, Fills, LeavesNoMore, Follows, Only, Elapses, ElapsesBy};
@@ -42,6 +42,9 @@ pub trait Disk {
     /// What a crash at that moment or later might have left beside the disk.
     ghost beside_since: { Self → ℕ → Others → Type 0 };
 
+    /// The disk has stopped: each later sync fails. A disk that never stops needs no meaning here.
+    ghost stopped: { Self → Type 0 } = { λ _. ⊥ };
+
     /// The length of what reads give.
     ///
     /// # Errors
@@ -58,6 +61,7 @@ pub trait Disk {
         ensures beside { beside self.new ≡ beside self.old }
         ensures around { honest → (t : ℕ) (o : Others) → t ≤ moment self.old
             → beside_since self.new t o → beside_since self.old t o }
+        ensures stopped { stopped self.old → stopped self.new }
         ensures cause { HasCause (faults self.old) (faults self.new) result };
 
     /// The greatest length, which never changes.
@@ -80,6 +84,7 @@ pub trait Disk {
         ensures beside { beside self.new ≡ beside self.old }
         ensures around { honest → (t : ℕ) (o : Others) → t ≤ moment self.old
             → beside_since self.new t o → beside_since self.old t o }
+        ensures stopped { stopped self.old → stopped self.new }
         ensures cause { HasCause (faults self.old) (faults self.new) result };
 
     /// Writes over what stands there, and past the end.
@@ -99,6 +104,7 @@ pub trait Disk {
         ensures beside { beside self.new ≡ beside self.old }
         ensures around { honest → (t : ℕ) (o : Others) → t ≤ moment self.old
             → beside_since self.new t o → beside_since self.old t o }
+        ensures stopped { stopped self.old → stopped self.new }
         ensures cause { HasCause (faults self.old) (faults self.new) result };
 
     /// After `Ok` a crash leaves what reads give.
@@ -116,6 +122,8 @@ pub trait Disk {
         ensures beside { beside self.new ≡ beside self.old }
         ensures around { honest → (t : ℕ) (o : Others) → t ≤ moment self.old
             → beside_since self.new t o → beside_since self.old t o }
+        ensures refuses { stopped self.old → IsErr result }
+        ensures stopped { stopped self.old → stopped self.new }
         ensures cause { HasCause (faults self.old) (faults self.new) result };
 
     /// What reads give is no longer than the greatest length.

@@ -65,6 +65,8 @@ impl<D: Disk> Disk for FailStop<D> {
 
     ghost beside_since = { λ d. D.beside_since (inside d) };
 
+    ghost stopped = { λ d. has_stopped d ≡ true };
+
     fn length(&mut self) -> Result<u64, Failed>
         ensures length { D.honest → IfOk result (λ n. n ≡ length (D.reads (inside self.old))) }
         ensures within { D.honest → IfOk result (λ n. n ≤ D.most (inside self.old)) }
@@ -161,6 +163,7 @@ impl<D: Disk> Disk for FailStop<D> {
             → HasCause (D.faults (inside self.old)) (D.faults (inside self.new)) result }
         ensures running { OnOk result (has_stopped self.new ≡ false) }
         ensures stops { OnErr result (has_stopped self.new ≡ true) }
+        ensures stopped { has_stopped self.old ≡ true → has_stopped self.new ≡ true }
         ensures refuses { has_stopped self.old ≡ true → IsErr result }
         ensures unasked { has_stopped self.old ≡ true → inside self.new ≡ inside self.old }
     {

@@ -155,6 +155,8 @@ impl Disk for FileDisk {
 
     ghost most = { λ _. 2 ^ 40 };
 
+    ghost stopped = { λ d. file_has_stopped d ≡ true };
+
     ghost Others = { Unit {0} };
 
     ghost beside = { λ _. tt };
@@ -196,6 +198,7 @@ impl Disk for FileDisk {
             (⟦<FileDisk as Disk>⟧.faults self.old) (⟦<FileDisk as Disk>⟧.faults self.new) result }
         ensures running { OnOk result (file_has_stopped self.new ≡ false) }
         ensures stops { OnErr result (file_has_stopped self.new ≡ true) }
+        ensures stopped { file_has_stopped self.old ≡ true → file_has_stopped self.new ≡ true }
         ensures refuses { file_has_stopped self.old ≡ true → IsErr result }
     {
         self.disk.sync()

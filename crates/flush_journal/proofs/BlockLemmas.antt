@@ -1,5 +1,5 @@
 -- What is read behind a header is whole blocks, and then what reading stops at.
-use Rattle.std.proofs.Common.{◌≡◌, ◌≢◌, ◌⊎◌, inl, inr, ℕ, zero, suc, ◌+◌, ◌≤◌, ◌^◌, List, [], ◌∷◌, ◌++◌, length, Option, Some, None, Result, Ok, Err, refl, sym, ◌∙◌, ap, subst, arith, append_assoc, length-append}
+use Rattle.std.proofs.Common.{◌≡◌, ◌≢◌, ◌⊎◌, inl, inr, ℕ, zero, suc, ◌+◌, ◌≤◌, ◌^◌, List, [], ◌∷◌, ◌++◌, length, Option, Some, None, Result, Ok, Err, refl, sym, ◌∙◌, ap, subst, arith, append-nil, append_assoc, length-append}
 use Rattle.std.specs.Prelude.{option_and_then, All}
 use Rattle.std.specs.List.{AllByRecursion, sum_by, flat_map}
 use Rattle.std.proofs.lemmas.Bool.{cases_eq}
@@ -150,6 +150,11 @@ unfolding grown_all
 grown_end c [] = omega arith
 grown_end c (rs ∷ bs) =
     grown_end (grown c (length (encoded_all rs)) rs) bs ∙ omega (arith, sum_by-cons (λ (rs : List Record). 9 + length (encoded_all rs)) rs bs)
+
+pub grown_written : (c : Content) (bs : List (List Record)) → (grown_all c bs).written ≡ c.written ++ bs
+unfolding grown_all
+grown_written c [] = sym (append-nil c.written)
+grown_written c (rs ∷ bs) = grown_written (grown c (length (encoded_all rs)) rs) bs ∙ append_assoc c.written (rs ∷ []) bs
 
 pub put_both : (xs ys : List Record) (m : Held) → put_all (xs ++ ys) m ≡ put_all ys (put_all xs m)
 put_both [] ys m = refl

@@ -8,7 +8,7 @@ use Rattle.flush_journal.specs.Blocks.IsFault.{no_header, no_marker, no_payload}
 use Rattle.flush_journal.proofs.FileLemmas.{after_batch, read_on_open, read_on_shut}
 use Rattle.flush_journal.proofs.ContentLemmas.{content-header, content-outside}
 use Rattle.flush_journal.proofs.EncodingLemmas.{Bytes, bytes_parts}
-use Rattle.flush_journal.proofs.BlockLemmas.{grown_all, Batches, blocks_read, Stops, reading_of, grown_version, grown_lanes, grown_count, grown_end, grown_held, length-blocks, all_batches, each_batch, no_payload_of, no_batch_of}
+use Rattle.flush_journal.proofs.BlockLemmas.{grown_all, Batches, blocks_read, Stops, reading_of, grown_version, grown_lanes, grown_count, grown_end, grown_written, grown_held, length-blocks, all_batches, each_batch, no_payload_of, no_batch_of}
 use Rattle.flush_journal.proofs.HeaderLemmas.{header_found, header_read, length-header, outside_begins, begins_outside}
 
 -- the place behind a header and blocks
@@ -35,10 +35,10 @@ journal_read bytes c is =
     ∙ read_on_shut (length (is.marker ∷ is.rest)) (grown_all (fresh c.lanes) bs) is.marker is.rest is.shut
     ∙ ap (λ (x : Content). Ok x) (same_content (grown_all (fresh c.lanes) bs) c
     (grown_version (fresh c.lanes) bs ∙ sym is.version) (grown_lanes (fresh c.lanes) bs) (omega (arith, grown_count (fresh c.lanes) bs, is.count))
-    (grown_end (fresh c.lanes) bs ∙ sym is.end) (grown_held (fresh c.lanes) bs ∙ sym is.held))
+    (grown_end (fresh c.lanes) bs ∙ sym is.end) (grown_written (fresh c.lanes) bs ∙ sym is.written) (grown_held (fresh c.lanes) bs ∙ sym is.held))
   where
-    same_content : (x y : Content) → x.version ≡ y.version → x.lanes ≡ y.lanes → x.batches ≡ y.batches → x.end ≡ y.end → x.held ≡ y.held → x ≡ y
-    same_content x y v l b e h = λ i. record { version = v i; lanes = l i; batches = b i; end = e i; held = h i }
+    same_content : (x y : Content) → x.version ≡ y.version → x.lanes ≡ y.lanes → x.batches ≡ y.batches → x.end ≡ y.end → x.written ≡ y.written → x.held ≡ y.held → x ≡ y
+    same_content x y v l b e w h = λ i. record { version = v i; lanes = l i; batches = b i; end = e i; written = w i; held = h i }
 
 left_read : (bytes left : List ℕ) (is : IsLeft bytes left) → content bytes ≡ read_on (length left) (grown_all (fresh is.lanes) is.batches) left
 left_read bytes left is = ap content is.whole ∙ laid_read is.lanes is.batches left is.some_lane is.few_lanes (each_batch is.batches is.sound)
@@ -81,6 +81,7 @@ stopped bytes (marker ∷ rest) lanes bs r whole some few h (inl shut) =
       few_lanes = omega (arith, same, few);
       count = omega (arith, grown_count (fresh lanes) bs);
       end = grown_end (fresh lanes) bs;
+      written = grown_written (fresh lanes) bs;
       held = grown_held (fresh lanes) bs;
     })
 stopped bytes (marker ∷ rest) lanes bs r whole some few h (inr bad) =

@@ -20,6 +20,7 @@ pub mod HeaderLemmas
 pub mod BatchFronts
 pub mod BlockLemmas
 pub mod LayoutLemmas
+pub mod EarlierLemmas
 pub mod KeptLemmas
 pub mod PutLemmas
 pub mod ByteLemmas

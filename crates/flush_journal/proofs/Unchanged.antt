@@ -9,7 +9,7 @@ use Rattle.flush_journal.specs.declared.reader.Reader.{Reader}
 module _ {D : Type 0} (met : Ghosts D) where
   -- no call
   pub same_here : (disk : D) → SameDisk met disk disk
-  same_here disk = record { most = refl; beside = refl; faults = omega arith; goes_on = λ h. omega arith; around = λ h t o le left. left }
+  same_here disk = record { most = refl; beside = refl; faults = omega arith; stopped = λ h. h; goes_on = λ h. omega arith; around = λ h t o le left. left }
 
   pub bytes_here : (disk : D) → SameBytes met disk disk
   bytes_here disk = record { reads = refl; images = λ i left. left; later = omega arith; since = λ t le i left. left }
@@ -20,6 +20,7 @@ module _ {D : Type 0} (met : Ghosts D) where
     most = then_.most ∙ first.most;
     beside = then_.beside ∙ first.beside;
     faults = omega (arith, first.faults, then_.faults);
+    stopped = λ h. then_.stopped (first.stopped h);
     goes_on = λ h. omega (arith, first.goes_on h, then_.goes_on h);
     around = λ h t o le left. first.around h t o le (then_.around h t o (omega (arith, le, first.goes_on h)) left);
   }

@@ -37,6 +37,7 @@ pub record IsJournal (bytes : List ℕ) (c : Content) : Type 0 where
   pub few_lanes : c.lanes ≤ 16
   pub count : c.batches ≡ length batches
   pub end : c.end ≡ 16 + sum_by (λ records. 9 + length (encoded_all records)) batches
+  pub written : c.written ≡ batches
   pub held : c.held ≡ put_all (flat_map (λ records. records) batches) map.empty
 
 -- the first n bytes of a file are those of a header

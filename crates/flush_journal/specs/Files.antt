@@ -26,12 +26,13 @@ first_outside at [] bytes = None
 first_outside at (r ∷ ranges) [] = Some at
 first_outside at (r ∷ ranges) (b ∷ bytes) = if nat_le r.0 b && nat_le b r.1 then first_outside (at + 1) ranges bytes else Some at
 
--- what a file holds, and its numbers: `end` is the place of the first closed marker
+-- what a file holds, and its numbers: `end` is the place of the first closed marker, and `written` has the records of each batch, in order
 pub record Content : Type 0 where
   pub version : ℕ
   pub lanes : ℕ
   pub batches : ℕ
   pub end : ℕ
+  pub written : List (List Record)
   pub held : Held
 
 -- the batch behind an open marker: its payload's length, its records, and what follows
@@ -55,6 +56,7 @@ grown c size records = record {
   lanes = c.lanes;
   batches = c.batches + 1;
   end = c.end + 9 + size;
+  written = c.written ++ records ∷ [];
   held = put_all records c.held;
 }
 
@@ -70,7 +72,7 @@ read_on (suc steps) c (marker ∷ bytes) =
 
 -- a file of version 1 with this many lanes, before its first marker
 abbrev pub fresh : ℕ → Content
-fresh lanes = record { version = 1; lanes = lanes; batches = 0; end = 16; held = map.empty }
+fresh lanes = record { version = 1; lanes = lanes; batches = 0; end = 16; written = []; held = map.empty }
 
 -- What a file stands for. An error is the place of the first byte that differs from the header, or as `read_on` says.
 unfoldable pub content : List ℕ → Result Content ℕ

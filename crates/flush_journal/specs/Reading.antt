@@ -1,5 +1,5 @@
 -- What a reading of a file shows, and why it may be refused.
-use Rattle.std.specs.Prelude.{◌≡◌, ◌≢◌, ℕ, ◌+◌, ◌<◌, ◌≤◌, List, length, take, drop, slice_index, Result, Err, Option, Some, None}
+use Rattle.std.specs.Prelude.{◌≡◌, ◌≢◌, ℕ, ◌+◌, ◌<◌, ◌≤◌, List, length, take, drop, slice_index, Result, Ok, Err, Option, Some, None}
 use Rattle.edge_traits.specs.Causes.{Rose}
 use Rattle.flush_journal.specs.Records.{Record, Held, put_all}
 use Rattle.flush_journal.specs.Files.{Content, content, first_batch, read_on}
@@ -22,9 +22,13 @@ MayRefuseReading told file before now NoMemory = Unit {0}
 MayRefuseReading told file before now (JournalFull e n r) = ⊥
 MayRefuseReading told file before now Exists = ⊥
 
--- numbers and a map
-abbrev pub content_of : Report → Held → Content
-content_of r held = record { version = r.version; lanes = r.lanes; batches = r.batches; end = r.end; held = held }
+-- numbers, batches and a map
+abbrev pub content_of : Report → List (List Record) → Held → Content
+content_of r written held = record { version = r.version; lanes = r.lanes; batches = r.batches; end = r.end; written = written; held = held }
+
+-- the file has these numbers and this map
+abbrev pub IsRead : List ℕ → Report → Held → Type 0
+IsRead file r held = (written : List (List Record)) × (content file ≡ Ok (content_of r written held))
 
 -- what is read from a marker on, where c is what stands before it
 abbrev pub read_from : Content → List ℕ → Result Content ℕ

@@ -3,12 +3,13 @@ use Rattle.std.specs.Prelude.{◌≡◌, ◌⊎◌, ℕ, ◌≤◌, List}
 use Rattle.edge_traits.specs.declared.disk.Disk.{Ghosts}
 use Rattle.edge_traits.specs.Disks.{Torn, LeavesNoMore, After, Follows}
 
--- of every disk: its room and what lies beside it; and its count of faults didn't fall. Where it tells its bytes, time didn't go back,
--- and a crash since an earlier moment might have left nothing new beside it.
+-- of every disk: its room and what lies beside it; its count of faults didn't fall, and where it had stopped it still has. Where it tells
+-- its bytes, time didn't go back, and a crash since an earlier moment might have left nothing new beside it.
 pub record SameDisk {D : Type 0} (met : Ghosts D) (old new : D) : Type 0 where
   pub most : met.most new ≡ met.most old
   pub beside : met.beside new ≡ met.beside old
   pub faults : met.faults old ≤ met.faults new
+  pub stopped : met.stopped old → met.stopped new
   pub goes_on : met.honest → met.moment old ≤ met.moment new
   pub around : met.honest → (t : ℕ) (o : met.Others) → t ≤ met.moment old → met.beside_since new t o → met.beside_since old t o
 

@@ -1,6 +1,6 @@
 // A journal over a disk.
 ghost use Rattle.std.specs.Prelude.{◌≡◌, ◌≢◌, ◌+◌, ◌^◌, ◌<◌, ◌≤◌, ◌↔◌, [], take, IsTrue, OnOk, OnErr, IfOk};
-ghost use Rattle.std.specs.Prelude.{IfErr, MatchResult, None, Some, Ok, Err, Result, List, option_map};
+ghost use Rattle.std.specs.Prelude.{IfErr, IsErr, MatchResult, None, Some, Ok, Err, Result, List, option_map};
 ghost use Rattle.flush_journal.specs.Batches.{records, owed_size};
 ghost use Rattle.edge_traits.specs.Disks.{Only};
 ghost use Rattle.flush_journal.specs.Files.{Content, content, fresh, magic};
@@ -231,12 +231,14 @@ impl<D: Disk> Journal<D> {
     /// # Errors
     ///
     /// `DiskFault` where the disk had a fault, and `JournalFull` where the batch doesn't fit, which is found without a
-    /// call of the disk. After either the batch is pending: `settle` writes it.
+    /// call of the disk. After either the batch is pending: `settle` writes it. On a disk that has stopped each batch is
+    /// refused.
     pub fn append(&mut self, batch: Batch) -> Result<(), Why>
         requires idle { pending_of self.old ≡ None }
         ensures writes { D.honest → (c : Content) → IsSettled self.old c
             → Writes self.old self.new c (records batch) result }
         ensures tries { records batch ≢ [] → Tries self.old self.new (records batch) result }
+        ensures stopped { records batch ≢ [] → D.stopped (disk_of self.old) → IsErr result }
         ensures empty { records batch ≡ [] → result ≡ Ok tt }
         ensures untouched { records batch ≡ [] → self.new ≡ self.old }
         ensures same { SameDisk D.Disk (disk_of self.old) (disk_of self.new) }
@@ -269,6 +271,7 @@ impl<D: Disk> Journal<D> {
             → Writes self.old self.new c rs result }
         ensures tries { (rs : List Record) → pending_of self.old ≡ Some rs
             → Tries self.old self.new rs result }
+        ensures stopped { pending_of self.old ≢ None → D.stopped (disk_of self.old) → IsErr result }
         ensures idle { pending_of self.old ≡ None → result ≡ Ok tt }
         ensures untouched { pending_of self.old ≡ None → self.new ≡ self.old }
         ensures settled { OnOk result (pending_of self.new ≡ None) }

@@ -5,7 +5,7 @@ ghost use Rattle.flush_journal.specs.Records.{Record, IsRecord, AreBytes, Held, 
 ghost use Rattle.flush_journal.specs.Files.{Content, content, magic};
 ghost use Rattle.flush_journal.specs.Moments.{CrashLeaves};
 ghost use Rattle.flush_journal.specs.Standing.{with_batch, HasEither, HoldsEither};
-ghost use Rattle.flush_journal.specs.Blocks.{IsJournal, IsFault};
+ghost use Rattle.flush_journal.specs.Blocks.{IsJournal, IsFault, blocks, header_bytes};
 
 use edge_traits::Disk;
 
@@ -35,6 +35,17 @@ pub fn content_lies_inside()
     ensures bytes { (bytes : List ℕ) (c : Content) (key body : List ℕ) → AreBytes bytes
         → content bytes ≡ Ok c → map.get c.held key ≡ Some body
         → AreBytes key × AreBytes body }
+{}
+
+/// The bytes of a journal before its end are those of its lanes and its batches, in order; so where a batch comes behind
+/// them, they stay.
+pub fn earlier_bytes_stay()
+    ensures written { (bytes : List ℕ) (c : Content) → AreBytes bytes → content bytes ≡ Ok c
+        → take c.end bytes ≡ header_bytes c.lanes ++ blocks c.written }
+    ensures stays { (before after : List ℕ) (c : Content) (rs : List Record)
+        → AreBytes before → AreBytes after
+        → content before ≡ Ok c → content after ≡ Ok (with_batch c rs)
+        → take c.end after ≡ take c.end before }
 {}
 
 /// Where each moment of a run of calls leaves the one content or the other, and each of a run that goes on from there

@@ -21,7 +21,7 @@ mod why;
 pub use batch::{Batch, batch_is_sent, record_size};
 pub use journal::Journal;
 pub use laws::{
-    content_lies_inside, content_tells_map, journal_or_fault, last_record_wins,
+    content_lies_inside, content_tells_map, earlier_bytes_stay, journal_or_fault, last_record_wins,
     payload_is_encoding, runs_join,
 };
 pub use recovered::{Body, Recovered};

@@ -1,5 +1,5 @@
 // The two writes of a batch: the frame behind the closed marker, and then the marker.
-ghost use Rattle.std.specs.Prelude.{◌≡◌, ◌==◌, ℕ, ◌+◌, ◌^◌, ◌≤◌, ◌<◌, List, length, slice_index, IfOk, OnOk};
+ghost use Rattle.std.specs.Prelude.{◌≡◌, ◌==◌, ℕ, ◌+◌, ◌^◌, ◌≤◌, ◌<◌, List, length, slice_index, IfOk, IsErr, OnOk};
 ghost use Rattle.edge_traits.specs.Causes.{HasCause};
 ghost use Rattle.edge_traits.specs.Disks.{Elapses, LeavesNoMore};
 ghost use Rattle.flush_journal.specs.Markers.{HasClosedMarker, IsLaid, HasOpenMarker, Either};
@@ -32,6 +32,7 @@ fn lay<D: Disk>(disk: &mut D, end: u64, frame: &[u8]) -> Result<(), Failed>
     ensures laid { D.honest → (front : List ℕ) → length front ≡ end
         → HasClosedMarker front (D.reads disk.old)
         → OnOk result (IsLaid front frame.now (D.reads disk.new)) }
+    ensures stopped { D.stopped disk.old → IsErr result }
     ensures same { SameDisk D.Disk disk.old disk.new }
     ensures cause { HasCause (D.faults disk.old) (D.faults disk.new) result }
 {
@@ -57,6 +58,7 @@ fn open_marker<D: Disk>(disk: &mut D, end: u64) -> Result<(), Failed>
     ensures opened { D.honest → (front frame : List ℕ) → length front ≡ end
         → IsLaid front frame (D.reads disk.old)
         → OnOk result (HasOpenMarker front frame (D.reads disk.new)) }
+    ensures stopped { D.stopped disk.old → IsErr result }
     ensures same { SameDisk D.Disk disk.old disk.new }
     ensures cause { HasCause (D.faults disk.old) (D.faults disk.new) result }
 {
@@ -83,6 +85,7 @@ pub fn write_frame<D: Disk>(disk: &mut D, end: u64, frame: &[u8]) -> Result<(), 
         → MarkerStands end (length frame.now) (D.reads disk.new) }
     ensures moved { D.honest → EndsInClosedMarker frame.now
         → OnOk result (MarkerStands (end + length frame.now) 0 (D.reads disk.new)) }
+    ensures stopped { D.stopped disk.old → IsErr result }
     ensures same { SameDisk D.Disk disk.old disk.new }
     ensures cause { HasCause (D.faults disk.old) (D.faults disk.new) result }
 {
@@ -125,6 +128,7 @@ pub fn write_again<D: Disk>(disk: &mut D, end: u64, frame: &[u8]) -> Result<(), 
         → MarkerStands end (length frame.now) (D.reads disk.new) }
     ensures moved { D.honest → EndsInClosedMarker frame.now
         → OnOk result (MarkerStands (end + length frame.now) 0 (D.reads disk.new)) }
+    ensures stopped { D.stopped disk.old → IsErr result }
     ensures same { SameDisk D.Disk disk.old disk.new }
     ensures cause { HasCause (D.faults disk.old) (D.faults disk.new) result }
 {

@@ -1,11 +1,11 @@
 // A journal's file, read from the front.
-ghost use Rattle.std.specs.Prelude.{◌≡◌, ◌+◌, ◌<◌, ◌≤◌, length, IfOk, IfErr, OnOk, Ok, slice_index, MatchOption, None};
+ghost use Rattle.std.specs.Prelude.{◌≡◌, ◌+◌, ◌<◌, ◌≤◌, length, IfOk, IfErr, OnOk, slice_index, MatchOption, None};
 ghost use Rattle.std.specs.FinMap as map;
-ghost use Rattle.flush_journal.specs.Files.{content, first_outside, header_ranges};
+ghost use Rattle.flush_journal.specs.Files.{first_outside, header_ranges};
 ghost use Rattle.flush_journal.specs.Markers.{MarkerStands};
 ghost use Rattle.flush_journal.specs.Reports.{IsVersion1};
 ghost use Rattle.flush_journal.specs.Readers.{file_of, end_of_file, GoesOn, MayFail};
-ghost use Rattle.flush_journal.specs.Reading.{MarkerIs, PayloadIs, content_of};
+ghost use Rattle.flush_journal.specs.Reading.{MarkerIs, PayloadIs, IsRead};
 
 use crate::header::{HEADER_SIZE, VERSION, outside};
 use crate::markers::OPEN;
@@ -101,8 +101,7 @@ fn read_batches<D: Disk>(
     requires long { 16 ≤ end_of_file reader.old }
     requires empty { recovered.old ≡ map.empty }
     ensures on { GoesOn reader.old reader.new }
-    ensures found { D.honest → IfOk result (λ r. content (file_of reader.old)
-        ≡ Ok (content_of r recovered.new)) }
+    ensures found { D.honest → IfOk result (λ r. IsRead (file_of reader.old) r recovered.new) }
     ensures numbers { IfOk result IsVersion1 }
     ensures marker { D.honest → IfOk result (λ r. MarkerStands r.end 0 (file_of reader.old)) }
     ensures why { IfErr result (MayFail reader.old reader.new) }
@@ -137,8 +136,7 @@ pub fn read_journal<D: Disk>(
 ) -> Result<Report, Why>
     requires empty { recovered.old ≡ map.empty }
     ensures on { GoesOn reader.old reader.new }
-    ensures found { D.honest → IfOk result (λ r. content (file_of reader.old)
-        ≡ Ok (content_of r recovered.new)) }
+    ensures found { D.honest → IfOk result (λ r. IsRead (file_of reader.old) r recovered.new) }
     ensures numbers { IfOk result IsVersion1 }
     ensures marker { D.honest → IfOk result (λ r. MarkerStands r.end 0 (file_of reader.old)) }
     ensures why { IfErr result (MayFail reader.old reader.new) }
