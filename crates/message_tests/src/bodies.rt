@@ -8,8 +8,8 @@ use json_trees::Tree;
 use object_ids::Kind;
 use object_ops::{LinkPlace, Make, Part, refusal_json};
 use request_bodies::{
-    BodyFault, attribute_of, body_of, dims_of, folder_of, make_of, name_of, points_of, rights_of,
-    target_of, title_of, write_of,
+    AttributeBodyFault, BodyFault, attribute_of, body_of, dims_of, folder_of, make_of, name_of,
+    points_of, rights_of, target_of, title_of, write_of,
 };
 use std::alloc::Global;
 use std::test::Fail;
@@ -73,6 +73,8 @@ attribute|{"shape":[65537],"type":"H5T_STD_I8LE","value":[]}|{"field":"value","r
 attribute|{"shape":[-1],"type":"H5T_STD_I8LE"}|{"fault":"not-a-shape","reason":"bad-shape"}
 attribute|{"shape":[-1],"type":{"class":"H5T_STRING","length":"H5T_VARIABLE"}}|{"class":"H5T_STRING","reason":
     "unsupported-type"}
+attribute|{"shape":[0,65536],"type":"H5T_STD_I8LE","value":[]}|done
+attribute|{"shape":[0,65537],"type":"H5T_STD_I8LE","value":[]}|too many cells
 attribute|{"maxdims":7,"shape":"H5S_NULL","type":"H5T_STD_I8LE","value":null}|done"#;
 
 /// Single keys.
@@ -128,6 +130,14 @@ fn outcome<T: Drop>(alloc: Global, given: &Result<T, BodyFault>) -> Result<Strin
     match given {
         Ok(_) => Ok(String::from_str(alloc, "done")?),
         Err(fault) => refused(alloc, fault),
+    }
+}
+
+fn attribute_told(alloc: Global, body: &Tree) -> Result<String, Fail> {
+    match attribute_of(alloc, body) {
+        Ok(_) => Ok(String::from_str(alloc, "done")?),
+        Err(AttributeBodyFault::TooManyCells) => Ok(String::from_str(alloc, "too many cells")?),
+        Err(AttributeBodyFault::Body(fault)) => refused(alloc, &fault),
     }
 }
 
@@ -193,7 +203,7 @@ fn read_as(alloc: Global, what: &str, body: Tree) -> Result<String, Fail> {
         "dataset" => made(alloc, Kind::Dataset, &body),
         "datatype" => made(alloc, Kind::Datatype, &body),
         "layout" => layout_told(alloc, &body),
-        "attribute" => outcome(alloc, &attribute_of(alloc, &body)),
+        "attribute" => attribute_told(alloc, &body),
         "folder" => outcome(alloc, &folder_of(&body)),
         "is folder" => folder_told(alloc, &body),
         "acl" => outcome(alloc, &rights_of(&body)),

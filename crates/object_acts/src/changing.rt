@@ -8,14 +8,18 @@ ghost use Rattle.object_ids.specs.declared.ids.Kind.{Kind};
 ghost use Rattle.object_ops.specs.Replies.{Follows, was_done};
 ghost use Rattle.object_ops.specs.Conditions.{IsSoundOp, AreDims};
 ghost use Rattle.object_acts.specs.Arrays.Arrays.{shape_changed, value_written};
-ghost use Rattle.object_acts.specs.Arrays.Marked.{IsDone, is_truncated, is_written};
+ghost use Rattle.object_acts.specs.Arrays.Marked.{AddsFew, AddsMany, IsDone};
+ghost use Rattle.object_acts.specs.Arrays.Marked.{is_truncated, is_written, selected};
+ghost use Rattle.object_acts.specs.Arrays.Stops.{IfTooMany};
 ghost use Rattle.object_acts.specs.Objects.{unmarked, IsOfKind, KeepsTrack};
 ghost use Rattle.object_acts.specs.Acts.{change_of, changes_object, drop_from, link_put};
 ghost use Rattle.object_acts.specs.Acts.{on_array, on_links};
-ghost use Rattle.object_acts.specs.Marked.{MarksAloneIn, in_array, is_changed_by, is_dirty_in};
+ghost use Rattle.object_acts.specs.Marked.{AddsFewTo, AddsManyTo, IsArrayAnd, MarksAloneIn};
+ghost use Rattle.object_acts.specs.Marked.{in_array, is_changed_by, is_dirty_in};
 
 use crate::arrays::{change_shape, write_value};
 use crate::attribute_acts::{drop_attribute, put_attribute};
+use crate::fault::ChangeFault;
 use crate::link_acts::{drop_link, put_link};
 use crate::objects::{Body, Object};
 use groups_links::LinkTo;
@@ -30,8 +34,9 @@ use std::alloc::{AllocError, Global};
 ///
 /// # Errors
 ///
-/// Only where memory runs out, or where a write would add too many bytes of chunks.
-pub fn change(alloc: Global, object: &mut Object, op: &Op) -> Result<Reply, AllocError>
+/// `TooManyNew` exactly where a write that nothing refuses would add chunks of more than
+/// [`MAX_NEW_BYTES`](crate::arrays::MAX_NEW_BYTES) bytes, or `NoMemory`.
+pub fn change(alloc: Global, object: &mut Object, op: &Op) -> Result<Reply, ChangeFault>
     requires changes { changes_object op.now ≡ true }
     requires sound { IsSoundOp op.now }
     ensures acts { Follows (change_of op.now (unmarked object.old)) (unmarked object.old)
@@ -40,16 +45,22 @@ pub fn change(alloc: Global, object: &mut Object, op: &Op) -> Result<Reply, Allo
     ensures tracked { KeepsTrack object.old.body object.new.body }
     ensures alone { MarksAloneIn (λ i. IsDone result
         × (is_changed_by op.now object.old.body i ≡ true)) object.old.body object.new.body }
+    ensures few { IsDone result → AddsFewTo op.now object.old.body }
+    ensures many { IfTooMany result (AddsManyTo op.now object.old.body) }
+    ensures judged { IfTooMany result
+        (was_done (change_of op.now (unmarked object.old)).0 ≡ true) }
 {
     match op {
-        Op::PutLink { id, title, link } => link_put(alloc, object, id, title, link),
-        Op::DropLink { id, title } => link_dropped(alloc, object, id, title),
+        Op::PutLink { id, title, link } => Ok(link_put(alloc, object, id, title, link)?),
+        Op::DropLink { id, title } => Ok(link_dropped(alloc, object, id, title)?),
         Op::PutAttribute {
             name,
             attribute,
             ..
-        } => put_attribute(alloc, &mut object.attributes, name, attribute),
-        Op::DropAttribute { name, .. } => drop_attribute(alloc, &mut object.attributes, name),
+        } => Ok(put_attribute(alloc, &mut object.attributes, name, attribute)?),
+        Op::DropAttribute { name, .. } => {
+            Ok(drop_attribute(alloc, &mut object.attributes, name)?)
+        }
         Op::PutShape { id, dims } => Ok(shape_put(alloc, object, id, dims)),
         Op::PutValue { id, part, value } => value_put(alloc, object, id, part, value),
         _ => Ok(Reply::done(alloc, 200)),
@@ -144,7 +155,7 @@ fn value_put(
     id: &ObjectId,
     part: &Part,
     value: &Tree,
-) -> Result<Reply, AllocError>
+) -> Result<Reply, ChangeFault>
     ensures acts { Follows (on_array id.now (value_written part.now value.now)
         (unmarked object.old).attributes (unmarked object.old).body) (unmarked object.old)
         result (unmarked object.new) }
@@ -153,6 +164,12 @@ fn value_put(
     ensures alone { MarksAloneIn (λ i. IsDone result
         × (in_array (λ g. is_written part.now g i) object.old.body ≡ true))
         object.old.body object.new.body }
+    ensures few { IsDone result
+        → IsArrayAnd (λ s. AddsFew s (selected part.now s.grid.shape)) object.old.body }
+    ensures many { IfTooMany result
+        (IsArrayAnd (λ s. AddsMany s (selected part.now s.grid.shape)) object.old.body) }
+    ensures judged { IfTooMany result (was_done (on_array id.now (value_written part.now value.now)
+        (unmarked object.old).attributes (unmarked object.old).body).0 ≡ true) }
 {
     match &mut object.body {
         Body::Dataset(array) => write_value(alloc, array, part, value),

@@ -10,6 +10,7 @@ mod changing;
 mod crossing;
 pub mod depths;
 pub mod exact;
+mod fault;
 mod laws;
 mod link_acts;
 mod names;
@@ -19,6 +20,7 @@ mod trees;
 
 pub use changing::{change, link_made};
 pub use crossing::object_is_sent;
+pub use fault::ChangeFault;
 pub use laws::refusals_leave_the_object;
 pub use objects::{Body, Object};
 pub use reading::reply;

@@ -1,5 +1,5 @@
 -- The objects that bodies are, and what their keys say: a folder, an entry, an attribute, a link, dims.
-use Rattle.std.specs.Prelude.{ℕ, List, [], ◌∷◌, Bool, true, false, Option, Some, None, is_some, option_and_then, Result, Ok, Err, codes, if◌then◌else◌}
+use Rattle.std.specs.Prelude.{ℕ, ◌<◌, List, [], ◌∷◌, Bool, true, false, Option, Some, None, is_some, option_and_then, Result, Ok, Err, IsOkAnd, codes, if◌then◌else◌}
 use Rattle.serde_json.specs.Data.{Data, object, no_members}
 use Rattle.serde_json.specs.Find.{get, as_object}
 use Rattle.object_ids.specs.IdValues.{Id}
@@ -30,7 +30,7 @@ use Rattle.groups_links.specs.Targets.{link_in}
 use Rattle.groups_links.specs.declared.reading.LinkFault.{LinkFault}
 use Rattle.groups_links.specs.declared.reading.LinkFault.TheVariants as links
 use Rattle.groups_links.specs.declared.target.LinkTo.{LinkTo}
-use Rattle.json_trees.specs.Faults.{◌>>=◌}
+use Rattle.json_trees.specs.Faults.{◌>>=◌, Gives as GivesTold}
 use Rattle.object_ops.specs.declared.refusals.Refusal.{Refusal}
 use Rattle.object_ops.specs.declared.refusals.Refusal.TheVariants.{BadJson, BadField, UnsupportedType, BadShape, BadName}
 use Rattle.object_ops.specs.declared.words.FieldWord.TheVariants as field
@@ -38,7 +38,9 @@ use Rattle.object_ops.specs.declared.words.ShapeWord.{ShapeWord}
 use Rattle.object_ops.specs.declared.words.ShapeWord.TheVariants as word
 use Rattle.request_bodies.specs.declared.faults.BodyFault.{BodyFault}
 use Rattle.request_bodies.specs.declared.faults.BodyFault.TheVariants as bodies
-use Rattle.request_bodies.specs.Refusing.{or_refuse}
+use Rattle.request_bodies.specs.declared.faults.AttributeBodyFault.{AttributeBodyFault}
+use Rattle.request_bodies.specs.declared.faults.AttributeBodyFault.TheVariants as attribute_body
+use Rattle.request_bodies.specs.Refusing.{Tells, or_refuse}
 use Rattle.json_trees.specs.Trees.{tree_in}
 
 -- ---- the object of a body
@@ -110,6 +112,15 @@ room shape = room_of (dims_of shape)
 -- the most of them that an attribute of a request may have
 abbrev pub most_cells : ℕ
 most_cells = 65536
+
+-- one fault of a body tells what it always tells; the other, that the attribute was found and has more cells
+abbrev pub TellsOfAttribute : AttributeBodyFault → Result Attribute Refusal → Type 0
+TellsOfAttribute (attribute_body.Body fault) r = Tells fault r
+TellsOfAttribute attribute_body.TooManyCells r = IsOkAnd r (λ a. most_cells < room a.shape)
+
+-- a call gives the attribute that the tests find, unless it has too many cells, or memory ran out
+abbrev pub GivesAttribute : Result Attribute AttributeBodyFault → Result Attribute Refusal → Type 0
+GivesAttribute given found = GivesTold TellsOfAttribute (λ a. a) given found
 
 -- ---- ids, titles, links
 

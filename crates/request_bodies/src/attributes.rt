@@ -6,10 +6,10 @@ ghost use Rattle.request_bodies.specs.Bodies.{attribute_in, attribute_refusal, s
 ghost use Rattle.request_bodies.specs.Bodies.{shape_refusal, type_refusal};
 ghost use Rattle.request_bodies.specs.Refusing.{Answers};
 ghost use Rattle.request_bodies.specs.declared.faults.BodyFault.TheVariants.{NoMemory, Refused};
-ghost use Rattle.request_bodies.specs.Bodies.{attribute_fault, room, most_cells};
+ghost use Rattle.request_bodies.specs.Bodies.{GivesAttribute, attribute_fault, room, most_cells};
 ghost use Rattle.shapes.specs.RowMajor.{room_of};
 
-use crate::faults::BodyFault;
+use crate::faults::{AttributeBodyFault, BodyFault};
 use crate::keys::bad_field;
 use hdf_types::{Cause, TypeFault};
 use hdf_values::{Attribute, AttributeFault, read_attribute};
@@ -26,19 +26,27 @@ pub const MAX_ATTRIBUTE_CELLS: u64 = 65_536;
 /// # Errors
 ///
 /// The first of `BadField` with `type`, `UnsupportedType` and `BadShape`; where the type and the shape are
-/// accepted, `BadField` with `value` for a fault of the value or of its size. `NoMemory` also where it has more than
-/// [`MAX_ATTRIBUTE_CELLS`] cells.
-pub fn attribute_of(alloc: Global, body: &Tree) -> Result<Attribute, BodyFault>
-    ensures exact { Answers result (attribute_in body.now) }
+/// accepted, `BadField` with `value` for a fault of the value or of its size. `TooManyCells` exactly where it is refused
+/// for nothing and has more than [`MAX_ATTRIBUTE_CELLS`] cells.
+pub fn attribute_of(alloc: Global, body: &Tree) -> Result<Attribute, AttributeBodyFault>
+    ensures exact { GivesAttribute result (attribute_in body.now) }
     ensures sound { IfOk result (λ a. IsSoundAttribute (content a)) }
     ensures few { IfOk result (λ a. room a.shape ≤ most_cells) }
 {
-    let attribute = read_attribute(alloc, body.value())?;
+    let attribute = spelled(alloc, body)?;
     if has_few_cells(&attribute.shape) {
         Ok(attribute)
     } else {
-        Err(BodyFault::NoMemory)
+        Err(AttributeBodyFault::TooManyCells)
     }
+}
+
+// The attribute, however many cells it has.
+fn spelled(alloc: Global, body: &Tree) -> Result<Attribute, BodyFault>
+    ensures exact { Answers result (attribute_in body.now) }
+    ensures sound { IfOk result (λ a. IsSoundAttribute (content a)) }
+{
+    Ok(read_attribute(alloc, body.value())?)
 }
 
 fn has_few_cells(shape: &Shape) -> bool

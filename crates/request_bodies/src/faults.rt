@@ -2,6 +2,7 @@
 
 ghost use Rattle.std.specs.Prelude.{◌≡◌};
 ghost use Rattle.request_bodies.specs.declared.faults.BodyFault.TheVariants.{NoMemory, Refused};
+ghost use Rattle.request_bodies.specs.declared.faults.AttributeBodyFault.TheVariants.{Body};
 
 use object_ops::Refusal;
 use std::alloc::AllocError;
@@ -13,6 +14,23 @@ pub enum BodyFault {
     Refused(Refusal),
     /// Memory ran out.
     NoMemory,
+}
+
+/// Why a body gives no attribute.
+#[derive(Drop)]
+pub enum AttributeBodyFault {
+    /// The attribute has more than [`MAX_ATTRIBUTE_CELLS`](crate::MAX_ATTRIBUTE_CELLS) cells.
+    TooManyCells,
+    /// The body is refused, or memory ran out.
+    Body(BodyFault),
+}
+
+impl From<BodyFault> for AttributeBodyFault {
+    ghost from_gives = { λ fault e. e ≡ Body fault };
+
+    fn from(fault: BodyFault) -> AttributeBodyFault {
+        AttributeBodyFault::Body(fault)
+    }
 }
 
 impl From<Refusal> for BodyFault {

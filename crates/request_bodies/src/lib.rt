@@ -19,7 +19,7 @@ mod values;
 
 pub use attributes::{MAX_ATTRIBUTE_CELLS, attribute_of};
 pub use bodies::body_of;
-pub use faults::BodyFault;
+pub use faults::{AttributeBodyFault, BodyFault};
 pub use keys::{dims_of, folder_of, rights_of};
 pub use laws::{attributes_in_order, limits_of_bodies, makes_in_order};
 pub use links::{MAX_NAME, id_of_kind, name_of, target_of, title_of};

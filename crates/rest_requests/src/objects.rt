@@ -1,16 +1,20 @@
 //! What is asked of objects, their links and their attributes.
 
 ghost use Rattle.std.specs.Prelude.{◌≡◌, IfOk};
+ghost use Rattle.hdf_values.specs.Attributes.{IsSoundAttribute, content};
 ghost use Rattle.object_ops.specs.Conditions.{IsSoundOp};
+ghost use Rattle.request_bodies.specs.Bodies.{attribute_in};
 ghost use Rattle.request_bodies.specs.Refusing.{Answers};
 ghost use Rattle.rest_requests.specs.Operations.{drop_attribute, drop_link, drop_object, get_attribute};
 ghost use Rattle.rest_requests.specs.Operations.{get_link, get_object, list_attributes, list_links};
 ghost use Rattle.rest_requests.specs.Operations.{make_object, put_attribute, put_link};
 
 use crate::parameters::{SECOND, id_at, name_at, title_at};
+use hdf_values::Attribute;
+use json_trees::Tree;
 use object_ids::Kind;
 use object_ops::Op;
-use request_bodies::{BodyFault, attribute_of, body_of, make_of, target_of};
+use request_bodies::{AttributeBodyFault, BodyFault, attribute_of, body_of, make_of, target_of};
 use std::alloc::Global;
 
 pub(crate) fn make_object(alloc: Global, kind: Kind, body: &[u8]) -> Result<Op, BodyFault>
@@ -103,13 +107,25 @@ pub(crate) fn put_attribute(
 {
     let tree = body_of(alloc, body)?;
     let id = id_at(alloc, kind, path)?;
-    let attribute = attribute_of(alloc, &tree)?;
+    let attribute = attribute_in(alloc, &tree)?;
     let name = name_at(alloc, path, SECOND)?;
     Ok(Op::PutAttribute {
         id,
         name,
         attribute,
     })
+}
+
+// The attribute of a body. One of too many cells is answered as want of memory is.
+fn attribute_in(alloc: Global, body: &Tree) -> Result<Attribute, BodyFault>
+    ensures exact { Answers result (attribute_in body.now) }
+    ensures sound { IfOk result (λ a. IsSoundAttribute (content a)) }
+{
+    match attribute_of(alloc, body) {
+        Ok(attribute) => Ok(attribute),
+        Err(AttributeBodyFault::TooManyCells) => Err(BodyFault::NoMemory),
+        Err(AttributeBodyFault::Body(fault)) => Err(fault),
+    }
 }
 
 pub(crate) fn drop_attribute(alloc: Global, kind: Kind, path: &str) -> Result<Op, BodyFault>

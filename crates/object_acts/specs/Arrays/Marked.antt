@@ -1,5 +1,5 @@
 -- Which chunks requests mark as changed.
-use Rattle.std.specs.Prelude.{◌≡◌, ◌⊎◌, ◌≤◌, ◌*◌, ℕ, Bool, true, not, List, [], Result, Ok, Err}
+use Rattle.std.specs.Prelude.{◌≡◌, ◌⊎◌, ◌<◌, ◌≤◌, ◌*◌, ℕ, Bool, true, not, List, [], Result, Ok, Err}
 use Rattle.hdf_types.specs.Reading.{size_of}
 use Rattle.shapes.specs.RowMajor.{cell_count}
 use Rattle.shapes.specs.declared.Shape.{Shape}
@@ -39,8 +39,18 @@ is_truncated dims g i = not (keeps i g.chunk (dims_of g.shape) dims)
 abbrev pub MarksAlone : (List ℕ → Type 0) → Stored → Stored → Type 0
 MarksAlone P old new = (i : List ℕ) → is_dirty new i ≡ true → (is_dirty old i ≡ true) ⊎ P i
 
+-- how many bytes so many chunks of an array have
+abbrev pub chunk_bytes : Grid → ℕ → ℕ
+chunk_bytes g many = many * (cell_count g.chunk * size_of g.kind)
+
 -- the chunks that a write of these cells adds have few enough bytes
 pub record AddsFew (s : Stored) (ats : List (List ℕ)) : Type 0 where
   pub many : ℕ
   pub adds : Adds s ats many
-  pub few : many * (cell_count s.grid.chunk * size_of s.grid.kind) ≤ most_new_bytes
+  pub few : chunk_bytes s.grid many ≤ most_new_bytes
+
+-- they have more than they may
+pub record AddsMany (s : Stored) (ats : List (List ℕ)) : Type 0 where
+  pub many : ℕ
+  pub adds : Adds s ats many
+  pub above : most_new_bytes < chunk_bytes s.grid many

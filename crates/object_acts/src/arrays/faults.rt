@@ -6,6 +6,7 @@ ghost use Rattle.object_ops.specs.declared.refusals.Refusal.TheVariants.{BadSele
 ghost use Rattle.object_acts.specs.Arrays.Stops.{point_stop, value_stop, settled};
 ghost use Rattle.object_acts.specs.declared.arrays.faults.Stop.TheVariants.{NoMemory};
 
+use crate::fault::ChangeFault;
 use hdf_values::ValueFault;
 use hyperslab::{MAX_SELECTED, SlabFault};
 use object_ops::{Refusal, Reply, SelectWord, ValueWord};
@@ -18,6 +19,8 @@ use std::alloc::AllocError;
 pub(crate) enum Stop {
     /// Memory ran out.
     NoMemory,
+    /// The chunks that a write adds would have more bytes than they may.
+    TooManyNew,
     /// The request is refused.
     Refused(Refusal),
 }
@@ -78,12 +81,13 @@ impl From<ValueFault> for Stop {
 }
 
 /// What is answered in the end.
-pub(crate) fn settle(outcome: Result<Reply, Stop>) -> Result<Reply, AllocError>
+pub(crate) fn settle(outcome: Result<Reply, Stop>) -> Result<Reply, ChangeFault>
     ensures { result ≡ settled outcome }
 {
     match outcome {
         Ok(reply) => Ok(reply),
-        Err(Stop::NoMemory) => Err(AllocError),
+        Err(Stop::NoMemory) => Err(ChangeFault::NoMemory),
+        Err(Stop::TooManyNew) => Err(ChangeFault::TooManyNew),
         Err(Stop::Refused(refusal)) => Ok(Reply::Refused(refusal)),
     }
 }

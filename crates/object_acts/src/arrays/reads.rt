@@ -56,7 +56,7 @@ pub fn read_value(
 pub fn read_points(alloc: Global, array: &Array, points: &Tree) -> Result<Reply, AllocError>
     ensures { IfOk result (λ r. r ≡ points_read points.now array.now.grid) }
 {
-    settle(points_reply(alloc, array, points.value()))
+    Ok(settle(points_reply(alloc, array, points.value()))?)
 }
 
 /// The shape of an array.

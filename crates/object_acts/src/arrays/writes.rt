@@ -1,6 +1,6 @@
 //! What requests write to an array.
 
-ghost use Rattle.std.specs.Prelude.{◌≡◌, ◌≤◌, ◌*◌, ℕ, List, All, IfOk, OnOk, true};
+ghost use Rattle.std.specs.Prelude.{◌≡◌, ◌≤◌, ℕ, List, All, IfOk, nat_le, true};
 ghost use Rattle.serde_json.specs.View.{view};
 ghost use Rattle.json_trees.specs.Shown.{shown};
 ghost use Rattle.json_trees.specs.Faults.{Gives};
@@ -13,18 +13,18 @@ ghost use Rattle.hdf_values.specs.Nested.{AreEncoded};
 ghost use Rattle.point_select.specs.Faults.{points_of};
 ghost use Rattle.chunk_store.specs.Marks.{IsTracked, touches};
 ghost use Rattle.object_ops.specs.Replies.{Follows, was_done};
-ghost use Rattle.object_acts.specs.Arrays.Stops.{Tells, settled};
+ghost use Rattle.object_acts.specs.Arrays.Stops.{IfTooMany, Tells, settled};
 ghost use Rattle.object_acts.specs.Arrays.Arrays.{bytes_read, tree_written, slab_written, points_written};
 ghost use Rattle.object_acts.specs.Arrays.Arrays.{value_written, shape_changed};
-ghost use Rattle.object_acts.specs.Arrays.Marked.{AddsFew, IsDone, MarksAlone, cells_in, is_truncated};
-ghost use Rattle.object_acts.specs.Arrays.Marked.{is_written, selected};
+ghost use Rattle.object_acts.specs.Arrays.Marked.{AddsFew, AddsMany, IsDone, MarksAlone, cells_in};
+ghost use Rattle.object_acts.specs.Arrays.Marked.{chunk_bytes, is_truncated, is_written, selected};
 ghost use Rattle.object_acts.specs.Arrays.Faults.{most_new_bytes};
-ghost use Rattle.hdf_types.specs.Reading.{size_of};
 ghost use Rattle.object_acts.specs.Arrays.Writes.{points_region, slab_region};
 
 use crate::arrays::bytes::{bytes_of, too_many_bytes};
 use crate::arrays::faults::{Stop, refused_dims, refused_slab, settle};
 use crate::arrays::{MAX_BYTES, MAX_NEW_BYTES};
+use crate::fault::ChangeFault;
 use chunk_store::Array;
 use hdf_values::read_nested;
 use hyperslab::{Slab, from_lists};
@@ -33,7 +33,7 @@ use object_ops::{Part, Reply};
 use point_select::read_points;
 use serde_json::Value;
 use shapes::{Dims, resized};
-use std::alloc::{AllocError, Global};
+use std::alloc::Global;
 
 /// Other elements in a part of an array: a tree nested by how many numbers are selected on each axis, or a list with
 /// one element for each point, of which the last of a repeated point counts. The reply is refused, and nothing is
@@ -42,14 +42,14 @@ use std::alloc::{AllocError, Global};
 ///
 /// # Errors
 ///
-/// Only where memory runs out, or where the chunks that the write adds have more than [`MAX_NEW_BYTES`] bytes; then the
-/// array is as it was.
+/// `TooManyNew` exactly where the write is refused for nothing and the chunks that it adds have more than
+/// [`MAX_NEW_BYTES`] bytes, or `NoMemory`; then the array is as it was.
 pub fn write_value(
     alloc: Global,
     array: &mut Array,
     part: &Part,
     value: &Tree,
-) -> Result<Reply, AllocError>
+) -> Result<Reply, ChangeFault>
     ensures acts { Follows (value_written part.now value.now array.old.grid) array.old.grid
         result array.new.grid }
     ensures tracked { (held : List ℕ → List ℕ) → IsTracked held array.old
@@ -57,6 +57,9 @@ pub fn write_value(
     ensures alone { MarksAlone (λ i. IsDone result
         × (is_written part.now array.old.grid i ≡ true)) array.old array.new }
     ensures few { IsDone result → AddsFew array.old (selected part.now array.old.grid.shape) }
+    ensures many { IfTooMany result (AddsMany array.old (selected part.now array.old.grid.shape)) }
+    ensures judged { IfTooMany result
+        (was_done (value_written part.now value.now array.old.grid).0 ≡ true) }
 {
     match part {
         Part::Slab { start, stop, step } => write_lists(
@@ -113,7 +116,7 @@ fn write_lists(
     stop: Option<&Value>,
     step: Option<&Value>,
     value: &Value,
-) -> Result<Reply, AllocError>
+) -> Result<Reply, ChangeFault>
     ensures acts { Follows (slab_written array.old.grid (view value.now)
         (lists_slab array.old.grid.shape (shown start.entry) (shown stop.entry) (shown step.entry)))
         array.old.grid result array.new.grid }
@@ -126,6 +129,12 @@ fn write_lists(
     ensures few { IsDone result → AddsFew array.old (cells_in (slab_region array.old.grid.shape
         (lists_slab array.old.grid.shape
         (shown start.entry) (shown stop.entry) (shown step.entry)))) }
+    ensures many { IfTooMany result (AddsMany array.old (cells_in (slab_region array.old.grid.shape
+        (lists_slab array.old.grid.shape
+        (shown start.entry) (shown stop.entry) (shown step.entry))))) }
+    ensures judged { IfTooMany result (was_done (slab_written array.old.grid (view value.now)
+        (lists_slab array.old.grid.shape
+        (shown start.entry) (shown stop.entry) (shown step.entry))).0 ≡ true) }
 {
     array.is_whole();
     match from_lists(start, stop, step, array.shape()) {
@@ -146,10 +155,17 @@ fn write_slab(alloc: Global, array: &mut Array, slab: &Slab, value: &Value) -> R
         (slab_cells slab.now array.old.grid.shape) i ≡ true)) array.old array.new }
     ensures few { IsDone (settled result) → AddsFew array.old
         (slab_cells slab.now array.old.grid.shape) }
+    ensures many { IfTooMany (settled result) (AddsMany array.old
+        (slab_cells slab.now array.old.grid.shape)) }
+    ensures judged { IfTooMany (settled result) (was_done (tree_written array.old.grid
+        (slab_cells slab.now array.old.grid.shape) (extents_of slab.now) (view value.now)).0
+        ≡ true) }
 {
     let bytes = elements(alloc, array, slab.count(), &slab.extents(), value)?;
     let new = array.slab_adds(alloc, slab)?;
-    few_enough(array, new)?;
+    if !are_few(array, new) {
+        return Err(Stop::TooManyNew);
+    }
     array.write_slab(alloc, slab, bytes.as_slice())?;
     Ok(Reply::done(alloc, 200))
 }
@@ -170,25 +186,27 @@ fn write_points(
         array.old array.new }
     ensures few { IsDone (settled result) → AddsFew array.old
         (cells_in (points_region (points_of (view points.now) array.old.grid.shape))) }
+    ensures many { IfTooMany (settled result) (AddsMany array.old
+        (cells_in (points_region (points_of (view points.now) array.old.grid.shape)))) }
+    ensures judged { IfTooMany (settled result) (was_done (points_written array.old.grid
+        (view value.now) (points_of (view points.now) array.old.grid.shape)).0 ≡ true) }
 {
     let points = read_points(alloc, points, array.shape())?;
     let many = points.len() as u64;
     let bytes = elements(alloc, array, many, &Dims::repeated(many, 1), value)?;
     let new = array.points_add(alloc, &points)?;
-    few_enough(array, new)?;
+    if !are_few(array, new) {
+        return Err(Stop::TooManyNew);
+    }
     array.write_points(alloc, &points, bytes.as_slice())?;
     Ok(Reply::done(alloc, 200))
 }
 
-/// Finds no memory for so many chunks of an array, where they have more than [`MAX_NEW_BYTES`] bytes.
-fn few_enough(array: &Array, many: u64) -> Result<(), AllocError>
-    ensures { OnOk result (many * (cell_count array.now.grid.chunk * size_of array.now.grid.kind)
-        ≤ most_new_bytes) }
+/// Whether so many chunks of an array have at most [`MAX_NEW_BYTES`] bytes.
+fn are_few(array: &Array, many: u64) -> bool
+    ensures { result ≡ nat_le (chunk_bytes array.now.grid many) most_new_bytes }
 {
-    if many.saturating_mul(array.chunk_size()) > MAX_NEW_BYTES {
-        return Err(AllocError);
-    }
-    Ok(())
+    many.saturating_mul(array.chunk_size()) <= MAX_NEW_BYTES
 }
 
 /// The bytes of the elements of a tree for so many cells of an array.
