@@ -1,57 +1,120 @@
 -- Where the slots of a lane stand, and the objects in them.
-use Rattle.std.proofs.Common.{◌≡◌, ◌≢◌, ◌⊎◌, ⊎_elim, ℕ, ◌<◌, ◌==◌, true, false, cond, Option, Some, None, is_some, OnOk, OnErr, Result, Ok, Err, option_map, refl, sym, ap, subst, ◌∙◌}
+use Rattle.std.proofs.Common.{◌≡◌, ◌≢◌, ◌⊎◌, inl, inr, ⊎_elim, ℕ, ◌<◌, ◌==◌, true, false, cond, Option, Some, None, is_some, OnOk, OnErr, Result, Ok, Err, option_map, refl, sym, ap, subst, ◌∙◌}
 use Rattle.std.specs.FinMap.{empty, get, insert, get-empty, same_map}
 use Rattle.std.proofs.lemmas.Option.{none-some}
 use Rattle.object_ids.specs.IdOrder.{id_order}
 use Rattle.object_ids.specs.IdValues.{Id}
-use Rattle.object_ids.specs.Ids.{lane_of}
+use Rattle.object_ids.specs.Ids.{InRange, lane_of}
 use Rattle.object_ids.proofs.IdOrders.{id_order_once, id_order_total}
 use Rattle.object_acts.specs.declared.objects.Object.{Object}
 use Rattle.object_acts.specs.Objects.{unmarked, IsOfKind, Objects}
+use Rattle.chunk_owner.specs.declared.slots.changes.Changes.{Changes}
 use Rattle.chunk_owner.specs.declared.slots.slot.Mark.{Mark}
 use Rattle.chunk_owner.specs.declared.slots.slot.Mark.TheVariants.{Kept, Changed, Dropped}
 use Rattle.chunk_owner.specs.declared.slots.slot.Slot.{Slot}
+use Rattle.chunk_owner.specs.Slots.Listed.{AreListed, IsNoted, KeepsListed, Notes, NotesTouched}
 use Rattle.chunk_owner.specs.Slots.Settled.{Settles}
-use Rattle.chunk_owner.specs.Slots.Slots.{HasSameIds, Slots, object_by, object_of, objects_of}
+use Rattle.chunk_owner.specs.Slots.Slots.{HasSameIds, IsSpelledSlot, IsStillSlot, Slots, object_by, object_of, objects_of}
 use Rattle.chunk_owner.specs.Slots.Slots.{AreOfKind as AreSlotsOfKind}
+use Rattle.chunk_owner.proofs.OfSlots.Forgotten.{same_domain}
+use Rattle.chunk_owner.proofs.OfSlots.Listing.{listed_at, noted_more}
 use Rattle.chunk_owner.proofs.OfSlots.Placed.{everywhere}
+use Rattle.chunk_owner.proofs.OfSlots.Spelled.{settles_spelled}
 use Rattle.chunk_owner.proofs.OfSlots.Standing.{get-objects_of, objects-insert}
-use Rattle.chunk_owner.specs.Lanes.{AreHome, AreOfKind, AreShown, AreSlotsOf, Each, Forgets, IsWhole, LeavesOthers, LeavesUntouched, StandsIn, lane_with, shown}
+use Rattle.chunk_owner.specs.Lanes.{AreOfKind, AreShown, AreSlotsOf, Each, Forgets, IsWhole, LeavesOthers, LeavesUntouched, StandsIn, lane_with, shown}
 use Rattle.chunk_owner.specs.Acts.{IsTouchedIn}
 use Rattle.chunk_owner.proofs.Eaches.{get-shown, option-unmarked, unmarked_kind}
 
 -- ---- slots stay at home
 
-home_others : (lane lanes : ℕ) (m n : Slots) (id : Id) → LeavesOthers id m n → lane_of lanes id ≡ lane → AreHome lane lanes m → AreHome lane lanes n
-home_others lane lanes m n id others is home q =
-    everywhere (λ q o p. ((s : Slot) → o ≡ Some s → lane_of lanes q ≡ lane) → (s : Slot) → p ≡ Some s → lane_of lanes q ≡ lane) m n id others (λ were s e. is) (λ q o were. were) q (home q)
+-- what holds of each id that has a slot
+abbrev EachAt : (Id → Type 0) → Slots → Type 0
+EachAt P m = (q : Id) (s : Slot) → get m q ≡ Some s → P q
+
+each_others : (P : Id → Type 0) (m n : Slots) (id : Id) → LeavesOthers id m n → P id → EachAt P m → EachAt P n
+each_others P m n id others is were q =
+    everywhere (λ q o p. ((s : Slot) → o ≡ Some s → P q) → (s : Slot) → p ≡ Some s → P q) m n id others (λ before s e. is) (λ q o before. before) q (were q)
+
+each_still : (P : Id → Type 0) (m n : Slots) → HasSameIds m n → EachAt P m → EachAt P n
+each_still P m n same were q s there = at (get m q) refl where
+  at : (o : Option Slot) → get m q ≡ o → P q
+  at None e = absurd (none-some s (sym (same q e) ∙ there))
+  at (Some t) e = were q t e
+
+spelled_others : (m n : Slots) (id : Id) → LeavesOthers id m n → IsSpelledSlot (get n id) → ((q : Id) → IsSpelledSlot (get m q)) → (q : Id) → IsSpelledSlot (get n q)
+spelled_others m n id others is were q = everywhere (λ q o p. IsSpelledSlot o → IsSpelledSlot p) m n id others (λ before. is) (λ q o before. before) q (were q)
+
+-- no id more has a slot after a cut
+cut_ids : (m n : Slots) → ((q : Id) → (get n q ≡ get m q) ⊎ Settles (get m q) (get n q)) → HasSameIds m n
+cut_ids m n each q none = ⊎_elim (λ same. same ∙ none) (λ settles. subst (λ (o : Option Slot). Settles o (get n q)) none settles) (each q)
 
 pub left_at : (t : Option Id) (id : Id) (m n : Slots) → t ≡ Some id → LeavesOthers id m n → LeavesUntouched t m n
 left_at t id m n same others = subst (λ (o : Option Id). LeavesUntouched o m n) (sym same) others
 
--- after a step at an id of the lane
-pub slots_after : (lane lanes : ℕ) (t : Option Id) (m n : Slots) → IsTouchedIn lane lanes t → LeavesUntouched t m n → AreSlotsOfKind n → AreSlotsOf lane lanes m → AreSlotsOf lane lanes n
-slots_after lane lanes None m n touched stay kinds were = absurd touched
-slots_after lane lanes (Some id) m n touched stay kinds were = record { below = were.below; home = home_others lane lanes m n id stay touched were.home; kinds = kinds }
+-- the slots of an owner, and what the next cut looks at
+module _ (lane lanes : ℕ) (m n : Slots) (old new : Changes) where
+  -- after a step at an id of the lane
+  pub owned_at : (id : Id) → lane_of lanes id ≡ lane → LeavesOthers id m n → Notes id n old new → AreSlotsOfKind n → AreSlotsOf lane lanes m × AreListed old m
+      → AreSlotsOf lane lanes n × AreListed new n
+  owned_at id is others notes kinds were = (
+    record {
+      below = were.0.below;
+      home = each_others (λ q. lane_of lanes q ≡ lane) m n id others is were.0.home;
+      range = each_others InRange m n id others notes.range were.0.range;
+      kinds = kinds;
+      spelled = spelled_others m n id others notes.here.spelled were.0.spelled;
+    },
+    listed_at old new m n id others notes were.1,
+  )
 
--- where no id has a slot that had none
-pub slots_still : (lane lanes : ℕ) (m n : Slots) → HasSameIds m n → AreSlotsOfKind n → AreSlotsOf lane lanes m → AreSlotsOf lane lanes n
-slots_still lane lanes m n same kinds were = record { below = were.below; home = λ q. home_at q; kinds = kinds } where
-  home_at : (q : Id) (s : Slot) → get n q ≡ Some s → lane_of lanes q ≡ lane
-  home_at q s there = at (get m q) refl where
-    at : (o : Option Slot) → get m q ≡ o → lane_of lanes q ≡ lane
-    at None e = absurd (none-some s (sym (same q e) ∙ there))
-    at (Some t) e = were.home q t e
+  pub owned_after : (t : Option Id) → IsTouchedIn lane lanes t → LeavesUntouched t m n → NotesTouched t n old new → AreSlotsOfKind n → AreSlotsOf lane lanes m × AreListed old m
+      → AreSlotsOf lane lanes n × AreListed new n
+  owned_after None touched stay notes kinds were = absurd touched
+  owned_after (Some id) touched stay notes kinds were = owned_at id touched stay notes kinds were
 
-pub slots_put : (lane lanes : ℕ) (m n : Slots) (id : Id) → lane_of lanes id ≡ lane → ((q : Id) → q ≢ id → get n q ≡ get m q) → AreSlotsOfKind n → AreSlotsOf lane lanes m → AreSlotsOf lane lanes n
-slots_put lane lanes m n id is others kinds were = record { below = were.below; home = home_others lane lanes m n id others is were.home; kinds = kinds }
+  -- after a domain's objects are removed
+  pub owned_without : (number : ℕ) → HasSameIds m n → ((q : Id) → q.domain ≢ number → get n q ≡ get m q) → ((q : Id) → q.domain ≡ number → IsNoted new q (get n q)) → KeepsListed old new
+      → AreSlotsOfKind n → AreSlotsOf lane lanes m × AreListed old m → AreSlotsOf lane lanes n × AreListed new n
+  owned_without number same others noted more kinds were = (
+    record {
+      below = were.0.below;
+      home = each_still (λ q. lane_of lanes q ≡ lane) m n same were.0.home;
+      range = each_still InRange m n same were.0.range;
+      kinds = kinds;
+      spelled = λ q. (fine q).spelled;
+    },
+    λ q isnt. (fine q).still isnt,
+  ) where
+    fine : (q : Id) → IsNoted new q (get n q)
+    fine q = at (same_domain q.domain number) where
+      at : (q.domain ≡ number) ⊎ (q.domain ≢ number) → IsNoted new q (get n q)
+      at (inl is) = noted q is
+      at (inr other) = subst (λ (o : Option Slot). IsNoted new q o) (sym (others q other)) (noted_more old new more q (get m q) (record { still = were.1 q; spelled = were.0.spelled q }))
 
-pub slots_empty : (lane lanes : ℕ) (m : Slots) → m ≡ empty → lane < lanes → AreSlotsOf lane lanes m
-slots_empty lane lanes m none small = subst (λ (w : Slots). AreSlotsOf lane lanes w) (sym none) (record {
-  below = small;
-  home = λ q s e. absurd (none-some s (sym (get-empty id_order q) ∙ e));
-  kinds = λ q s e. absurd (none-some s (sym (get-empty id_order q) ∙ e));
-})
+  -- after a cut
+  pub owned_cut : ((q : Id) → (get n q ≡ get m q) ⊎ Settles (get m q) (get n q)) → AreSlotsOfKind n → AreListed new n → AreSlotsOf lane lanes m → AreSlotsOf lane lanes n × AreListed new n
+  owned_cut each kinds listed were = (
+    record {
+      below = were.below;
+      home = each_still (λ q. lane_of lanes q ≡ lane) m n (cut_ids m n each) were.home;
+      range = each_still InRange m n (cut_ids m n each) were.range;
+      kinds = kinds;
+      spelled = λ q. ⊎_elim (λ same. subst IsSpelledSlot (sym same) (were.spelled q)) (λ settles. settles_spelled (get m q) (get n q) settles (were.spelled q)) (each q);
+    },
+    listed,
+  )
+
+pub owned_none : (lane lanes : ℕ) (m : Slots) (c : Changes) → m ≡ empty → lane < lanes → AreSlotsOf lane lanes m × AreListed c m
+owned_none lane lanes m c none small = subst (λ (w : Slots). AreSlotsOf lane lanes w × AreListed c w) (sym none) (
+  record {
+    below = small;
+    home = λ q s e. absurd (none-some s (sym (get-empty id_order q) ∙ e));
+    range = λ q s e. absurd (none-some s (sym (get-empty id_order q) ∙ e));
+    kinds = λ q s e. absurd (none-some s (sym (get-empty id_order q) ∙ e));
+    spelled = λ q. subst IsSpelledSlot (sym (get-empty id_order q)) tt;
+  },
+  λ q isnt. subst IsStillSlot (sym (get-empty id_order q)) tt,
+)
 
 -- ---- the objects in them
 
@@ -111,11 +174,6 @@ pub objects_put : {A E : Type 0} (r : Result A E) (m n : Slots) (id : Id) (o : O
 objects_put (Ok a) m n id o there others = objects-insert m n id (unmarked o) there others
 objects_put (Err e) m n id o there others = tt
 
-pub objects_stay : {A E : Type 0} (r : Result A E) (m n : Slots) → OnErr r (n ≡ m) → OnErr r (objects_of n ≡ objects_of m)
-objects_stay (Ok a) m n same = tt
-objects_stay (Err e) m n same = ap objects_of same
-
--- ---- a cut
-
-pub cut_ids : (m n : Slots) → ((q : Id) → (get n q ≡ get m q) ⊎ Settles (get m q) (get n q)) → HasSameIds m n
-cut_ids m n each q none = ⊎_elim (λ same. same ∙ none) (λ settles. subst (λ (o : Option Slot). Settles o (get n q)) none settles) (each q)
+pub lane_stays : {A E : Type 0} (r : Result A E) (lane lanes : ℕ) (m n : Slots) → OnErr r (n ≡ m) → OnErr r (lane_with lane lanes n ≡ lane_with lane lanes m)
+lane_stays (Ok a) lane lanes m n same = tt
+lane_stays (Err e) lane lanes m n same = ap (lane_with lane lanes) same

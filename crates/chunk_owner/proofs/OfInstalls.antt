@@ -3,3 +3,4 @@ pub mod Taking
 pub mod Walking
 pub mod Telling
 pub mod Standing
+pub mod Records

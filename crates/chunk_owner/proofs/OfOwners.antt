@@ -5,3 +5,5 @@ pub mod CutLemmas
 pub mod InstallLemmas
 pub mod HoldingLemmas
 pub mod UndroppedLemmas
+pub mod WalkLemmas
+pub mod DrainLemmas

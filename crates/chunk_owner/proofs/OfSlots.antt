@@ -10,7 +10,9 @@ pub mod KeptSlots
 pub mod Placed
 pub mod StillTold
 pub mod Standing
+pub mod Listing
 pub mod ChangedSlots
 pub mod Marks
 pub mod Forgotten
+pub mod Noting
 pub mod Spelled

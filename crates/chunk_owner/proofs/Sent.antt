@@ -7,6 +7,7 @@ use Rattle.hdf_types.specs.contracts.types.ElemType as elem
 use Rattle.chunk_store.specs.contracts.array.Array as array
 use Rattle.object_acts.specs.contracts.objects.Object as object
 use Rattle.object_acts.specs.contracts.objects.Body as body
+use Rattle.chunk_owner.specs.contracts.slots.changes.Changes as changes
 use Rattle.chunk_owner.specs.contracts.slots.slot.Slot as slot
 
 elem_send : IsSend elem.the_field.row
@@ -24,6 +25,9 @@ object_send = search (sendable, crosses, maps.crosses, elem_send, body_send) dep
 pub slot_send : IsSend slot.the_field.row
 slot_send = search (sendable, crosses, maps.crosses, object_send) depth 40 fits 20000
 
+pub changes_send : IsSend changes.the_field.row
+changes_send = search (sendable, crosses, maps.crosses) depth 40 fits 20000
+
 elem_sync : IsSync elem.the_field.row
 elem_sync = search (sendable, crosses, maps.crosses, knot.crosses) depth 40
 
@@ -38,3 +42,6 @@ object_sync = search (sendable, crosses, maps.crosses, elem_sync, body_sync) dep
 
 pub slot_sync : IsSync slot.the_field.row
 slot_sync = search (sendable, crosses, maps.crosses, object_sync) depth 40 fits 20000
+
+pub changes_sync : IsSync changes.the_field.row
+changes_sync = search (sendable, crosses, maps.crosses) depth 40 fits 20000

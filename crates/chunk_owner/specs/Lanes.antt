@@ -3,11 +3,12 @@ use Rattle.std.specs.Prelude.{◌≡◌, ◌≢◌, ℕ, ◌<◌, ◌==◌, Opti
 use Rattle.std.specs.FinMap.{get, insert, remove}
 use Rattle.containers.specs.TextMaps.Keyed.{with_values}
 use Rattle.object_ids.specs.IdValues.{Id}
-use Rattle.object_ids.specs.Ids.{lane_of}
+use Rattle.object_ids.specs.Ids.{InRange, lane_of}
 use Rattle.object_acts.specs.declared.objects.Object.{Object}
 use Rattle.object_acts.specs.Objects.{unmarked, IsOfKind, Objects}
 use Rattle.chunk_owner.specs.declared.slots.slot.Slot.{Slot}
-use Rattle.chunk_owner.specs.Slots.Slots.{Slots, objects_of}
+use Rattle.chunk_owner.specs.Installs.Records.{IsWholeObject}
+use Rattle.chunk_owner.specs.Slots.Slots.{IsSpelledSlot, Slots, objects_of}
 use Rattle.chunk_owner.specs.Slots.Slots.{AreOfKind as AreSlotsOfKind}
 
 -- the objects as requests see them
@@ -33,6 +34,10 @@ Each P objects = (id : Id) (o : Object) → get objects id ≡ Some o → P id o
 abbrev pub AreOfKind : Objects → Type 0
 AreOfKind = Each (λ id o. IsOfKind id.kind o)
 
+-- each stands at an id that may have a record, and each of its parts can be spelled
+abbrev pub AreWholeObjects : Objects → Type 0
+AreWholeObjects = Each (λ id o. InRange id × IsWholeObject (Some o))
+
 -- an id of the lane, with an object of the id's kind
 pub record StandsIn (lane lanes : ℕ) (id : Id) (o : Object) : Type 0 where
   pub own : lane_of lanes id ≡ lane
@@ -42,11 +47,13 @@ pub record StandsIn (lane lanes : ℕ) (id : Id) (o : Object) : Type 0 where
 abbrev pub AreHome : ℕ → ℕ → Slots → Type 0
 AreHome lane lanes slots = (id : Id) (s : Slot) → get slots id ≡ Some s → lane_of lanes id ≡ lane
 
--- the lane is one of the lanes, and each slot stands in it
+-- the lane is one of the lanes, and each slot stands in it, with an object each part of which can be spelled
 pub record AreSlotsOf (lane lanes : ℕ) (slots : Slots) : Type 0 where
   pub below : lane < lanes
   pub home : AreHome lane lanes slots
+  pub range : (id : Id) (s : Slot) → get slots id ≡ Some s → InRange id
   pub kinds : AreSlotsOfKind slots
+  pub spelled : (id : Id) → IsSpelledSlot (get slots id)
 
 -- the lane of these slots
 abbrev pub lane_with : ℕ → ℕ → Slots → Lane

@@ -1,3 +1,4 @@
 pub mod Joined
 pub mod Records
 pub mod Cutting
+pub mod Walks

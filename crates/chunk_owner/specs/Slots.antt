@@ -5,3 +5,4 @@ pub mod Settled
 pub mod Changed
 pub mod Marking
 pub mod Forgetting
+pub mod Listed

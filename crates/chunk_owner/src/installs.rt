@@ -2,11 +2,13 @@
 
 mod chunks;
 mod faults;
-mod installs;
 mod keys;
 mod laws;
 mod objects;
+mod records;
 
-pub use installs::install;
+pub(crate) use faults::RecordFault;
+pub(crate) use keys::{LaneKey, lane_key_at, lane_of_key};
 pub use laws::{described_records_stand, records_tell_one};
 pub use object_records::InstallFault;
+pub(crate) use records::install_record;

@@ -22,3 +22,4 @@ pub use laws::{
 };
 pub use owner::Owner;
 pub use sending::{owner_is_sent, owner_is_shared};
+pub use steps::touched;

@@ -1,6 +1,6 @@
 //! The owner of a lane's objects.
 
-ghost use Rattle.std.specs.Prelude.{◌≡◌, ◌<◌, ◌≤◌, ℕ, List, [], Some, None, IfOk, IfErr, IfSome, OnOk, OnErr, option_map};
+ghost use Rattle.std.specs.Prelude.{◌≡◌, ◌<◌, ℕ, List, [], None, IfErr, IfSome, OnOk, OnErr, option_map};
 ghost use Rattle.std.specs.FinMap.{empty, get, insert};
 ghost use Rattle.std.specs.Option.{option_copied};
 ghost use Rattle.containers.specs.TextMaps.Nexts.{IsNext, IsKeyStep};
@@ -11,7 +11,6 @@ ghost use Rattle.object_ops.specs.Replies.{Follows};
 ghost use Rattle.object_ops.specs.Conditions.{IsSoundOp};
 ghost use Rattle.object_acts.specs.Arrays.Marked.{IsDone};
 ghost use Rattle.object_acts.specs.Objects.{unmarked, IsOfKind, IsTrackedBody};
-ghost use Rattle.object_acts.specs.declared.objects.Object.{Object};
 ghost use Rattle.flush_journal.specs.Batches.{records};
 ghost use Rattle.flush_journal.specs.Records.{Held};
 ghost use Rattle.flush_journal.specs.Cuts.Cuts.{AppendsEach, IsCut};
@@ -19,17 +18,19 @@ ghost use Rattle.chunk_owner.specs.Slots.Bodies.{IsSlotRecord, IsUndropped};
 ghost use Rattle.chunk_owner.specs.Slots.Marking.{AddsMarks, IsToForget};
 ghost use Rattle.chunk_owner.specs.Slots.Slots.{AreStill, Describes, IsMarked, IsMarkedIn, Says, StillSays};
 ghost use Rattle.chunk_owner.specs.declared.slots.slot.Mark.TheVariants.{Changed};
-ghost use Rattle.chunk_owner.specs.Installs.Records.{AreSound, IsFault};
-ghost use Rattle.object_records.specs.InstallFaults.{MatchFault};
-ghost use Rattle.containers.specs.TextMaps.Fronts.{IsLeast};
-ghost use Rattle.chunk_owner.specs.Lanes.{AreShown, IsWhole, IsSameLane, Forgets};
+ghost use Rattle.object_records.specs.Keys.Keys.{IsSubject};
+ghost use Rattle.chunk_owner.specs.Installs.Records.{IsOfLane};
+ghost use Rattle.chunk_owner.specs.Installs.Walks.{Blames, Installs, IsRefused, subject_of};
+ghost use Rattle.chunk_owner.specs.Lanes.{AreShown, AreWholeObjects, IsWhole, IsSameLane, Forgets};
 ghost use Rattle.chunk_owner.specs.Acts.{acted, touched, HasFresh, IsStepOf, IsTouchedIn};
 ghost use Rattle.chunk_owner.specs.Marks.{IsStepMark};
 
-use crate::installs::{InstallFault, install};
-use crate::slots::{Slot, are_described, cut, forget, next_id, object, put};
-use crate::steps::act_in;
-use flush_journal::{Batch, Recovered};
+use crate::installs::{LaneKey, RecordFault, install_record};
+use crate::slots::{
+    Changes, Slot, cut, forget, next_id, note_domain, object, put, records_describe,
+};
+use crate::steps::{act_in, note_step};
+use flush_journal::Batch;
 use object_acts::Object;
 use object_ids::{IdMap, ObjectId};
 use object_ops::{Grant, Op, Reply, Step};
@@ -44,6 +45,7 @@ pub struct Owner {
     lane: u32,
     lanes: u32,
     slots: IdMap<Slot>,
+    changes: Changes,
 }
 
 impl Model for Owner {
@@ -56,6 +58,7 @@ impl Model for Owner {
     ghost use Rattle.object_acts.specs.declared.objects.Object.{Object};
     ghost use Rattle.chunk_owner.specs.contracts.slots.slot.Slot as slot;
     ghost use Rattle.chunk_owner.specs.declared.slots.slot.Slot.{Slot};
+    ghost use Rattle.chunk_owner.specs.Slots.Listed.{AreListed};
     ghost use Rattle.chunk_owner.specs.Lanes.{AreSlotsOf, Lane, lane_with};
 
     ghost Value = { Lane };
@@ -67,7 +70,7 @@ impl Model for Owner {
 
     ghost view = { λ a. lane_with a.lane a.lanes a.slots };
 
-    ghost invariant = { λ a. AreSlotsOf a.lane a.lanes a.slots };
+    ghost invariant = { λ a. AreSlotsOf a.lane a.lanes a.slots × AreListed a.changes a.slots };
 }
 
 impl Owner {
@@ -81,46 +84,31 @@ impl Owner {
             lane,
             lanes,
             slots: IdMap::new(alloc),
+            changes: Changes::new(alloc),
         }
     }
 
-    /// The objects of a lane of so many, as records describe them beside the kept run and the number that the next domain
-    /// takes. Nothing has changed since they were written.
+    /// Installs what a record of the lane tells, beside the kept run and the number that the next domain takes.
     ///
     /// # Errors
     ///
-    /// `BadRecord` with the least key of the lane whose record can't stand; or `NoMemory`.
-    pub fn install(
-        alloc: Global,
-        lane: u32,
-        lanes: u32,
+    /// `BadRecord` where it can't stand; else `NoMemory`.
+    pub(crate) fn install_record(
+        &mut self,
         run: u32,
         next: u64,
-        kept: &Recovered,
-    ) -> Result<Owner, InstallFault>
-        requires lane { lane < lanes }
-        ensures lane { IfOk result (λ owner. owner.lane ≡ lane) }
-        ensures lanes { IfOk result (λ owner. owner.lanes ≡ lanes) }
-        ensures described { IfOk result (λ owner. (id : Id) → InRange id
-            → lane_of lanes id ≡ lane → Describes kept.now id (get owner.objects id)) }
-        ensures says { IfOk result (λ owner. (id : Id) → InRange id
-            → lane_of lanes id ≡ lane → Says (get owner.slots id) id kept.now) }
-        ensures still { IfOk result (λ owner. AreStill owner.slots) }
-        ensures given { IfOk result (λ owner. (id : Id) (o : Object)
-            → get owner.objects id ≡ Some o → InRange id × (id.run ≤ run) × (id.domain < next)) }
-        ensures rules { IfOk result (λ _. AreSound lanes lane run next kept.now) }
-        ensures faultless { IfOk result (λ _. (key : List ℕ)
-            → IsFault lanes lane run next kept.now key → ⊥) }
-        ensures fault { IfErr result (λ e.
-            MatchFault e (IsLeast (IsFault lanes lane run next kept.now))) }
+        of: &LaneKey,
+        body: Vec<u8>,
+    ) -> Result<(), RecordFault>
+        requires of { IsSubject (subject_of of.now) }
+        requires own { IsOfLane self.old.lanes self.old.lane (subject_of of.now) }
+        ensures done { OnOk result
+            (Installs run next (subject_of of.now) body.items self.old.slots self.new.slots) }
+        ensures bad { IfErr result (λ e.
+            Blames e (IsRefused run next (subject_of of.now) body.items self.old.slots)) }
+        ensures same { IsSameLane self.old self.new }
     {
-        let slots = install(alloc, lane, lanes, run, next, kept)?;
-        Ok(Owner {
-            alloc,
-            lane,
-            lanes,
-            slots,
-        })
+        install_record(self.alloc, run, next, &mut self.slots, of, body)
     }
 
     /// That each object is of the lane and of its id's kind, and is seen without marks.
@@ -131,12 +119,15 @@ impl Owner {
         let _lane = self.lane;
     }
 
-    /// That what is held describes the objects, where nothing changed since the last cut.
+    /// That each object stands at an id that may have a record, and that each of its parts can be spelled; and that what is
+    /// held describes the objects, where nothing changed since the last cut. It looks at none of them.
     pub fn is_described(&self)
-        ensures { AreStill self.now.slots → (id : Id) (held : Held)
+        ensures described { AreStill self.now.slots → (id : Id) (held : Held)
             → Says (get self.now.slots id) id held → Describes held id (get self.now.objects id) }
+        ensures whole { AreWholeObjects self.now.objects }
     {
-        are_described(&self.slots);
+        records_describe();
+        let _lane = self.lane;
     }
 
     /// The object of an id.
@@ -160,7 +151,7 @@ impl Owner {
     ///
     /// # Errors
     ///
-    /// Only where memory runs out.
+    /// Only where memory runs out; a write that would add too many bytes of chunks is told so too.
     pub fn act(&mut self, op: &Op, step: Step, grant: &Grant) -> Result<Reply, AllocError>
         requires op { IsSoundOp op.now }
         requires step { IsStepOf op.now step }
@@ -174,31 +165,35 @@ impl Owner {
             × IsStepMark grant.now op.now step self.old.slots key) self.old.slots self.new.slots }
         ensures same { IsSameLane self.old self.new }
     {
-        act_in(self.alloc, &mut self.slots, op, step, grant)
+        let done = act_in(self.alloc, &mut self.slots, op, step, grant);
+        note_step(&mut self.changes, &self.slots, op, step, grant);
+        done
     }
 
     /// Puts an object, of whose chunks none was cut, at a new id of the lane.
     ///
     /// # Errors
     ///
-    /// Only where memory runs out; all objects stay.
+    /// Only where memory runs out; the lane is as it was then.
     pub fn put_object(&mut self, id: ObjectId, object: Object) -> Result<(), AllocError>
         requires lane { lane_of self.old.lanes id ≡ self.old.lane }
         requires new { get self.old.objects id ≡ None }
         requires kind { IsOfKind id.kind object }
         requires fresh { IsTrackedBody (λ _. []) object.body }
         ensures ok { OnOk result (self.new.objects ≡ insert self.old.objects id (unmarked object)) }
-        ensures err { OnErr result (self.new.objects ≡ self.old.objects) }
+        ensures err { OnErr result (self.new ≡ self.old) }
         ensures says { StillSays self.old.slots self.new.slots }
         ensures alone { AddsMarks (IsMarkedIn id Changed object.body)
             self.old.slots self.new.slots }
         ensures undropped { IsUndropped self.old.slots → IsUndropped self.new.slots }
         ensures same { IsSameLane self.old self.new }
     {
-        put(&mut self.slots, id, object)
+        let done = put(&mut self.slots, id, object);
+        self.changes.note(&self.slots, &id);
+        done
     }
 
-    /// Removes the objects of the domain of a number. It looks at the ids of that domain alone, and takes no memory.
+    /// Removes the objects of the domain of a number. It looks at the ids of that domain alone.
     pub fn forget(&mut self, number: u64)
         ensures rest { Forgets number self.old.objects self.new.objects }
         ensures says { StillSays self.old.slots self.new.slots }
@@ -207,6 +202,7 @@ impl Owner {
         ensures same { IsSameLane self.old self.new }
     {
         forget(&mut self.slots, number);
+        note_domain(&mut self.changes, &self.slots, number);
     }
 
     /// Appends the records of what changed since the last cut, and takes it as kept: what is held then says of each id
@@ -229,6 +225,6 @@ impl Owner {
         ensures err { OnErr result (self.new ≡ self.old) }
         ensures back { OnErr result (records into.new ≡ records into.old) }
     {
-        cut(self.alloc, &mut self.slots, into)
+        cut(self.alloc, &mut self.slots, &mut self.changes, into)
     }
 }

@@ -5,6 +5,7 @@ ghost use Rattle.object_ids.specs.declared.ids.Kind.TheVariants.{Group};
 ghost use Rattle.object_ops.specs.Replies.{Follows};
 ghost use Rattle.object_ops.specs.Conditions.{IsSoundOp, IsSoundMake, IsSoundPlace};
 ghost use Rattle.object_acts.specs.Arrays.Marked.{IsDone};
+ghost use Rattle.chunk_owner.specs.Slots.Listed.{NotesTouched};
 ghost use Rattle.chunk_owner.specs.Slots.Marking.{AddsMarks};
 ghost use Rattle.chunk_owner.specs.Slots.Slots.{AreOfKind, StillSays, objects_of};
 ghost use Rattle.chunk_owner.specs.Lanes.{LeavesUntouched};
@@ -12,11 +13,48 @@ ghost use Rattle.chunk_owner.specs.Acts.{acted, group_of, linking, make_act, mak
 ghost use Rattle.chunk_owner.specs.Marks.{IsKeyOf, IsStepMark};
 
 use crate::placing::make_in;
-use crate::slots::Slot;
+use crate::slots::{Changes, Slot};
 use crate::touching::{change_in, drop_in, link_in, read_in};
 use object_ids::{IdMap, ObjectId};
 use object_ops::{Grant, LinkPlace, Make, Op, Refusal, Reply, Step};
 use std::alloc::{AllocError, Global};
+
+/// The id of the object that a step touches, where it touches one.
+pub fn touched(op: &Op, step: Step, grant: &Grant) -> Option<ObjectId>
+    ensures { result ≡ touched grant.now op.now step }
+{
+    match (op, step) {
+        (Op::MakeObject { link, .. }, Step::Link) => group_of(link),
+        (Op::MakeObject { .. }, _) => grant.fresh,
+        _ => op.id().copied(),
+    }
+}
+
+fn group_of(link: &Option<LinkPlace>) -> Option<ObjectId>
+    ensures { result ≡ group_of link.now }
+{
+    match link {
+        Some(place) => Some(place.group),
+        None => None,
+    }
+}
+
+/// Lists the object that a step touched, where anything of it changed.
+pub(crate) fn note_step(
+    changes: &mut Changes,
+    slots: &IdMap<Slot>,
+    op: &Op,
+    step: Step,
+    grant: &Grant,
+)
+    requires { AreOfKind slots.now }
+    ensures { NotesTouched (touched grant.now op.now step) slots.now changes.old changes.new }
+{
+    match touched(op, step, grant) {
+        Some(id) => changes.note(slots, &id),
+        None => {}
+    }
+}
 
 /// What one step answers and leaves.
 pub(crate) fn act_in(

@@ -5,8 +5,8 @@ ghost use Rattle.object_ops.specs.Conditions.{IsSoundOp};
 
 use crate::requests::{read_row, reply_text};
 use crate::services::Entry;
-use crate::steps::{has_fresh, is_step_of, touched};
-use chunk_owner::Owner;
+use crate::steps::{has_fresh, is_step_of};
+use chunk_owner::{Owner, touched};
 use flush_journal::Batch;
 use object_ids::{Kind, ObjectId, lane};
 use object_ops::{Grant, Op, Reply, Step, on_text};

@@ -1,11 +1,9 @@
 //! Whether a step can be taken.
 
-ghost use Rattle.std.specs.Prelude.{◌≡◌, IsTrue};
-ghost use Rattle.std.specs.Option.{option_copied};
-ghost use Rattle.chunk_owner.specs.Acts.{HasFresh, IsMakeStep, IsStepOf, group_of, touched};
+ghost use Rattle.std.specs.Prelude.{IsTrue};
+ghost use Rattle.chunk_owner.specs.Acts.{HasFresh, IsMakeStep, IsStepOf};
 
 use chunk_owner::Owner;
-use object_ids::ObjectId;
 use object_ops::{Grant, LinkPlace, Op, Step};
 
 fn is_make_step(link: &Option<LinkPlace>, step: Step) -> bool
@@ -25,26 +23,6 @@ pub(crate) fn is_step_of(op: &Op, step: Step) -> bool
     match op {
         Op::MakeObject { link, .. } => is_make_step(link, step),
         _ => step == Step::Only,
-    }
-}
-
-fn group_of(link: &Option<LinkPlace>) -> Option<ObjectId>
-    ensures { result ≡ group_of link.now }
-{
-    match link {
-        Some(place) => Some(place.group),
-        None => None,
-    }
-}
-
-/// The object that a step touches.
-pub(crate) fn touched(op: &Op, step: Step, grant: &Grant) -> Option<ObjectId>
-    ensures { result ≡ touched grant.now op.now step }
-{
-    match (op, step) {
-        (Op::MakeObject { link, .. }, Step::Link) => group_of(link),
-        (Op::MakeObject { .. }, _) => grant.fresh,
-        _ => op.id().copied(),
     }
 }
 

@@ -4,6 +4,7 @@ pub mod Objects
 pub mod Catalogue
 pub mod Worlds
 pub mod Floats
+pub mod Statuses
 pub mod Depths
 pub mod Shallow
 pub mod Readings

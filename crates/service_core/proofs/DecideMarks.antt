@@ -200,14 +200,18 @@ module _ (d : RegisterState) where
       → (key : List ℕ) → IsRegisterMarked new key → IsRegisterMarked d key ⊎ IsNodeMark request (decided d caller request).0 key
   as_decided caller request v new e key marked = (decided_marks caller request).alone key (subst (λ (p : Verdict × RegisterState). IsRegisterMarked p.1 key) e marked)
 
+  passed_was : (key : List ℕ) → IsRegisterMarked (passed d) key → IsRegisterMarked d key
+  passed_was key (the_run on is) = the_run on is
+  passed_was key (the_next on is) = the_next on is
+  passed_was key (a_node path on is) = a_node path on is
+
+  pub undecided_marks : (new : RegisterState) → new ≡ passed d → (key : List ℕ) → IsRegisterMarked new key → IsRegisterMarked d key
+  undecided_marks new undecided key marked = passed_was key (subst (λ (x : RegisterState). IsRegisterMarked x key) undecided marked)
+
   pub decides_marks : (caller : Caller) (request : Request) (v : Verdict) (new : RegisterState) → Decides d caller request v new
       → (key : List ℕ) → IsRegisterMarked new key → IsRegisterMarked d key ⊎ IsNodeMark request (decided d caller request).0 key
   decides_marks caller request (Granted issue) new h = as_decided caller request (Granted issue) new h
   decides_marks caller request (Answered reply) new h = as_decided caller request (Answered reply) new h
   decides_marks caller request (Denied right) new h = as_decided caller request (Denied right) new h
   decides_marks caller request (Refused refusal) new h = as_decided caller request (Refused refusal) new h
-  decides_marks caller request NoMemory new h = λ key marked. inl (passed_was (subst (λ (x : RegisterState). IsRegisterMarked x key) h.2 marked)) where
-    passed_was : {key : List ℕ} → IsRegisterMarked (passed d) key → IsRegisterMarked d key
-    passed_was (the_run on is) = the_run on is
-    passed_was (the_next on is) = the_next on is
-    passed_was (a_node path on is) = a_node path on is
+  decides_marks caller request NoMemory new h = λ key marked. inl (undecided_marks new h.2 key marked)

@@ -5,7 +5,7 @@ use Rattle.object_ops.specs.declared.grants.Grant.{Grant}
 use Rattle.object_ops.specs.declared.grants.Step.{Step}
 use Rattle.object_ops.specs.declared.replies.Reply.{Reply}
 use Rattle.register.specs.declared.tickets.Turn.{Turn}
-use Rattle.service_core.specs.Steps.{StopsIn, Takes, run_on, started, step_taken}
+use Rattle.service_core.specs.Steps.{Takes, run_on, started, step_taken}
 use Rattle.service_core.specs.Turns.{AreReady, IsReadyAt}
 use Rattle.object_acts.specs.Objects.{Objects}
 use Rattle.object_ops.specs.Replies.{was_done}
@@ -50,35 +50,18 @@ module _ (g : Grant) (op : Op) where
     pub begun : SoFar g op all old (started old).0 old all
     begun = record { front = []; split = refl; done = refl }
 
-    pub more : (E : Type 0) (reply r : Reply) (m new : Objects) (left rest : List Turn) (t : Turn) → left ≡ t ∷ rest → was_done reply ≡ true → Takes {E = E} g op t.step m (Ok r) new
-        → SoFar g op all old reply m left → SoFar g op all old r new rest
-    more E reply r m new left rest t is done h s = record {
-      front = s.front ++ t ∷ [];
-      split = s.split ∙ ap (λ ts. s.front ++ ts) is ∙ sym (append_assoc s.front (t ∷ []) rest);
-      done = run_on-append (started old) s.front (t ∷ []) ∙ ap (λ p. run_on g op p (t ∷ [])) s.done ∙ went (reply, m) t [] done ∙ taken E t.step m new r h;
-    }
+    pub more_done : (E : Type 0) (reply r : Reply) (m new : Objects) (left : List Turn) (t : Turn) → was_done reply ≡ true → Takes {E = E} g op t.step m (Ok r) new
+        → (s : SoFar g op all old reply m left) → run_on g op (started old) (s.front ++ t ∷ []) ≡ (r, new)
+    more_done E reply r m new left t done h s =
+        run_on-append (started old) s.front (t ∷ []) ∙ ap (λ p. run_on g op p (t ∷ [])) s.done ∙ went (reply, m) t [] done ∙ taken E t.step m new r h
 
     pub ended : (reply : Reply) (m : Objects) (left : List Turn) → run_on g op (reply, m) left ≡ (reply, m) → SoFar g op all old reply m left → (reply, m) ≡ run_on g op (started old) all
     ended reply m left here s =
         sym (ap (run_on g op (started old)) s.split ∙ run_on-append (started old) s.front left ∙ ap (λ p. run_on g op p left) s.done ∙ here)
 
-    wants : {E : Type 0} (o : Option Step) (m new : Objects) (e : E) → Takes g op o m (Err e) new → IsSome o × (new ≡ m)
+    pub wants : {E : Type 0} (o : Option Step) (m new : Objects) (e : E) → Takes g op o m (Err e) new → IsSome o × (new ≡ m)
     wants None m new e h = absurd h
     wants (Some step) m new e h = (refl, h)
-
-    pub short : {E : Type 0} (reply : Reply) (m new : Objects) (left rest : List Turn) (t : Turn) (e : E) → left ≡ t ∷ rest → was_done reply ≡ true → Takes g op t.step m (Err e) new
-        → SoFar g op all old reply m left → StopsIn g op all old new
-    short reply m new left rest t e is done h s =
-        let w = wants t.step m new e h in
-        record {
-          front = s.front;
-          short = t;
-          rest = rest;
-          split = s.split ∙ ap (λ ts. s.front ++ ts) is;
-          step = w.0;
-          reached = ap (λ p. was_done p.0) s.done ∙ done;
-          stands = w.1 ∙ sym (ap (λ p. p.1) s.done);
-        }
 
   module _ (n : ℕ) where
     -- what is ready first can be taken, and what comes next is ready then

@@ -1,5 +1,5 @@
 -- What the turns of a request mark, lane by lane.
-use Rattle.std.proofs.Common.{◌≡◌, ◌≢◌, ◌⊎◌, inl, inr, ⊎_elim, ℕ, zero, suc, ◌+◌, ◌<◌, true, List, [], ◌∷◌, ◌++◌, length, get_or, Option, Some, None, Result, Ok, Err, refl, sym, ap, subst, ◌∙◌, arith}
+use Rattle.std.proofs.Common.{◌≡◌, ◌≢◌, ◌⊎◌, inl, inr, ⊎_elim, ℕ, zero, suc, ◌+◌, ◌<◌, true, List, [], ◌∷◌, ◌++◌, length, get_or, Option, Some, None, Result, Ok, Err, IsErrAnd, refl, sym, ap, subst, ◌∙◌, append_assoc, arith}
 use Rattle.std.specs.Prelude.{slice_set}
 use Rattle.std.specs.FinMap.{get}
 use Rattle.object_ids.specs.IdValues.{Id}
@@ -26,14 +26,21 @@ use Rattle.chunk_owner.proofs.OfOwners.WholeLemmas.{at_home, this_lane}
 use Rattle.chunk_owner.proofs.OfSlots.Standing.{get-objects_of}
 use Rattle.access_lists.specs.declared.people.Caller.{Caller}
 use Rattle.object_ops.specs.declared.ops.Request.{Request}
-use Rattle.register.specs.Decided.{Decides, RegisterState, decided}
+use Rattle.register.specs.Decided.{Decides, RegisterState, decided, passed}
 use Rattle.register.specs.Kept.{IsRegisterMarked}
 use Rattle.register.specs.declared.tickets.Turn.{Turn}
 use Rattle.register.specs.declared.verdicts.Verdict.{Verdict}
 use Rattle.register.specs.declared.verdicts.Verdict.TheVariants as verdict
-use Rattle.service_core.specs.Marking.{AddsLaneMarks, AddsWorldMarks, IsForgetMark, IsObjectMark, IsRemovalMark, IsStepMark, IsTakenMark, IsTurnMark, IsVerdictMark}
+use Rattle.register.specs.Tickets.{Issue}
+use Rattle.service_core.specs.declared.answers.What.{What}
+use Rattle.service_core.specs.declared.answers.What.TheVariants as whats
+use Rattle.service_core.specs.Marking.{AddsLaneMarks, AddsRequestMarks, AddsWorldMarks, IsForgetMark, IsNodeMark, IsObjectMark, IsRemovalMark, IsRequestMark, IsStepMark, IsTakenMark, IsTurnMark, IsVerdictMark, MarksFront, MarksTurns, MarksVerdict, StopsMarking}
+use Rattle.service_core.specs.Marking.IsRequestMark.{of_objects, of_register}
+use Rattle.service_core.specs.Steps.{Obeys, Takes}
+use Rattle.service_core.specs.Worlds.{State, seen}
+use Rattle.service_core.proofs.DecideMarks.{decides_marks, undecided_marks}
 use Rattle.service_core.proofs.ForgetLemmas.{Forgetting, SoFar as SoForgotten, turn_below, turn_next}
-use Rattle.service_core.proofs.TurnLemmas.{SoFar}
+use Rattle.service_core.proofs.TurnLemmas.{SoFar, more_done, wants}
 
 -- ---- one lane of several
 
@@ -109,19 +116,73 @@ same_lane number (suc k) (o ∷ os) (x ∷ ls) l h few is = same_lane number k o
 
 -- ---- the turns of a request
 
-module _ (g : Grant) (op : Op) (all : List Turn) (old : List Lane) where
-  pub turn_marks : (cur new : List Lane) (reply : Reply) (left rest : List Turn) (t : Turn) → left ≡ t ∷ rest → was_done reply ≡ true
-      → SoFar g op all (whole old) reply (whole cur) left
-      → AddsLaneMarks (IsTurnMark g op all (whole old)) old cur → AddsLaneMarks (IsTakenMark g op t.step (whole cur)) cur new → AddsLaneMarks (IsTurnMark g op all (whole old)) old new
-  turn_marks cur new reply left rest t is done s before now key marked =
-      ⊎_elim (λ was. before key was) (λ p. inr (record {
-        front = s.front;
+-- what was done of some turns, and what is left; those that were done marked what they changed
+pub record MarkedSoFar (g : Grant) (op : Op) (all : List Turn) (old : List Lane) (reply : Reply) (cur : List Lane) (left : List Turn) : Type 0 where
+  pub so : SoFar g op all (whole old) reply (whole cur) left
+  pub alone : AddsLaneMarks (IsTurnMark g op so.front (whole old)) old cur
+
+module _ (g : Grant) (op : Op) (old : List Lane) where
+  -- a mark of some turns is one of more
+  more_turns : (front more : List Turn) (key : List ℕ) → IsTurnMark g op front (whole old) key → IsTurnMark g op (front ++ more) (whole old) key
+  more_turns front more key p = record {
+    front = p.front;
+    turn = p.turn;
+    rest = p.rest ++ more;
+    split = ap (λ ts. ts ++ more) p.split ∙ append_assoc p.front (p.turn ∷ p.rest) more;
+    reached = p.reached;
+    mark = p.mark;
+  }
+
+  module _ (all : List Turn) where
+    module _ (reply : Reply) (cur new : List Lane) (left : List Turn) (s : MarkedSoFar g op all old reply cur left) where
+      last_mark : (t : Turn) → was_done reply ≡ true → (key : List ℕ) → IsTakenMark g op t.step (whole cur) key → IsTurnMark g op (s.so.front ++ t ∷ []) (whole old) key
+      last_mark t done key p = record {
+        front = s.so.front;
         turn = t;
-        rest = rest;
-        split = s.split ∙ ap (λ ts. s.front ++ ts) is;
-        reached = ap (λ (q : Reply × Objects). was_done q.0) s.done ∙ done;
-        mark = subst (λ (m : Objects). IsTakenMark g op t.step m key) (sym (ap (λ (q : Reply × Objects). q.1) s.done)) p;
-      })) (now key marked)
+        rest = [];
+        split = refl;
+        reached = ap (λ (q : Reply × Objects). was_done q.0) s.so.done ∙ done;
+        mark = subst (λ (m : Objects). IsTakenMark g op t.step m key) (sym (ap (λ (q : Reply × Objects). q.1) s.so.done)) p;
+      }
+
+      pub marks_more : (E : Type 0) (r : Reply) (rest : List Turn) (t : Turn) → left ≡ t ∷ rest → was_done reply ≡ true → Takes {E = E} g op t.step (whole cur) (Ok r) (whole new)
+          → AddsLaneMarks (λ key. IsDone {E = E} (Ok r) × IsTakenMark g op t.step (whole cur) key) cur new → MarkedSoFar g op all old r new rest
+      marks_more E r rest t is done takes now = record {
+        so = record {
+          front = s.so.front ++ t ∷ [];
+          split = s.so.split ∙ ap (λ ts. s.so.front ++ ts) is ∙ sym (append_assoc s.so.front (t ∷ []) rest);
+          done = more_done g op all (whole old) E reply r (whole cur) (whole new) left t done takes s.so;
+        };
+        alone = λ key marked. ⊎_elim
+            (λ was. ⊎_elim (λ before. inl before) (λ p. inr (more_turns s.so.front (t ∷ []) key p)) (s.alone key was))
+            (λ p. inr (last_mark t done key p.1)) (now key marked);
+      }
+
+      -- all of them are marks of the turns
+      pub marks_ended : AddsLaneMarks (IsTurnMark g op all (whole old)) old cur
+      marks_ended key marked = ⊎_elim (λ was. inl was)
+          (λ p. inr (subst (λ (ts : List Turn). IsTurnMark g op ts (whole old) key) (sym s.so.split) (more_turns s.so.front left key p))) (s.alone key marked)
+
+      -- no memory was found for the next one
+      pub marks_stopped : {E : Type 0} (e : E) (rest : List Turn) (t : Turn) → left ≡ t ∷ rest → was_done reply ≡ true → Takes g op t.step (whole cur) (Err e) (whole new)
+          → AddsLaneMarks (λ key. IsDone {E = E} (Err e) × IsTakenMark g op t.step (whole cur) key) cur new → MarksFront g op all old new
+      marks_stopped e rest t is done takes now = let w = wants g op all (whole old) t.step (whole cur) (whole new) e takes in record {
+        stop = record {
+          front = s.so.front;
+          short = t;
+          rest = rest;
+          split = s.so.split ∙ ap (λ ts. s.so.front ++ ts) is;
+          step = w.0;
+          reached = ap (λ (q : Reply × Objects). was_done q.0) s.so.done ∙ done;
+          stands = w.1 ∙ sym (ap (λ (q : Reply × Objects). q.1) s.so.done);
+        };
+        alone = λ key marked. ⊎_elim (λ was. s.alone key was) (λ p. absurd p.0) (now key marked);
+      }
+
+-- the want of memory is handed on
+pub marks_handed : {E : Type 0} (g : Grant) (op : Op) (all : List Turn) (old new : List Lane) (r : Result Reply E) (e : E) → IsErrAnd r (λ x. x ≡ e) → MarksFront g op all old new → MarksTurns g op all old r new
+marks_handed g op all old new (Ok x) e h m = absurd h
+marks_handed g op all old new (Err x) e h m = m
 
 -- ---- the removal of a domain
 
@@ -155,3 +216,49 @@ by_decision d caller request (verdict.Answered reply) new h m key p = absurd p
 by_decision d caller request (verdict.Denied right) new h m key p = absurd p
 by_decision d caller request (verdict.Refused refusal) new h m key p = absurd p
 by_decision d caller request verdict.NoMemory new h m key p = absurd p
+
+-- ---- a request
+
+module _ (d : RegisterState) (caller : Caller) (request : Request) (new : RegisterState) (items left : List Lane) where
+  abbrev Before : State
+  Before = record { register = d; lanes = items }
+
+  abbrev After : State
+  After = record { register = new; lanes = left }
+
+  all_marked : (v : Verdict) → Decides d caller request v new → AddsLaneMarks (IsVerdictMark request.op v (whole items)) items left → AddsWorldMarks (IsRequestMark (seen Before) caller request) Before After
+  all_marked v decides lanes = both_marks (IsNodeMark request (decided d caller request).0) (IsVerdictMark request.op v (whole items)) (IsRequestMark (seen Before) caller request)
+      d new items left (λ key p. of_register p) (λ key p. of_objects (by_decision d caller request v new decides (whole items) key p)) (decides_marks d caller request v new decides) lanes
+
+  none_marked : new ≡ passed d → AddsLaneMarks (λ key. ⊥) items left → AddsWorldMarks (λ key. ⊥) Before After
+  none_marked undecided lanes = both_marks (λ key. ⊥) (λ key. ⊥) (λ key. ⊥) d new items left (λ key p. p) (λ key p. p) (λ key marked. inl (undecided_marks d new undecided key marked)) lanes
+
+  front_marked : (issue : Issue) → Decides d caller request (verdict.Granted issue) new → MarksFront issue.grant request.op issue.left items left
+      → StopsMarking request (decided d caller request).0 Before After
+  front_marked issue decides marks =
+      let granted : verdict.Granted issue ≡ (decided d caller request).0 = ap (λ (p : Verdict × RegisterState). p.0) decides in
+      subst (λ (v : Verdict). StopsMarking request v Before After) granted (
+        marks.stop,
+        both_marks (IsNodeMark request (verdict.Granted issue)) (IsTurnMark issue.grant request.op marks.stop.front (whole items))
+            (λ key. IsNodeMark request (verdict.Granted issue) key ⊎ IsTurnMark issue.grant request.op marks.stop.front (whole items) key) d new items left (λ key p. inl p) (λ key p. inr p)
+            (λ key marked. ⊎_elim (λ was. inl was) (λ p. inr (subst (λ (v : Verdict). IsNodeMark request v key) (sym granted) p)) (decides_marks d caller request (verdict.Granted issue) new decides key marked))
+            marks.alone,
+      )
+
+  pub request_marked : (v : Verdict) (what : What) → Decides d caller request v new → Obeys request.op v (whole items) what (whole left) → MarksVerdict request.op v items what left
+      → AddsRequestMarks Before caller request what After
+  request_marked (verdict.Granted issue) whats.NoMemory decides obeys lanes = inr (front_marked issue decides lanes)
+  request_marked (verdict.Granted issue) (whats.Replied reply) decides obeys lanes = all_marked (verdict.Granted issue) decides lanes
+  request_marked (verdict.Granted issue) (whats.Denied right) decides obeys lanes = all_marked (verdict.Granted issue) decides lanes
+  request_marked (verdict.Answered answer) whats.NoMemory decides obeys lanes = absurd obeys
+  request_marked (verdict.Answered answer) (whats.Replied reply) decides obeys lanes = all_marked (verdict.Answered answer) decides lanes
+  request_marked (verdict.Answered answer) (whats.Denied right) decides obeys lanes = all_marked (verdict.Answered answer) decides lanes
+  request_marked (verdict.Denied denied) whats.NoMemory decides obeys lanes = absurd obeys
+  request_marked (verdict.Denied denied) (whats.Replied reply) decides obeys lanes = all_marked (verdict.Denied denied) decides lanes
+  request_marked (verdict.Denied denied) (whats.Denied right) decides obeys lanes = all_marked (verdict.Denied denied) decides lanes
+  request_marked (verdict.Refused refusal) whats.NoMemory decides obeys lanes = absurd obeys
+  request_marked (verdict.Refused refusal) (whats.Replied reply) decides obeys lanes = all_marked (verdict.Refused refusal) decides lanes
+  request_marked (verdict.Refused refusal) (whats.Denied right) decides obeys lanes = all_marked (verdict.Refused refusal) decides lanes
+  request_marked verdict.NoMemory whats.NoMemory decides obeys lanes = inl (none_marked decides.2 lanes)
+  request_marked verdict.NoMemory (whats.Replied reply) decides obeys lanes = all_marked verdict.NoMemory decides lanes
+  request_marked verdict.NoMemory (whats.Denied right) decides obeys lanes = all_marked verdict.NoMemory decides lanes

@@ -18,7 +18,7 @@ use Rattle.service_core.specs.declared.answers.What.TheVariants.{Replied, Denied
 use Rattle.chunk_owner.specs.Owners.Joined.{AreLanes, whole}
 use Rattle.service_core.specs.Steps.{AreGiven, IsAnswered, IsGiven, Obeys, Steps, StopsAt, World, by_verdict, step}
 use Rattle.service_core.specs.Turns.{IsServable}
-use Rattle.service_core.specs.Worlds.{IsBuilt, IsNew}
+use Rattle.service_core.specs.Worlds.{IsBuilt, IsNew, State}
 use Rattle.service_core.proofs.GivenLemmas.{obeys_given}
 use Rattle.chunk_owner.proofs.OfOwners.WholeLemmas.{at_home}
 use Rattle.service_core.proofs.DecideLemmas.{decides_is, given_later}
@@ -117,12 +117,19 @@ object_in d owners built id n i l lanes lane below is =
 
 -- what is put at an id that was given
 pub built_put : {E : Type 0} (d : RegisterState) (owners left : List Lane) (id : Id) (o : Object) (r : Result (Unit {0}) E) → IsBuilt d owners → IsGiven d id → length left ≡ length owners → AreLanes (length owners) 0 left
-    → OnOk r (whole left ≡ insert (whole owners) id o) → OnErr r (whole left ≡ whole owners) → IsBuilt d left
+    → OnOk r (whole left ≡ insert (whole owners) id o) → OnErr r (left ≡ owners) → IsBuilt d left
 built_put d owners left id o r built given same lanes ok err = record {
   count = same ∙ built.count;
   lanes = subst (λ (n : ℕ). AreLanes n 0 left) (sym same) lanes;
   given = all r ok err;
 } where
-  all : {E : Type 0} (r : Result (Unit {0}) E) → OnOk r (whole left ≡ insert (whole owners) id o) → OnErr r (whole left ≡ whole owners) → AreGiven d (whole left)
+  all : {E : Type 0} (r : Result (Unit {0}) E) → OnOk r (whole left ≡ insert (whole owners) id o) → OnErr r (left ≡ owners) → AreGiven d (whole left)
   all (Ok u) ok err = subst (AreGiven d) (sym ok) (each_insert (λ id o. IsGiven d id) (whole owners) id o given built.given)
-  all (Err x) ok err = subst (AreGiven d) (sym err) built.given
+  all (Err x) ok err = subst (λ (ls : List Lane). AreGiven d (whole ls)) (sym err) built.given
+
+abbrev pub state_of : RegisterState → List Lane → State
+state_of d owners = record { register = d; lanes = owners }
+
+pub state_stays : {A E : Type 0} (d : RegisterState) (owners left : List Lane) (r : Result A E) → OnErr r (left ≡ owners) → OnErr r (state_of d left ≡ state_of d owners)
+state_stays d owners left (Ok a) same = tt
+state_stays d owners left (Err e) same = ap (state_of d) same

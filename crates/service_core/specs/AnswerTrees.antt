@@ -1,3 +1,4 @@
 pub mod Bodies
 pub mod Exact
 pub mod Readable
+pub mod Statuses

@@ -5,13 +5,16 @@
 --     IsTurnMark g op turns old key      of an object: of what one of the turns changed
 --     IsForgetMark number old key      of what the removal of a domain dropped
 --     IsRequestMark w caller request key      any of them
-use Rattle.std.specs.Prelude.{◌≡◌, ℕ, ◌⊎◌, true, false, Bool, List, ◌∷◌, ◌++◌, Option, Some, None}
+--     AddsRequestMarks old caller request what new      only those are marked, and where memory ran out
+--         none, or those of the turns before the one that found none
+use Rattle.std.specs.Prelude.{◌≡◌, ℕ, ◌⊎◌, true, false, Bool, List, ◌∷◌, ◌++◌, Option, Some, None, Result, Ok, Err}
 use Rattle.std.specs.FinMap.{get}
 use Rattle.object_ids.specs.IdValues.{Id}
 use Rattle.object_ids.specs.declared.ids.Kind.TheVariants.{Dataset}
 use Rattle.access_lists.specs.declared.people.Caller.{Caller}
 use Rattle.object_ops.specs.Replies.{was_done}
 use Rattle.object_ops.specs.declared.grants.Grant.{Grant}
+use Rattle.object_ops.specs.declared.replies.Reply.{Reply}
 use Rattle.object_ops.specs.declared.grants.Step.{Step}
 use Rattle.object_ops.specs.declared.ops.Request.{Request}
 use Rattle.object_ops.specs.declared.ops.Op.{Op}
@@ -23,6 +26,7 @@ use Rattle.object_records.specs.Keys.Keys.{chunk_key, next_key, node_key, object
 use Rattle.chunk_owner.specs.Acts.{acted, touched}
 use Rattle.chunk_owner.specs.Lanes.{Lane}
 use Rattle.chunk_owner.specs.Marks.{IsChangeMark}
+use Rattle.chunk_owner.specs.Owners.Joined.{whole}
 use Rattle.chunk_owner.specs.Owners.Records.{IsMarkedIn}
 use Rattle.chunk_owner.specs.Slots.Slots.{is_index}
 use Rattle.register.specs.Decided.{decided}
@@ -30,9 +34,11 @@ use Rattle.register.specs.Tickets.{Issue}
 use Rattle.register.specs.declared.tickets.Turn.{Turn}
 use Rattle.register.specs.declared.verdicts.Verdict.{Verdict}
 use Rattle.register.specs.declared.verdicts.Verdict.TheVariants.{Answered, Granted}
+use Rattle.service_core.specs.declared.answers.What.{What}
+use Rattle.service_core.specs.declared.answers.What.TheVariants.{NoMemory}
 use Rattle.service_core.specs.Records.{IsWorldMarked}
-use Rattle.service_core.specs.Steps.{World, run_on, started}
-use Rattle.service_core.specs.Worlds.{State}
+use Rattle.service_core.specs.Steps.{StopsIn, World, run_on, started}
+use Rattle.service_core.specs.Worlds.{State, seen}
 
 abbrev pub AddsWorldMarks : (List ℕ → Type 0) → State → State → Type 0
 AddsWorldMarks P old new = (key : List ℕ) → IsWorldMarked new key → IsWorldMarked old key ⊎ P key
@@ -127,3 +133,34 @@ pub data IsRequestMark (w : World) (caller : Caller) (request : Request) (key : 
       → IsRequestMark w caller request key
   of_objects : IsVerdictMark request.op (decided w.register caller request).0 w.objects key
       → IsRequestMark w caller request key
+
+-- ---- of a call, which may find no memory
+
+-- only the turns before the one that found none marked anything
+pub record MarksFront (g : Grant) (op : Op) (turns : List Turn) (old new : List Lane) : Type 0 where
+  pub stop : StopsIn g op turns (whole old) (whole new)
+  pub alone : AddsLaneMarks (IsTurnMark g op stop.front (whole old)) old new
+
+abbrev pub MarksTurns : {E : Type 0} → Grant → Op → List Turn → List Lane → Result Reply E → List Lane → Type 0
+MarksTurns g op turns old (Ok reply) new = AddsLaneMarks (IsTurnMark g op turns (whole old)) old new
+MarksTurns g op turns old (Err e) new = MarksFront g op turns old new
+
+abbrev pub MarksService : {E : Type 0} → Op → Issue → List Lane → Result Reply E → List Lane → Type 0
+MarksService op issue old (Ok reply) new = AddsLaneMarks (IsServiceMark op issue (whole old)) old new
+MarksService op issue old (Err e) new = MarksFront issue.grant op issue.left old new
+
+abbrev pub MarksVerdict : Op → Verdict → List Lane → What → List Lane → Type 0
+MarksVerdict op (Granted issue) old NoMemory new = MarksFront issue.grant op issue.left old new
+MarksVerdict op verdict old what new = AddsLaneMarks (IsVerdictMark op verdict (whole old)) old new
+
+-- what the register marked, and the turns before the one that found none
+abbrev pub StopsMarking : Request → Verdict → State → State → Type 0
+StopsMarking request (Granted issue) old new = (stop : StopsIn issue.grant request.op issue.left (whole old.lanes) (whole new.lanes))
+    × AddsWorldMarks (λ key. IsNodeMark request (Granted issue) key ⊎ IsTurnMark issue.grant request.op stop.front (whole old.lanes) key) old new
+StopsMarking request verdict old new = ⊥
+
+-- nothing where memory ran out before the request was decided
+abbrev pub AddsRequestMarks : State → Caller → Request → What → State → Type 0
+AddsRequestMarks old caller request NoMemory new =
+    AddsWorldMarks (λ key. ⊥) old new ⊎ StopsMarking request (decided old.register caller request).0 old new
+AddsRequestMarks old caller request what new = AddsWorldMarks (IsRequestMark (seen old) caller request) old new

@@ -1,10 +1,11 @@
-//! The trees of answers: what is true of the body of each, whatever the world.
+//! The trees of answers and their statuses: what is true of each, whatever the world.
 
 ghost use Rattle.service_core.specs.AnswerTrees.Exact.{ActsAreExact, AnswersAreExact};
 ghost use Rattle.service_core.specs.AnswerTrees.Exact.{DecisionsAreExact, RefusalsAreExact};
 ghost use Rattle.service_core.specs.AnswerTrees.Readable.{AnswersAreReadable, CallsAreReadable, NoneAreShallow};
 ghost use Rattle.service_core.specs.AnswerTrees.Readable.{RefusalsAreReadable, ShallowStaysShallow};
 ghost use Rattle.service_core.specs.AnswerTrees.Readable.{SoundIsShallow};
+ghost use Rattle.service_core.specs.AnswerTrees.Statuses.{AnswersHaveDoneStatuses};
 
 /// What is done for a request is answered with a body that has no number with a fraction or an exponent, so that it has
 /// exactly one compact text. Refusals and denials are told of by [`replies_have_no_floats`].
@@ -30,4 +31,9 @@ pub fn bodies_read_back()
     ensures sound { SoundIsShallow }
     ensures calls { CallsAreReadable }
     ensures refused { RefusalsAreReadable }
+{}
+
+/// What is done for a request is answered with 200, 201 or 204.
+pub fn answers_have_done_statuses()
+    ensures { AnswersHaveDoneStatuses }
 {}

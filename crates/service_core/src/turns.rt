@@ -4,12 +4,13 @@ ghost use Rattle.std.specs.Prelude.{◌≡◌, ◌<◌, [], List, length, Some, 
 ghost use Rattle.object_ids.specs.declared.ids.Kind.TheVariants.{Group};
 ghost use Rattle.object_ops.specs.Replies.{Follows, was_done};
 ghost use Rattle.object_ops.specs.Conditions.{IsSoundOp};
+ghost use Rattle.object_acts.specs.Arrays.Marked.{IsDone};
 ghost use Rattle.chunk_owner.specs.Acts.{acted};
 ghost use Rattle.register.specs.Tickets.{AreEach};
 ghost use Rattle.chunk_owner.specs.Owners.Joined.{AreLanes, whole};
 ghost use Rattle.chunk_owner.specs.Owners.Records.{LanesStillSay};
-ghost use Rattle.service_core.specs.Marking.{AddsLaneMarks, IsForgetMark, IsServiceMark};
-ghost use Rattle.service_core.specs.Marking.{IsStepMark, IsTakenMark, IsTurnMark};
+ghost use Rattle.service_core.specs.Marking.{AddsLaneMarks, IsForgetMark, IsStepMark, IsTakenMark};
+ghost use Rattle.service_core.specs.Marking.{MarksService, MarksTurns};
 ghost use Rattle.service_core.specs.Steps.{Runs, Serves, Takes, without_domain};
 ghost use Rattle.service_core.specs.Turns.{AreReady, AreServable, IsReadyAt};
 
@@ -44,8 +45,8 @@ fn act_in(
         result (whole owners.new) }
     ensures lanes { AreLanes (length owners.old) 0 owners.new }
     ensures says { LanesStillSay owners.old owners.new }
-    ensures alone { AddsLaneMarks (IsStepMark grant.now op.now step (whole owners.old))
-        owners.old owners.new }
+    ensures alone { AddsLaneMarks (λ key. IsDone result
+        × IsStepMark grant.now op.now step (whole owners.old) key) owners.old owners.new }
 {
     let owner = &mut owners[lane as usize];
     owner.is_whole();
@@ -69,8 +70,8 @@ fn take_turn(
     ensures acts { Takes grant.now op.now turn.now.step (whole owners.old) result (whole owners.new) }
     ensures lanes { AreLanes (length owners.old) 0 owners.new }
     ensures says { LanesStillSay owners.old owners.new }
-    ensures alone { AddsLaneMarks (IsTakenMark grant.now op.now turn.now.step (whole owners.old))
-        owners.old owners.new }
+    ensures alone { AddsLaneMarks (λ key. IsDone result
+        × IsTakenMark grant.now op.now turn.now.step (whole owners.old) key) owners.old owners.new }
 {
     match turn.step {
         Some(step) => act_in(owners, turn.lane, step, op, grant),
@@ -94,9 +95,7 @@ fn run_turns(
         (whole owners.new) }
     ensures lanes { AreLanes (length owners.old) 0 owners.new }
     ensures says { LanesStillSay owners.old owners.new }
-    ensures alone { AddsLaneMarks
-        (IsTurnMark tickets.old.grant op.now tickets.old.left (whole owners.old))
-        owners.old owners.new }
+    ensures alone { MarksTurns tickets.old.grant op.now tickets.old.left owners.old result owners.new }
 {
     let grant = tickets.grant();
     let mut reply = Reply::done(alloc, 200);
@@ -146,8 +145,7 @@ fn take_turns(
     ensures serves { Serves op.now tickets.old (whole owners.old) result (whole owners.new) }
     ensures lanes { AreLanes (length owners.old) 0 owners.new }
     ensures says { LanesStillSay owners.old owners.new }
-    ensures alone { AddsLaneMarks (IsServiceMark op.now tickets.old (whole owners.old))
-        owners.old owners.new }
+    ensures alone { MarksService op.now tickets.old owners.old result owners.new }
 {
     match op {
         Op::DropNode => {
@@ -172,8 +170,7 @@ pub(crate) fn serve(
     ensures serves { Serves op.now tickets (whole owners.old) result (whole owners.new) }
     ensures lanes { AreLanes (length owners.old) 0 owners.new }
     ensures says { LanesStillSay owners.old owners.new }
-    ensures alone { AddsLaneMarks (IsServiceMark op.now tickets (whole owners.old))
-        owners.old owners.new }
+    ensures alone { MarksService op.now tickets owners.old result owners.new }
 {
     let done = take_turns(alloc, owners, &mut tickets, op);
     drain(&mut tickets);

@@ -24,8 +24,9 @@ ghost use Rattle.chunk_owner.specs.Owners.Records.{AreStillIn, AreUndropped, Lan
 ghost use Rattle.chunk_owner.specs.Slots.Slots.{IsMarkedIn};
 ghost use Rattle.chunk_owner.specs.declared.slots.slot.Mark.TheVariants.{Changed};
 ghost use Rattle.service_core.specs.Cutting.{StopsCut};
-ghost use Rattle.service_core.specs.Marking.{AddsLaneMarks, AddsWorldMarks, IsRequestMark};
-ghost use Rattle.service_core.specs.Marking.{IsVerdictMark};
+ghost use Rattle.service_core.specs.Described.Told.{AreWhole};
+ghost use Rattle.service_core.specs.Marking.{AddsLaneMarks, AddsRequestMarks, AddsWorldMarks};
+ghost use Rattle.service_core.specs.Marking.{MarksVerdict};
 ghost use Rattle.service_core.specs.Records.{DescribesWorld, IsCutRecord, IsKept, IsSameWorld};
 ghost use Rattle.service_core.specs.Records.{IsWorldFault, IsWorldMarked};
 ghost use Rattle.service_core.specs.Records.{IsWorldOf, OrNoMemory, TellsKey, WorldSays};
@@ -106,14 +107,14 @@ impl World {
     }
 
     /// The world that a journal's records describe, at the begin of the run after the kept one. Nothing but the run has
-    /// changed since they were written.
+    /// changed since they were written. Its arrays take the bytes of their chunks over.
     ///
     /// # Errors
     ///
     /// `RunsUsed` exactly where no record of the register is at fault and the kept run is the last; else `BadRecord` exactly
     /// where a key is at fault, with the least one of the register, else of the first lane that has one, else of no part. Or
     /// `NoMemory`.
-    pub fn install(alloc: Global, lanes: u32, kept: Recovered) -> Result<World, InstallFault>
+    pub fn install(alloc: Global, lanes: u32, mut kept: Recovered) -> Result<World, InstallFault>
         requires some_lane { 1 ≤ lanes }
         requires few_lanes { lanes ≤ 16 }
         ensures described { IfOk result (λ world. IsWorldOf kept lanes world) }
@@ -129,7 +130,7 @@ impl World {
     {
         let register = Register::install(alloc, lanes, &kept)?;
         let next = register.catalogue().next_number();
-        let owners = install_lanes(alloc, lanes, register.run() - 1, next, &kept)?;
+        let owners = install_lanes(alloc, lanes, register.run() - 1, next, &mut kept)?;
         match first_stray(&kept) {
             Some(key) => Err(bad_record(alloc, key)),
             None => Ok(World {
@@ -273,14 +274,14 @@ impl World {
     ///
     /// # Errors
     ///
-    /// Only where memory runs out; all objects stay.
+    /// Only where memory runs out; the world is as it was then.
     pub fn put_object(&mut self, id: ObjectId, object: Object) -> Result<(), AllocError>
         requires given { IsGiven self.old.register id }
         requires new { get (seen self.old).objects id ≡ None }
         requires kind { IsOfKind id.kind object }
         requires fresh { IsTrackedBody (λ _. []) object.body }
         ensures ok { OnOk result (seen self.new ≡ with_object (seen self.old) id (unmarked object)) }
-        ensures err { OnErr result (seen self.new ≡ seen self.old) }
+        ensures err { OnErr result (self.new ≡ self.old) }
         ensures says { WorldStillSays self.old self.new }
         ensures alone { AddsWorldMarks (IsMarkedIn id Changed object.body) self.old self.new }
         ensures undropped { AreUndropped self.old.lanes → AreUndropped self.new.lanes }
@@ -311,11 +312,13 @@ impl World {
         cut_lanes(self.owners.as_mut_slice(), into)
     }
 
-    /// Once all is kept, what is held describes the world: each of its records keeps to the rules, no other is there, and an
-    /// install finds the same folders, domains and objects. Takes no memory.
+    /// Each object stands at an id that may have a record, and each of its parts can be spelled. Once all is kept, what is
+    /// held describes the world: each of its records keeps to the rules, no other is there, and an install finds the same
+    /// folders, domains and objects. Takes no memory, and looks at no object.
     pub fn is_described(&self)
-        ensures { IsKept self.now → (held : Held) → WorldSays self.now held
+        ensures described { IsKept self.now → (held : Held) → WorldSays self.now held
             → DescribesWorld held self.now.register.run (seen self.now) }
+        ensures whole { AreWhole (seen self.now).objects }
     {
         is_sound(&self.register);
         self.register.is_described();
@@ -358,9 +361,8 @@ impl World {
         ensures steps { Steps (seen self.old) caller.now request.now result (seen self.new) }
         ensures says { WorldStillSays self.old self.new }
 
-        // Only what the request changes is marked for the next cut.
-        ensures alone { AddsWorldMarks (IsRequestMark (seen self.old) caller.now request.now)
-            self.old self.new }
+        // Only what the request changes is marked for the next cut, and nothing of a step that found no memory.
+        ensures alone { AddsRequestMarks self.old caller.now request.now result.what self.new }
     {
         is_sound(&self.register);
         let place = self.register.places();
@@ -417,7 +419,7 @@ fn put_in(owners: &mut [Owner], lane: u32, id: ObjectId, object: Object) -> Resu
     requires kind { IsOfKind id.kind object }
     requires fresh { IsTrackedBody (λ _. []) object.body }
     ensures ok { OnOk result (whole owners.new ≡ insert (whole owners.old) id (unmarked object)) }
-    ensures err { OnErr result (whole owners.new ≡ whole owners.old) }
+    ensures err { OnErr result (owners.new ≡ owners.old) }
     ensures lanes { AreLanes (length owners.old) 0 owners.new }
     ensures says { LanesStillSay owners.old owners.new }
     ensures alone { AddsLaneMarks (IsMarkedIn id Changed object.body)
@@ -445,8 +447,7 @@ fn obey(alloc: Global, owners: &mut [Owner], op: &Op, verdict: Verdict) -> What
     ensures obeys { Obeys op.now verdict (whole owners.old) result (whole owners.new) }
     ensures lanes { AreLanes (length owners.old) 0 owners.new }
     ensures says { LanesStillSay owners.old owners.new }
-    ensures alone { AddsLaneMarks (IsVerdictMark op.now verdict (whole owners.old))
-        owners.old owners.new }
+    ensures alone { MarksVerdict op.now verdict owners.old result owners.new }
 {
     match verdict {
         Verdict::Granted(tickets) => match serve(alloc, owners, tickets, op) {

@@ -18,7 +18,6 @@ use Rattle.object_acts.specs.declared.objects.Body.TheVariants as body
 use Rattle.object_acts.specs.Objects.{kind_of_body}
 use Rattle.object_records.specs.Keys.Keys.{IsChunk, chunk, chunk_key, object_key, key_of, Subject, IsSubject}
 use Rattle.object_records.specs.Keys.Keys.{the_run, node, object, next_number}
-use Rattle.object_records.proofs.OfKeys.KeyLaws.{same_subject, objects_once}
 use Rattle.chunk_owner.specs.declared.slots.slot.Mark.{Mark}
 use Rattle.chunk_owner.specs.declared.slots.slot.Slot.{Slot}
 use Rattle.chunk_owner.specs.Slots.Slots.{AreChunksIn, HasRecord, Says, chunks_at, is_index}
@@ -29,19 +28,6 @@ use Rattle.containers.specs.TextMaps.Fronts.{held_by}
 use Rattle.containers.proofs.TextMaps.Fronts.{said_here, said_else}
 
 -- ---- keys of another lane
-
-pub object_elsewhere : (lane lanes : ℕ) (key : List ℕ) (found : Id) → InRange found → object_key found ≡ key → (lane_of lanes found ≡ lane → ⊥)
-    → (id : Id) → InRange id → lane_of lanes id ≡ lane → object_key id ≡ key → ⊥
-object_elsewhere lane lanes key found range is other id mine own same = other (ap (λ (x : Id). lane_of lanes x) (objects_once found id range mine (is ∙ sym same)) ∙ own)
-
-abbrev dataset_of : Id → Subject → Id
-dataset_of a (chunk id i) = id
-dataset_of a s = a
-
-pub chunk_elsewhere : (lane lanes : ℕ) (key : List ℕ) (found : Id) (at : List ℕ) → IsChunk found at → chunk_key found at ≡ key → (lane_of lanes found ≡ lane → ⊥)
-    → (id : Id) (i : List ℕ) → IsChunk id i → lane_of lanes id ≡ lane → chunk_key id i ≡ key → ⊥
-chunk_elsewhere lane lanes key found at range is other id i mine own same =
-    other (ap (λ (x : Id). lane_of lanes x) (ap (dataset_of found) (same_subject (chunk found at) (chunk id i) range mine (is ∙ sym same))) ∙ own)
 
 -- a key that is of no object and no chunk of the lane is of nothing of it
 pub of_no_lane : (lanes lane : ℕ) (key : List ℕ) → ((id : Id) → InRange id → lane_of lanes id ≡ lane → object_key id ≢ key)

@@ -1,11 +1,11 @@
 -- What a slot is once its array has taken a chunk.
-use Rattle.std.proofs.Common.{◌≡◌, ℕ, false, cond, bytes_eq, List, Option, Some, option_and_then, Result, Ok, Err, OnOk, refl, sym, ap, subst, ◌∙◌, inr}
+use Rattle.std.proofs.Common.{◌≡◌, ℕ, false, cond, bytes_eq, List, Option, Some, option_and_then, Result, Ok, Err, OnOk, OnErr, refl, sym, ap, subst, ◌∙◌, inr}
 use Rattle.std.specs.FinMap.{get, insert}
 use Rattle.object_ids.specs.IdValues.{Id}
 use Rattle.object_ids.specs.declared.ids.Kind.TheVariants as kinds
 use Rattle.chunk_store.specs.Cells.{put}
 use Rattle.chunk_store.specs.Grids.{Grid}
-use Rattle.chunk_store.specs.Marks.{IsChunkOf, IsTracked, flagged, state}
+use Rattle.chunk_store.specs.Marks.{IsChunkOf, IsTracked, Stored, flagged, state}
 use Rattle.object_acts.specs.declared.objects.Object.{Object}
 use Rattle.object_acts.specs.declared.objects.Body.{Body}
 use Rattle.object_acts.specs.declared.objects.Body.TheVariants as body
@@ -48,10 +48,19 @@ module _ (i bytes : List ℕ) where
   kind_same (body.Dataset array) y takes = ap kind_of_body takes.1
   kind_same (body.Datatype type) y takes = absurd takes
 
+  marks_still : (m n : Stored) → ((j : List ℕ) → state n j ≡ put (state m) i (Some false) j) → IsStillBody (body.Dataset m) → IsStillBody (body.Dataset n)
+  marks_still m n marks still = λ j. ap flagged (marks j) ∙ by_bool (bytes_eq i j) (flagged (put (state m) i (Some false) j) ≡ false)
+      (λ here. ap (λ b. flagged (cond b (Some false) (state m j))) here) (λ apart. ap (λ b. flagged (cond b (Some false) (state m j))) apart ∙ still j)
+
+  -- whether it takes the chunk or not
+  pub array_still : {A E : Type 0} (r : Result A E) (m n : Stored) → OnOk r ((j : List ℕ) → state n j ≡ put (state m) i (Some false) j) → OnErr r ((j : List ℕ) → state n j ≡ state m j)
+      → IsStillBody (body.Dataset m) → IsStillBody (body.Dataset n)
+  array_still (Ok x) m n marks same still = marks_still m n marks still
+  array_still (Err e) m n marks same still = λ j. ap flagged (same j) ∙ still j
+
   still_same : (x y : Body) → BodyTakes i bytes x y → IsStillBody x → IsStillBody y
   still_same (body.Group links) y takes still = absurd takes
-  still_same (body.Dataset array) y takes still = subst IsStillBody (sym takes.1) (λ j. ap flagged (takes.2.marks j) ∙ by_bool (bytes_eq i j) (flagged (put (state array) i (Some false) j) ≡ false)
-      (λ here. ap (λ b. flagged (cond b (Some false) (state array j))) here) (λ apart. ap (λ b. flagged (cond b (Some false) (state array j))) apart ∙ still j))
+  still_same (body.Dataset array) y takes still = subst IsStillBody (sym takes.1) (marks_still array takes.0 takes.2.marks still)
   still_same (body.Datatype type) y takes still = absurd takes
 
   sound_same : (x y : Body) → BodyTakes i bytes x y → IsSoundBody y

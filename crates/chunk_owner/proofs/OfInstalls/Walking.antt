@@ -28,11 +28,8 @@ use Rattle.chunk_owner.proofs.OfSlots.KeptSlots.{put_here, put_others}
 use Rattle.chunk_owner.proofs.OfSlots.KeyFacts.{index_numbers, object_no_chunk}
 use Rattle.containers.proofs.Passing.{by_bool}
 use Rattle.chunk_owner.specs.Installs.Records.{AreSound, IsBad, IsBadChunk, IsBadObject, IsFault, IsOfLane, IsWholeObject, KeepsRules, grid_at, grid_of}
-use Rattle.object_records.specs.InstallFaults.{MatchFault}
 use Rattle.containers.specs.TextMaps.Fronts.{IsLeast, held_by}
-use Rattle.chunk_owner.specs.Installs.Walks.{Blames, InstallsChunk, InstallsObject, IsInstalled, IsNew, IsWalk, Names, NotTakenAt}
-use Rattle.object_records.specs.declared.install_fault.InstallFault.{InstallFault}
-use Rattle.object_records.specs.declared.install_fault.InstallFault.TheVariants as of_installs
+use Rattle.chunk_owner.specs.Installs.Walks.{Blames, InstallsChunk, InstallsObject, IsInstalled, IsNew, IsWalk, NotTakenAt}
 use Rattle.chunk_owner.specs.declared.installs.faults.RecordFault.{RecordFault}
 use Rattle.chunk_owner.specs.declared.installs.faults.RecordFault.TheVariants.{BadRecord, NoMemory}
 use Rattle.containers.proofs.TextMaps.Fronts.{all_held, held_before, held_here, new_key, nothing_held, said_else, said_here, split_more}
@@ -229,12 +226,6 @@ module _ (lanes lane run next : ℕ) (held : Held) (rest : List Record) (e : Rec
   fault_chunk NoMemory id i is own key bad = tt
 
 -- ---- the end
-
-pub fault_named : (P : List ℕ → Type 0) (key : List ℕ) (fault : RecordFault) (named : InstallFault) → Names key fault named → Blames fault (P key) → MatchFault named P
-fault_named P key BadRecord (of_installs.BadRecord k) names bad = subst P (sym names) bad
-fault_named P key BadRecord of_installs.NoMemory names bad = tt
-fault_named P key NoMemory (of_installs.BadRecord k) names bad = absurd names
-fault_named P key NoMemory of_installs.NoMemory names bad = tt
 
 pub unmarked_once : (b : Body) → unmarked_body (unmarked_body b) ≡ unmarked_body b
 unmarked_once (body.Group links) = refl

@@ -1,5 +1,5 @@
 -- Lanes of which nothing changed, and what is held of them.
-use Rattle.std.proofs.Common.{◌≡◌, ◌⊎◌, ⊎_elim, ℕ, suc, ◌+◌, ◌<◌, ◌≤◌, List, [], ◌∷◌, length, Option, refl, sym, ap, subst, ◌∙◌, arith}
+use Rattle.std.proofs.Common.{◌≡◌, ◌⊎◌, ⊎_elim, ℕ, suc, ◌+◌, ◌<◌, ◌≤◌, List, [], ◌∷◌, length, Option, Some, refl, sym, ap, subst, ◌∙◌, arith}
 use Rattle.std.specs.FinMap.{get}
 use Rattle.std.specs.List.{AllByRecursion}
 use Rattle.flush_journal.specs.Records.{Held}
@@ -7,6 +7,7 @@ use Rattle.object_ids.specs.IdValues.{Id}
 use Rattle.object_ids.specs.Ids.{InRange, lane_of}
 use Rattle.object_acts.specs.declared.objects.Object.{Object}
 use Rattle.chunk_owner.specs.Slots.Slots.{AreStill, Describes, Says}
+use Rattle.chunk_owner.specs.Installs.Records.{IsWholeObject}
 use Rattle.chunk_owner.specs.Lanes.{Lane}
 use Rattle.chunk_owner.specs.Owners.Joined.{AreLanes, whole}
 use Rattle.chunk_owner.specs.Owners.Records.{AreStillIn, DescribesObjects, LanesSay}
@@ -15,6 +16,9 @@ use Rattle.chunk_owner.proofs.OfOwners.WholeLemmas.{at_home, get-whole, or_else}
 -- where nothing of a lane changed, what says what stands there describes it
 abbrev pub IsTold : Lane → Type 0
 IsTold l = AreStill l.slots → (id : Id) (held : Held) → Says (get l.slots id) id held → Describes held id (get l.objects id)
+
+abbrev pub WholeAt : Id → Object → Type 0
+WholeAt id o = InRange id × IsWholeObject (Some o)
 
 module _ (n : ℕ) (held : Held) (id : Id) (range : InRange id) where
   described : (k : ℕ) (ls : List Lane) → AreLanes n k ls → AllByRecursion IsTold ls → AreStillIn ls → LanesSay ls held → k ≤ lane_of n id → lane_of n id < k + length ls → Describes held id (get (whole ls) id)

@@ -1,22 +1,17 @@
 -- Lanes that are made from records.
-use Rattle.std.proofs.Common.{◌≡◌, ◌≢◌, ℕ, ◌+◌, ◌<◌, ◌≤◌, ◌⊎◌, ⊎_elim, List, [], ◌∷◌, ◌++◌, length, Option, Some, Result, Ok, Err, IfErr, refl, sym, ap, subst, ◌∙◌, arith}
+use Rattle.std.proofs.Common.{◌≡◌, ◌≢◌, ℕ, ◌+◌, ◌<◌, ◌≤◌, ◌⊎◌, ⊎_elim, List, [], ◌∷◌, ◌++◌, length, Option, Some, refl, sym, ap, subst, ◌∙◌, arith}
 use Rattle.std.specs.FinMap.{get}
-use Rattle.std.specs.Result.{IsErrAnd}
 use Rattle.std.proofs.lemmas.List.{get_or_push, length_push}
 use Rattle.object_ids.specs.IdValues.{Id}
 use Rattle.object_ids.specs.Ids.{InRange, lane_of}
 use Rattle.object_acts.specs.declared.objects.Object.{Object}
 use Rattle.flush_journal.specs.Records.{Held}
 use Rattle.chunk_owner.specs.Slots.Slots.{AreStill, Describes, Says}
-use Rattle.chunk_owner.specs.Installs.Records.{IsFault}
-use Rattle.object_records.specs.InstallFaults.{MatchFault}
-use Rattle.containers.specs.TextMaps.Fronts.{IsLeast}
-use Rattle.object_records.specs.declared.install_fault.InstallFault.{InstallFault}
-use Rattle.object_records.specs.declared.install_fault.InstallFault.TheVariants.{BadRecord, NoMemory}
-use Rattle.chunk_owner.specs.Lanes.{IsWhole, Lane}
+use Rattle.chunk_owner.specs.Installs.Records.{IsFault, IsWholeObject}
+use Rattle.chunk_owner.specs.Lanes.{AreWholeObjects, IsWhole, Lane}
 use Rattle.chunk_owner.proofs.Eaches.{each_empty}
 use Rattle.chunk_owner.specs.Owners.Joined.{AreLanes, IsLane, whole}
-use Rattle.chunk_owner.specs.Owners.Records.{AreFaultless, AreGivenUpTo, AreStillIn, IsFirstFault, LaneSays, LanesSay}
+use Rattle.chunk_owner.specs.Owners.Records.{AreFaultless, AreGivenUpTo, AreStillIn, LaneSays, LanesSay}
 use Rattle.chunk_owner.proofs.OfOwners.WholeLemmas.{at_home, each_push, get-push, lanes_push, or_else, or_none, own_of_whole}
 use Rattle.json_trees.proofs.ListLemmas.{all_append}
 
@@ -29,6 +24,7 @@ module _ (n run next : ℕ) (held : Held) where
     pub says : (id : Id) → InRange id → lane_of n id ≡ k → Says (get l.slots id) id held
     pub still : AreStill l.slots
     pub given : (id : Id) (o : Object) → get l.objects id ≡ Some o → InRange id × (id.run ≤ run) × (id.domain < next)
+    pub spelled : (id : Id) (o : Object) → get l.objects id ≡ Some o → InRange id × IsWholeObject (Some o)
     pub faultless : (key : List ℕ) → IsFault n k run next held key → ⊥
     pub sound : IsWhole l
 
@@ -39,6 +35,7 @@ module _ (n run next : ℕ) (held : Held) where
     pub says : LanesSay ls held
     pub still : AreStillIn ls
     pub given : AreGivenUpTo run next (whole ls)
+    pub spelled : AreWholeObjects (whole ls)
     pub faultless : (lane : ℕ) → lane < length ls → (key : List ℕ) → IsFault n lane run next held key → ⊥
 
   pub made_none : (ls : List Lane) → ls ≡ [] → AreMade ls
@@ -48,6 +45,7 @@ module _ (n run next : ℕ) (held : Held) where
     says = tt;
     still = tt;
     given = each_empty (λ id o. (id.run ≤ run) × (id.domain < next));
+    spelled = each_empty (λ id o. InRange id × IsWholeObject (Some o));
     faultless = λ lane few. absurd (omega arith);
   })
 
@@ -89,24 +87,10 @@ module _ (n run next : ℕ) (held : Held) where
       says = all_append (LaneSays held) ls (l ∷ []) h.says (says_here, tt);
       still = all_append (λ x. AreStill x.slots) ls (l ∷ []) h.still (made.still, tt);
       given = each_push (λ id o. (id.run ≤ run) × (id.domain < next)) ls l h.given (λ id o there. let g = made.given id o there in (g.1, g.2));
+      spelled = each_push (λ id o. InRange id × IsWholeObject (Some o)) ls l h.spelled made.spelled;
       faultless = faultless_more;
     })
 
   -- once all lanes were made
   pub faultless_all : (ls : List Lane) → AreMade ls → length ls ≡ n → AreFaultless n run next held
   faultless_all ls h all lane few key = h.faultless lane (omega (arith, few, all)) key
-
-  -- the first fault is that of the next lane
-  pub first_fault : (ls : List Lane) → AreMade ls → (k : ℕ) → length ls ≡ k → k < n → (e : InstallFault) → MatchFault e (IsLeast (IsFault n k run next held)) → MatchFault e (IsFirstFault n run next held)
-  first_fault ls h k count few (BadRecord key) least = record {
-    lane = k;
-    of = few;
-    before = λ earlier less q. h.faultless earlier (omega (arith, less, count)) q;
-    least = least;
-  }
-  first_fault ls h k count few NoMemory least = tt
-
--- a fault that is handed on is the same
-pub fault_handed : {A : Type 0} (r : Result A InstallFault) (fault : InstallFault) (P : List ℕ → Type 0) → IsErrAnd r (λ e. e ≡ fault) → MatchFault fault P → IfErr r (λ e. MatchFault e P)
-fault_handed (Ok x) fault P h told = tt
-fault_handed (Err e) fault P h told = subst (λ (f : InstallFault). MatchFault f P) (sym h) told

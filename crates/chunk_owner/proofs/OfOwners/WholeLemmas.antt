@@ -110,6 +110,11 @@ whole_same i [] l new is same = refl
 whole_same zero (x ∷ ls) l new is same = ap (λ m. merged (entries m) (whole ls)) (same ∙ ap (λ y. y.objects) (sym is))
 whole_same (suc i) (x ∷ ls) l new is same = ap (merged (entries x.objects)) (whole_same i ls l new is same)
 
+set_same : (i : ℕ) (ls : List Lane) (l : Lane) → get_or ls i l ≡ l → slice_set ls i l ≡ ls
+set_same i [] l is = refl
+set_same zero (x ∷ ls) l is = ap (λ y. y ∷ ls) (sym is)
+set_same (suc i) (x ∷ ls) l is = ap (λ ys. x ∷ ys) (set_same i ls l is)
+
 -- ---- a step in its lane
 
 module _ (n i : ℕ) (ls : List Lane) (l new : Lane) (h : AreLanes n 0 ls) (few : i < length ls) (is : get_or ls i l ≡ l) where
@@ -171,13 +176,13 @@ module _ (n i : ℕ) (ls : List Lane) (l new : Lane) (h : AreLanes n 0 ls) (few 
     put_whole (Ok u) put = let e : lane_of n id ≡ 0 + i = omega (arith, at) in put_at n 0 i ls l new id (Some o) h e few is put
     put_whole (Err x) put = tt
 
-    pub kept_whole : {E : Type 0} (r : Result (Unit {0}) E) → OnErr r (new.objects ≡ l.objects) → OnErr r (whole (slice_set ls i new) ≡ whole ls)
-    kept_whole (Ok u) kept = tt
-    kept_whole (Err x) kept = whole_same i ls l new is kept
+    pub kept_lanes : {E : Type 0} (r : Result (Unit {0}) E) → OnErr r (new ≡ l) → OnErr r (slice_set ls i new ≡ ls)
+    kept_lanes (Ok u) kept = tt
+    kept_lanes (Err x) kept = ap (slice_set ls i) kept ∙ set_same i ls l is
 
-    pub lane_put : {E : Type 0} (r : Result (Unit {0}) E) → IsSameLane l new → OnOk r (new.objects ≡ insert l.objects id o) → OnErr r (new.objects ≡ l.objects) → AreLanes n 0 (slice_set ls i new)
+    pub lane_put : {E : Type 0} (r : Result (Unit {0}) E) → IsSameLane l new → OnOk r (new.objects ≡ insert l.objects id o) → OnErr r (new ≡ l) → AreLanes n 0 (slice_set ls i new)
     lane_put (Ok u) same put kept = lanes_after same (own_after id (Some o) at put)
-    lane_put (Err x) same put kept = lanes_after same (own_same kept)
+    lane_put (Err x) same put kept = lanes_after same (own_same (ap (λ (x : Lane). x.objects) kept))
 
   -- an id without an object has none in the lane
   pub none_here : (q : Id) → get (whole ls) q ≡ None → get l.objects q ≡ None

@@ -1,9 +1,9 @@
 -- The walks of a cut: one appends the records of what changed, one settles it.
-use Rattle.std.proofs.Common.{◌≡◌, ◌≢◌, ℕ, ◌<◌, ◌⊎◌, inl, inr, Bool, true, false, cond, List, [], length, Option, Some, None, IsSome, Less, is_eq, refl, sym, ap, subst, ◌∙◌, append-nil}
-use Rattle.std.specs.FinMap.{get, entries}
+use Rattle.std.proofs.Common.{◌≡◌, ◌≢◌, ℕ, ◌<◌, ◌⊎◌, inl, inr, Bool, true, false, cond, List, [], Option, Some, None, is_some, is_eq, refl, sym, ap, subst, ◌∙◌, append-nil}
+use Rattle.std.specs.FinMap.{get}
 use Rattle.std.specs.Cmp.{Equal-is}
 use Rattle.std.proofs.lemmas.Option.{none-some}
-use Rattle.containers.specs.TextMaps.Nexts.{is_behind, left, IsNext}
+use Rattle.containers.specs.TextMaps.Nexts.{is_behind}
 use Rattle.object_ids.specs.IdOrder.{id_order}
 use Rattle.object_ids.specs.IdValues.{Id}
 use Rattle.object_ids.specs.Ids.{InRange}
@@ -19,21 +19,19 @@ use Rattle.object_records.specs.Keys.Keys.{object_key}
 use Rattle.chunk_owner.specs.declared.slots.slot.Mark.{Mark}
 use Rattle.chunk_owner.specs.declared.slots.slot.Mark.TheVariants.{Kept}
 use Rattle.chunk_owner.specs.declared.slots.slot.Slot.{Slot}
-use Rattle.chunk_owner.specs.Slots.Slots.{AreOfKind, AreStill, IsMarked, IsMarkedIn, IsStill, IsStillBody, Says, Slots, is_meant, object_of}
+use Rattle.chunk_owner.specs.Slots.Slots.{AreOfKind, AreStill, IsMarked, IsMarkedIn, IsStill, IsStillBody, IsStillSlot, Says, Slots, is_meant, object_of}
 use Rattle.chunk_owner.specs.Slots.Bodies.{IsRecordOf, IsSlotRecord}
 use Rattle.chunk_owner.specs.Slots.Cutting.{AddsAll, AddsAt, AddsChunksIn, AddsFrontAt, AddsSlot, IsObjectPart}
+use Rattle.chunk_owner.specs.Slots.Listed.{AreListed, IsNextLook, is_looked_at}
+use Rattle.chunk_owner.specs.declared.slots.changes.Changes.{Changes}
 use Rattle.chunk_owner.specs.Slots.Settled.{AreSettled, BodySettles, Settles, SettlesBy}
 use Rattle.containers.proofs.Passing.{by_bool, contrary}
 use Rattle.chunk_owner.proofs.OfSlots.LaneCuts.{IsKeyApart, IsMarkedTo, by_place, itself_not, marked_apart, not_behind, other_id, said_apart, same_id, settled_kind, settled_object, settled_still, weaker_behind}
 use Rattle.chunk_owner.proofs.OfSlots.SlotBodies.{front_each, slot_each}
 use Rattle.chunk_owner.proofs.OfSlots.SlotCuts.{slot_cut}
-use Rattle.chunk_owner.proofs.OfSlots.Standing.{fewer_left}
+use Rattle.chunk_owner.proofs.OfSlots.Listing.{fewer_looks, looks_left}
 
 -- ---- what is still
-
-abbrev pub IsStillAt : Option Slot → Type 0
-IsStillAt None = Unit {0}
-IsStillAt (Some s) = IsStill s
 
 -- the same chunks are known of what is still
 same_known : (inside : Bool) (o : Option Bool) → flagged o ≡ false → o ≡ cleared inside o
@@ -57,7 +55,7 @@ body_itself (body.Dataset array) still = (
 body_itself (body.Datatype type) still = refl
 
 -- it settles as it is
-pub still_settles : (o : Option Slot) → IsStillAt o → Settles o o
+pub still_settles : (o : Option Slot) → IsStillSlot o → Settles o o
 still_settles None still = refl
 still_settles (Some s) still = subst (λ (m : Mark). SettlesBy m s (Some s)) (sym still.0) (s, refl, record { mark = still.0; attributes = refl; body = body_itself s.object.body still.1 })
 
@@ -83,11 +81,16 @@ no_records id s still = (
 )
 
 -- so what is held says of it what it said
-pub still_said : (id : Id) (o t : Option Slot) → InRange id → ((s : Slot) → o ≡ Some s → IsOfKind id.kind s.object) → IsStillAt o → Settles o t → (held : Held) → Says o id held → Says t id held
+pub still_said : (id : Id) (o t : Option Slot) → InRange id → ((s : Slot) → o ≡ Some s → IsOfKind id.kind s.object) → IsStillSlot o → Settles o t → (held : Held) → Says o id held → Says t id held
 still_said id None t range kinds still settles held said = subst (λ (w : Option Slot). Says w id held) (sym settles) said
 still_said id (Some s) t range kinds still settles held said =
     let c = slot_cut id s t held [] [] range (kinds s refl) (no_records id s still) settles in
     subst (λ (rs : List Record). Says (Some s) id held → Says t id (put_all rs held)) (sym c.appended) c.stands said
+
+pub settles_still : (o n : Option Slot) → Settles o n → IsStillSlot n
+settles_still o None settles = tt
+settles_still None (Some t) settles = absurd (none-some t (sym settles))
+settles_still (Some s) (Some t) settles = settled_still s.mark s t (Some t) settles refl
 
 -- ---- what stands once all is settled
 
@@ -166,19 +169,6 @@ front_here : (slots : Slots) (id : Id) (o : Option Slot) → InRange id → get 
 front_here slots id None range here kinds mid new adds = subst (λ (rs : List Record). AppendsEach (IsSlotRecord slots) mid rs) (sym adds) (appends_none (IsSlotRecord slots) mid)
 front_here slots id (Some s) range here kinds mid new adds = appends_as (IsRecordOf id (object_of (Some s))) (IsSlotRecord slots) mid new
     (λ r h. record { id = id; range = range; slot = s; here = here; of = h }) (front_each id s (kinds id s here).kind mid new adds)
-
--- nothing that changed stands between an id and the next one that is looked at, if any is
-abbrev pub IsNextLook : Slots → Option Id → Option Id → Type 0
-IsNextLook slots last None = (q : Id) → is_behind id_order last q ≡ true → IsStillAt (get slots q)
-IsNextLook slots last (Some id) = (is_behind id_order last id ≡ true) × ((q : Id) → is_behind id_order last q ≡ true → id_order q id ≡ Less → IsStillAt (get slots q))
-
-pub none_still : (o : Option Slot) → o ≡ None → IsStillAt o
-none_still o none = subst (λ (w : Option Slot). IsStillAt w) (sym none) tt
-
--- so it is where all ids with a slot are looked at
-pub next_look : (slots : Slots) (last next : Option Id) → IsNext slots last next → IsNextLook slots last next
-next_look slots last None none = λ q b. none_still (get slots q) (none q b)
-next_look slots last (Some id) next = (next.0, λ q b less. none_still (get slots q) (next.2 q b less))
 
 module _ (old : Slots) (first mid : List Record) (last : Option Id) (kinds : AreOfKind old) (a : IsAppended old first mid last) where
   module _ (id : Id) (range : InRange id) (next : IsNextLook old last (Some id)) (after : List Record) where
@@ -287,7 +277,7 @@ settled_none old = record { ahead = λ q b. refl; done = λ q isnt. contrary tru
 
 module _ (old cur : Slots) (last : Option Id) (d : IsSettledTo old cur last) where
   -- what is still has settled
-  passed : (q : Id) → is_behind id_order last q ≡ true → IsStillAt (get cur q) → Settles (get old q) (get cur q)
+  passed : (q : Id) → is_behind id_order last q ≡ true → IsStillSlot (get cur q) → Settles (get old q) (get cur q)
   passed q b still = subst (λ (o : Option Slot). Settles o (get cur q)) (d.ahead q b) (still_settles (get cur q) still)
 
   pub settled_more : (new : Slots) (id : Id) → IsNextLook cur last (Some id) → Settles (get cur id) (get new id) → ((q : Id) → q ≢ id → get new q ≡ get cur q) → IsSettledTo old new (Some id)
@@ -299,8 +289,13 @@ module _ (old cur : Slots) (last : Option Id) (d : IsSettledTo old cur last) whe
         (by_bool (is_behind id_order last q) (Settles (get old q) (get cur q)) (λ b. passed q b (next.1 q b less)) (λ b. d.done q b)));
   }
 
-  pub settled_smaller : (id : Id) → IsNext cur last (Some id) → length (left id_order (Some id) (entries old)) < length (left id_order last (entries old))
-  settled_smaller id next = fewer_left old last id next.0 (subst (λ (o : Option Slot). IsSome o) (d.ahead id next.0) next.1)
+  -- what is looked at now was so at the begin
+  pub settled_smaller : (c : Changes) (id : Id) → IsNextLook cur last (Some id) → is_looked_at c cur id ≡ true → looks_left c old (Some id) < looks_left c old last
+  settled_smaller c id next looked = fewer_looks c old last id next.0 (subst (λ (o : Option Slot). cond c.all (is_some o) (is_some (get c.listed id)) ≡ true) (d.ahead id next.0) looked)
+
+  pub settled_listed : (c : Changes) → AreListed c old → AreListed c cur
+  settled_listed c listed q isnt = by_bool (is_behind id_order last q) (IsStillSlot (get cur q))
+      (λ b. subst IsStillSlot (sym (d.ahead q b)) (listed q isnt)) (λ b. settles_still (get old q) (get cur q) (d.done q b))
 
   pub settled_all : IsNextLook cur last None → AreSettled old cur
   settled_all none q = by_bool (is_behind id_order last q) (Settles (get old q) (get cur q)) (λ b. passed q b (none q b)) (λ b. d.done q b)

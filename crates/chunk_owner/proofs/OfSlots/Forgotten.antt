@@ -104,7 +104,7 @@ pub record IsForgot (kind : Kind) (number : ℕ) (old cur : Slots) (last : Id) :
   pub kinds : AreOfKind cur
   pub ids : HasSameIds old cur
 
-same_domain : (a b : ℕ) → (a ≡ b) ⊎ (a ≢ b)
+pub same_domain : (a b : ℕ) → (a ≡ b) ⊎ (a ≢ b)
 same_domain a b = grind arith
 
 -- one slot was looked at, which stays where its domain is another
@@ -217,6 +217,9 @@ module _ (number : ℕ) (old a b new : Slots) (first : ForgetsKind Group number 
         let other : q.domain ≢ number = (λ same. contrary (q.domain == number) ⊥ (eq-eqb q.domain number same) e) in
         ap object_of (third.others q (λ k. other)) ∙ ap object_of (second.others q (λ k. other)) ∙ ap object_of (first.others q (λ k. other))
         ∙ sym (ap (λ x. cond x None (object_of (get old q))) e)
+
+  pub forgot_others : (q : Id) → q.domain ≢ number → get new q ≡ get old q
+  forgot_others q other = third.others q (λ k. other) ∙ second.others q (λ k. other) ∙ first.others q (λ k. other)
 
   module _ (one : AddsMarks (IsToForgetIn Group number (get old)) old a) (two : AddsMarks (IsToForgetIn Dataset number (get a)) a b) (three : AddsMarks (IsToForgetIn Datatype number (get b)) b new) where
     by_first : (key : List ℕ) → IsMarked old key ⊎ IsToForgetIn Group number (get old) key → IsMarked old key ⊎ IsToForget number (get old) key

@@ -1,7 +1,7 @@
 -- The objects that stand, as one map.
 use Rattle.std.proofs.Common.{◌≡◌, ◌≢◌, ◌<◌, Bool, true, false, cond, T, List, [], ◌∷◌, length, Option, Some, None, is_some, IsSome, Less, Equal, is_eq, refl, sym, ap, subst, ◌∙◌}
 use Rattle.std.specs.Cmp.{Equal-is}
-use Rattle.std.specs.FinMap.{empty, entries, entries_sorted, find, get, insert, remove, get-empty, get-entries, get-from_entries, get-insert, get-remove, is_sorted, same_map}
+use Rattle.std.specs.FinMap.{FinMap, empty, entries, entries_sorted, find, get, insert, remove, get-empty, get-entries, get-from_entries, get-insert, get-remove, is_sorted, same_map}
 use Rattle.std.specs.FinMap.Entries.{below_all}
 use Rattle.std.specs.Ordering.{eq_by_cmp}
 use Rattle.std.proofs.lemmas.Cmp.{tied_itself}
@@ -80,7 +80,7 @@ module _ (m : Slots) (after at : Option Id) (p : IsPassed m after at) where
 
 -- ---- fewer ids are left
 
-pub fewer_left : (m : Slots) (last : Option Id) (id : Id) → is_behind id_order last id ≡ true → IsSome (get m id) → length (left id_order (Some id) (entries m)) < length (left id_order last (entries m))
+pub fewer_left : {X : Type 0} (m : FinMap id_order X) (last : Option Id) (id : Id) → is_behind id_order last id ≡ true → IsSome (get m id) → length (left id_order (Some id) (entries m)) < length (left id_order last (entries m))
 fewer_left m last id behind there = fewer_there (is_behind id_order (Some id)) (is_behind id_order last) (λ q e. weaker_behind last id q behind e) (eq_by_cmp id_order id) at_id (entries m)
     (found_find id_order id (entries m) (ap is_some (sym (get-entries m id)) ∙ there)) where
       at_id : (q : Id) → eq_by_cmp id_order id q ≡ true → (is_behind id_order (Some id) q ≡ false) × (is_behind id_order last q ≡ true)

@@ -1,5 +1,5 @@
 -- The records of a lane's objects, and those that can't stand.
-use Rattle.std.specs.Prelude.{◌≡◌, ◌⊎◌, ℕ, ◌<◌, ◌≤◌, List, Option, Some, None, option_and_then}
+use Rattle.std.specs.Prelude.{◌≡◌, ◌≢◌, ◌⊎◌, ℕ, ◌<◌, ◌≤◌, List, Option, Some, None, option_and_then}
 use Rattle.std.specs.FinMap.{get}
 use Rattle.flush_journal.specs.Records.{Held, IsRecordMap}
 use Rattle.object_ids.specs.IdValues.{Id}
@@ -9,7 +9,7 @@ use Rattle.chunk_store.specs.Grids.{Grid, all_fill}
 use Rattle.chunk_store.specs.Marks.{IsChunkOf}
 use Rattle.object_acts.specs.declared.objects.Object.{Object}
 use Rattle.object_acts.specs.Objects.{unmarked}
-use Rattle.object_records.specs.Keys.Keys.{Subject, IsSubject, key_of, object_key}
+use Rattle.object_records.specs.Keys.Keys.{IsChunk, Subject, IsSubject, chunk_key, key_of, object_key}
 use Rattle.object_records.specs.Keys.Keys.{the_run, node, object, chunk, next_number}
 use Rattle.object_records.specs.Entries.{Entry, Kept, group, dataset, datatype}
 use Rattle.object_records.specs.Objects.{IsKeptBody, object_of_body}
@@ -24,6 +24,10 @@ IsOfLane lanes lane (node path) = ⊥
 IsOfLane lanes lane (object id) = lane_of lanes id ≡ lane
 IsOfLane lanes lane (chunk id i) = lane_of lanes id ≡ lane
 IsOfLane lanes lane next_number = ⊥
+
+-- the key of no object's record, and of no chunk's
+abbrev pub IsOther : List ℕ → Type 0
+IsOther key = ((id : Id) → InRange id → object_key id ≢ key) × ((id : Id) (i : List ℕ) → IsChunk id i → chunk_key id i ≢ key)
 
 -- the array that a dataset's record tells, with no cell written
 abbrev pub grid_of : Kept → Option Grid

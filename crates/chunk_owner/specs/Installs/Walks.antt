@@ -12,20 +12,26 @@ use Rattle.chunk_store.specs.declared.array.InstallFault.{InstallFault as ChunkF
 use Rattle.chunk_store.specs.declared.array.InstallFault.TheVariants as of_chunks
 use Rattle.object_acts.specs.declared.objects.Body.{Body}
 use Rattle.object_acts.specs.declared.objects.Body.TheVariants as body
-use Rattle.object_acts.specs.Objects.{IsOfKind, IsTrackedBody}
+use Rattle.object_acts.specs.Objects.{IsOfKind, IsSoundBody, IsTrackedBody, kind_of_body}
 use Rattle.object_records.specs.Keys.Keys.{Subject, IsSubject, key_of}
+use Rattle.object_records.specs.Keys.Keys.{the_run, node, object, chunk, next_number}
 use Rattle.object_records.specs.Entries.{entry_of}
 use Rattle.object_records.specs.Objects.{IsKeptBody, object_of_body}
 use Rattle.object_records.specs.declared.faults.BodyFault.{BodyFault}
 use Rattle.object_records.specs.declared.faults.BodyFault.TheVariants as of_bodies
 use Rattle.chunk_owner.specs.declared.slots.slot.Mark.TheVariants.{Kept}
 use Rattle.chunk_owner.specs.declared.slots.slot.Slot.{Slot}
-use Rattle.chunk_owner.specs.Slots.Slots.{IsStillBody, Says, Slots}
-use Rattle.object_records.specs.declared.install_fault.InstallFault.{InstallFault}
-use Rattle.object_records.specs.declared.install_fault.InstallFault.TheVariants as of_installs
+use Rattle.chunk_owner.specs.Slots.Slots.{IsStillBody, IsStillSlot, Says, Slots}
 use Rattle.chunk_owner.specs.declared.installs.faults.RecordFault.{RecordFault}
 use Rattle.chunk_owner.specs.declared.installs.faults.RecordFault.TheVariants.{BadRecord, NoMemory}
-use Rattle.chunk_owner.specs.Installs.Records.{IsOfLane, KeepsRules}
+use Rattle.chunk_owner.specs.declared.installs.keys.LaneKey.{LaneKey}
+use Rattle.chunk_owner.specs.declared.installs.keys.LaneKey.TheVariants as lane_keys
+use Rattle.chunk_owner.specs.Installs.Records.{IsBadObject, IsOfLane, KeepsRules}
+
+-- what a lane's record is of
+abbrev pub subject_of : LaneKey → Subject
+subject_of (lane_keys.Object id) = object id
+subject_of (lane_keys.Chunk c) = chunk c.dataset c.index
 
 -- ---- faults
 
@@ -42,13 +48,6 @@ of_chunk of_chunks.NoMemory = NoMemory
 abbrev pub Blames : RecordFault → Type 0 → Type 0
 Blames BadRecord P = P
 Blames NoMemory P = Unit {0}
-
--- the fault of a record is named by the record's key
-abbrev pub Names : List ℕ → RecordFault → InstallFault → Type 0
-Names key BadRecord (of_installs.BadRecord k) = k.items ≡ key
-Names key BadRecord of_installs.NoMemory = Unit {0}
-Names key NoMemory (of_installs.BadRecord k) = ⊥
-Names key NoMemory of_installs.NoMemory = Unit {0}
 
 -- ---- objects
 
@@ -111,6 +110,40 @@ pub record SlotTakes (i bytes : List ℕ) (old new : Slot) : Type 0 where
 -- so the slot of a dataset does, and all others stay
 abbrev pub InstallsChunk : Id → List ℕ → List ℕ → Slots → Slots → Type 0
 InstallsChunk id i bytes old new = (s t : Slot) × (get old id ≡ Some s) × (new ≡ insert old id t) × SlotTakes i bytes s t
+
+-- a body is of the same kind, and sound, unchanged and spelled where it was
+pub record KeepsBody (old new : Body) : Type 0 where
+  pub kind : kind_of_body new ≡ kind_of_body old
+  pub sound : IsSoundBody old → IsSoundBody new
+  pub still : IsStillBody old → IsStillBody new
+  pub whole : IsKeptBody old → IsKeptBody new
+
+-- so is a slot's, and the mark stays
+pub record KeepsSlot (old new : Slot) : Type 0 where
+  pub mark : new.mark ≡ old.mark
+  pub body : KeepsBody old.object.body new.object.body
+
+-- what had not changed still hasn't
+abbrev pub KeepsStill : Slots → Slots → Type 0
+KeepsStill old new = (id : Id) → IsStillSlot (get old id) → IsStillSlot (get new id)
+
+-- ---- records
+
+-- what a record of this subject tells is installed
+abbrev pub Installs : ℕ → ℕ → Subject → List ℕ → Slots → Slots → Type 0
+Installs run next the_run body old new = ⊥
+Installs run next (node path) body old new = ⊥
+Installs run next (object id) body old new = InstallsObject run next id body old new
+Installs run next (chunk id i) body old new = InstallsChunk id i body old new
+Installs run next next_number body old new = ⊥
+
+-- it can't stand
+abbrev pub IsRefused : ℕ → ℕ → Subject → List ℕ → Slots → Type 0
+IsRefused run next the_run body slots = ⊥
+IsRefused run next (node path) body slots = ⊥
+IsRefused run next (object id) body slots = IsBadObject run next id body
+IsRefused run next (chunk id i) body slots = NotTakenAt i body (get slots id)
+IsRefused run next next_number body slots = ⊥
 
 -- ---- a walk
 

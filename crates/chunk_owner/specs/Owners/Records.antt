@@ -8,7 +8,7 @@ use Rattle.object_acts.specs.declared.objects.Object.{Object}
 use Rattle.flush_journal.specs.Records.{Held, Record}
 use Rattle.chunk_owner.specs.Slots.Bodies.{IsRecordOf, IsUndropped}
 use Rattle.chunk_owner.specs.Slots.Slots.{AreStill, Describes, IsMarked, Says}
-use Rattle.chunk_owner.specs.Installs.Records.{IsFault}
+use Rattle.chunk_owner.specs.Installs.Records.{AreSound, IsFault, IsOther}
 use Rattle.containers.specs.TextMaps.Fronts.{IsLeast}
 use Rattle.chunk_owner.specs.Lanes.{Lane}
 use Rattle.chunk_owner.specs.Owners.Joined.{whole}
@@ -59,7 +59,15 @@ DescribesObjects held m = (id : Id) → InRange id → Describes held id (get m 
 abbrev pub AreGivenUpTo : ℕ → ℕ → Objects → Type 0
 AreGivenUpTo run next m = (id : Id) (o : Object) → get m id ≡ Some o → (id.run ≤ run) × (id.domain < next)
 
+-- each record of no object and no chunk is held as before
+abbrev pub KeepsOthers : Held → Held → Type 0
+KeepsOthers old new = (key : List ℕ) → IsOther key → get new key ≡ get old key
+
 -- ---- records that can't stand
+
+-- each record of each lane keeps to the rules
+abbrev pub AreSoundIn : ℕ → ℕ → ℕ → Held → Type 0
+AreSoundIn lanes run next held = (lane : ℕ) → lane < lanes → AreSound lanes lane run next held
 
 -- the first lane of so many that has a key at fault, and its least one
 pub record IsFirstFault (lanes run next : ℕ) (held : Held) (key : List ℕ) : Type 0 where

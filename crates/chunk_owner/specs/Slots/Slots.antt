@@ -17,7 +17,7 @@ use Rattle.object_acts.specs.Objects.{IsOfKind, kind_of_body, unmarked}
 use Rattle.flush_journal.specs.Records.{Held}
 use Rattle.object_records.specs.Keys.Keys.{chunk_key, object_key}
 use Rattle.object_records.specs.Entries.{entry_of}
-use Rattle.object_records.specs.Objects.{object_of_body}
+use Rattle.object_records.specs.Objects.{IsKeptBody, object_of_body}
 use Rattle.chunk_owner.specs.declared.slots.slot.Mark.{Mark}
 use Rattle.chunk_owner.specs.declared.slots.slot.Mark.TheVariants.{Kept, Dropped}
 use Rattle.chunk_owner.specs.declared.slots.slot.Slot.{Slot}
@@ -140,8 +140,18 @@ IsStillBody (body.Datatype type) = Unit {0}
 abbrev pub IsStill : Slot → Type 0
 IsStill s = (s.mark ≡ Kept) × IsStillBody s.object.body
 
+-- so of what stands at an id, if anything does
+abbrev pub IsStillSlot : Option Slot → Type 0
+IsStillSlot None = Unit {0}
+IsStillSlot (Some s) = IsStill s
+
 abbrev pub AreStill : Slots → Type 0
 AreStill slots = (id : Id) (s : Slot) → get slots id ≡ Some s → IsStill s
+
+-- each part of it can be spelled
+abbrev pub IsSpelledSlot : Option Slot → Type 0
+IsSpelledSlot None = Unit {0}
+IsSpelledSlot (Some s) = IsKeptBody s.object.body
 
 -- ---- the objects that records describe
 

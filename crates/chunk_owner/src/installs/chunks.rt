@@ -1,9 +1,12 @@
 //! The chunks that records tell.
 
-ghost use Rattle.std.specs.Prelude.{OnOk, IfErr};
+ghost use Rattle.std.specs.Prelude.{ℕ, OnOk, IfErr};
 ghost use Rattle.std.specs.FinMap.{get};
-ghost use Rattle.chunk_owner.specs.Installs.Walks.{ArrayTakes, Blames, BodyTakes, InstallsChunk, NotChunkOf, NotTaken};
+ghost use Rattle.object_acts.specs.declared.objects.Body.TheVariants.{Dataset};
+ghost use Rattle.chunk_owner.specs.Installs.Walks.{ArrayTakes, Blames, BodyTakes, InstallsChunk};
+ghost use Rattle.chunk_owner.specs.Installs.Walks.{KeepsBody, KeepsSlot, KeepsStill, NotChunkOf, NotTaken};
 ghost use Rattle.chunk_owner.specs.Installs.Walks.{NotTakenAt, SlotTakes};
+ghost use Rattle.chunk_owner.specs.Lanes.{AreSlotsOf};
 
 use crate::installs::faults::RecordFault;
 use crate::slots::Slot;
@@ -11,68 +14,58 @@ use chunk_store::Array;
 use object_acts::Body;
 use object_ids::{IdMap, ObjectId};
 use shapes::Dims;
-use std::alloc::Global;
 
-/// Installs a chunk that a body tells into the array of its dataset.
+/// Installs a chunk that a body tells into the array of its dataset, which takes the body's bytes as they are.
 ///
 /// # Errors
 ///
 /// `BadRecord` where there is no such dataset, or the body tells no chunk of it; else `NoMemory`.
 pub(crate) fn install_chunk(
-    alloc: Global,
     slots: &mut IdMap<Slot>,
     dataset: &ObjectId,
     index: &Dims,
-    body: &[u8],
+    body: Vec<u8>,
 ) -> Result<(), RecordFault>
-    ensures done { OnOk result (InstallsChunk dataset.now index.now body.now slots.old slots.new) }
+    ensures done { OnOk result (InstallsChunk dataset.now index.now body.items slots.old slots.new) }
     ensures bad { IfErr result (λ e.
-        Blames e (NotTakenAt index.now body.now (get slots.old dataset.now))) }
+        Blames e (NotTakenAt index.now body.items (get slots.old dataset.now))) }
+    ensures own { (lane lanes : ℕ) → AreSlotsOf lane lanes slots.old
+        → AreSlotsOf lane lanes slots.new }
+    ensures still { KeepsStill slots.old slots.new }
 {
     match slots.get_mut(dataset) {
-        Some(slot) => install_slot(alloc, slot, index, body),
+        Some(slot) => install_slot(slot, index, body),
         None => Err(RecordFault::BadRecord),
     }
 }
 
-fn install_slot(
-    alloc: Global,
-    slot: &mut Slot,
-    index: &Dims,
-    body: &[u8],
-) -> Result<(), RecordFault>
-    ensures done { OnOk result (SlotTakes index.now body.now slot.old slot.new) }
-    ensures bad { IfErr result (λ e. Blames e (NotTaken index.now body.now slot.old.object.body)) }
+fn install_slot(slot: &mut Slot, index: &Dims, body: Vec<u8>) -> Result<(), RecordFault>
+    ensures done { OnOk result (SlotTakes index.now body.items slot.old slot.new) }
+    ensures bad { IfErr result (λ e. Blames e (NotTaken index.now body.items slot.old.object.body)) }
+    ensures keeps { KeepsSlot slot.old slot.new }
 {
-    install_body(alloc, &mut slot.object.body, index, body)
+    install_body(&mut slot.object.body, index, body)
 }
 
-fn install_body(
-    alloc: Global,
-    object: &mut Body,
-    index: &Dims,
-    body: &[u8],
-) -> Result<(), RecordFault>
-    ensures done { OnOk result (BodyTakes index.now body.now object.old object.new) }
-    ensures bad { IfErr result (λ e. Blames e (NotTaken index.now body.now object.old)) }
+fn install_body(object: &mut Body, index: &Dims, body: Vec<u8>) -> Result<(), RecordFault>
+    ensures done { OnOk result (BodyTakes index.now body.items object.old object.new) }
+    ensures bad { IfErr result (λ e. Blames e (NotTaken index.now body.items object.old)) }
+    ensures keeps { KeepsBody object.old object.new }
 {
     match object {
-        Body::Dataset(array) => install_array(alloc, array, index, body),
+        Body::Dataset(array) => install_array(array, index, body),
         Body::Group(_) | Body::Datatype(_) => Err(RecordFault::BadRecord),
     }
 }
 
-fn install_array(
-    alloc: Global,
-    array: &mut Array,
-    index: &Dims,
-    body: &[u8],
-) -> Result<(), RecordFault>
-    ensures done { OnOk result (ArrayTakes index.now body.now array.old array.new) }
-    ensures bad { IfErr result (λ e. Blames e (NotChunkOf array.old.grid index.now body.now)) }
+fn install_array(array: &mut Array, index: &Dims, body: Vec<u8>) -> Result<(), RecordFault>
+    ensures done { OnOk result (ArrayTakes index.now body.items array.old array.new) }
+    ensures bad { IfErr result (λ e. Blames e (NotChunkOf array.old.grid index.now body.items)) }
+    ensures keeps { KeepsBody (Dataset array.old) (Dataset array.new) }
 {
-    array.install(index, body.to_vec(alloc)?)?;
+    let done = array.install(index, body);
     array.is_whole();
     let _layout = array.layout();
+    done?;
     Ok(())
 }

@@ -1,27 +1,13 @@
-//! Why records describe no objects.
+//! Why a record is not installed.
 
 ghost use Rattle.std.specs.Prelude.{◌≡◌};
 ghost use Rattle.object_records.specs.declared.faults.BodyFault.{BodyFault};
-ghost use Rattle.object_records.specs.declared.install_fault.InstallFault.TheVariants as of_install;
-ghost use Rattle.chunk_owner.specs.declared.installs.faults.RecordFault.TheVariants.{BadRecord, NoMemory};
-ghost use Rattle.chunk_owner.specs.Installs.Walks.{Names, of_body, of_chunk};
+ghost use Rattle.chunk_owner.specs.declared.installs.faults.RecordFault.TheVariants.{NoMemory};
+ghost use Rattle.chunk_owner.specs.Installs.Walks.{of_body, of_chunk};
 
 use chunk_store::InstallFault as ChunkFault;
-use object_records::{BodyFault, InstallFault};
-use std::alloc::{AllocError, Global};
-
-// The fault of a record that has this key.
-pub(crate) fn fault_at(alloc: Global, key: &[u8], fault: RecordFault) -> InstallFault
-    ensures { Names key.now fault result }
-{
-    match fault {
-        RecordFault::BadRecord => match key.to_vec(alloc) {
-            Ok(key) => InstallFault::BadRecord { key },
-            Err(_) => InstallFault::NoMemory,
-        },
-        RecordFault::NoMemory => InstallFault::NoMemory,
-    }
-}
+use object_records::BodyFault;
+use std::alloc::AllocError;
 
 /// Why a record was not installed.
 #[derive(Clone, Copy, Debug, PartialEq, Eq)]

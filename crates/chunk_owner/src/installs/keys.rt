@@ -1,41 +1,44 @@
-//! The keys of a lane's records.
+//! The keys of lanes' records.
 
-ghost use Rattle.std.specs.Prelude.{◌≡◌, ◌≢◌, ◌≤◌, ℕ, List, MatchOption};
-ghost use Rattle.object_ids.specs.IdValues.{Id};
-ghost use Rattle.object_ids.specs.Ids.{InRange, lane_of};
-ghost use Rattle.object_records.specs.Keys.Keys.{IsChunk, chunk_key, object_key};
+ghost use Rattle.std.specs.Prelude.{◌≡◌, ◌≤◌, ◌<◌, MatchOption};
+ghost use Rattle.object_records.specs.Keys.Keys.{IsSubject, key_of};
+ghost use Rattle.chunk_owner.specs.Installs.Records.{IsOfLane, IsOther};
+ghost use Rattle.chunk_owner.specs.Installs.Walks.{subject_of};
 
 use object_ids::{ObjectId, lane as lane_of};
 use object_records::keys::{ChunkId, chunk_at, object_at};
 
-/// The object of a lane whose record has this key.
-pub(crate) fn own_object(lane: u32, lanes: u32, key: &[u8]) -> Option<ObjectId>
-    requires { 1 ≤ lanes }
-    ensures { MatchOption result
-        ((id : Id) → InRange id → lane_of lanes id ≡ lane → object_key id ≢ key.now)
-        (λ id. InRange id × (lane_of lanes id ≡ lane) × (object_key id ≡ key.now)) }
+/// What a lane's record is of.
+#[derive(Clone, Copy, Debug)]
+pub(crate) enum LaneKey {
+    /// An object.
+    Object(ObjectId),
+    /// A chunk of a dataset.
+    Chunk(ChunkId),
+}
+
+/// What the record of this key is of, where it is one of a lane.
+pub(crate) fn lane_key_at(key: &[u8]) -> Option<LaneKey>
+    ensures { MatchOption result (IsOther key.now)
+        (λ of. IsSubject (subject_of of) × (key_of (subject_of of) ≡ key.now)) }
 {
-    let id = object_at(key)?;
-    if lane_of(&id, lanes) == lane {
-        Some(id)
-    } else {
-        None
+    if let Some(id) = object_at(key) {
+        return Some(LaneKey::Object(id));
+    }
+    match chunk_at(key) {
+        Some(chunk) => Some(LaneKey::Chunk(chunk)),
+        None => None,
     }
 }
 
-/// The chunk of a lane's dataset whose record has this key.
-pub(crate) fn own_chunk(lane: u32, lanes: u32, key: &[u8]) -> Option<ChunkId>
+/// The lane of a record, of so many lanes.
+pub(crate) fn lane_of_key(of: &LaneKey, lanes: u32) -> u32
     requires { 1 ≤ lanes }
-    ensures { MatchOption result
-        ((id : Id) (index : List ℕ) → IsChunk id index → lane_of lanes id ≡ lane
-        → chunk_key id index ≢ key.now)
-        (λ c. IsChunk c.dataset c.index × (lane_of lanes c.dataset ≡ lane)
-        × (chunk_key c.dataset c.index ≡ key.now)) }
+    ensures lane { IsOfLane lanes result (subject_of of.now) }
+    ensures below { result < lanes }
 {
-    let chunk = chunk_at(key)?;
-    if lane_of(&chunk.dataset, lanes) == lane {
-        Some(chunk)
-    } else {
-        None
+    match of {
+        LaneKey::Object(id) => lane_of(id, lanes),
+        LaneKey::Chunk(chunk) => lane_of(&chunk.dataset, lanes),
     }
 }

@@ -1,6 +1,6 @@
 //! The objects that records tell.
 
-ghost use Rattle.std.specs.Prelude.{OnOk, IfErr, IfOk};
+ghost use Rattle.std.specs.Prelude.{◌≡◌, OnOk, OnErr, IfErr, IfOk};
 ghost use Rattle.chunk_owner.specs.Installs.Records.{IsBadObject};
 ghost use Rattle.chunk_owner.specs.Installs.Walks.{Blames, InstallsObject, IsNew};
 
@@ -25,6 +25,7 @@ pub(crate) fn install_object(
 ) -> Result<(), RecordFault>
     ensures done { OnOk result (InstallsObject run next id body.now slots.old slots.new) }
     ensures bad { IfErr result (λ e. Blames e (IsBadObject run next id body.now)) }
+    ensures err { OnErr result (slots.new ≡ slots.old) }
 {
     let slot = read_slot(alloc, run, next, &id, body)?;
     slots.put(id, slot)?;

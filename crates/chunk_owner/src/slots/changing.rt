@@ -31,7 +31,7 @@ use std::alloc::{AllocError, Global};
 ///
 /// # Errors
 ///
-/// Only where memory runs out.
+/// Only where memory runs out; a write that would add too many bytes of chunks is told so too.
 pub fn change(alloc: Global, slot: &mut Slot, op: &Op) -> Result<Reply, AllocError>
     requires changes { changes_object op.now ≡ true }
     requires sound { IsSoundOp op.now }
@@ -92,7 +92,7 @@ pub fn link_made(
 ///
 /// # Errors
 ///
-/// Only where memory runs out.
+/// Only where memory runs out; a write that would add too many bytes of chunks is told so too.
 pub fn change_at(
     alloc: Global,
     slots: &mut IdMap<Slot>,

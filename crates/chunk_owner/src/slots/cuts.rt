@@ -11,9 +11,11 @@ ghost use Rattle.flush_journal.specs.Cuts.Cuts.{AppendsEach, IsCut};
 ghost use Rattle.object_records.specs.Keys.Keys.{object_key};
 ghost use Rattle.chunk_owner.specs.Slots.Slots.{AreOfKind, AreStill, IsMarked, Says, object_of};
 ghost use Rattle.chunk_owner.specs.Slots.Bodies.{IsSlotRecord};
+ghost use Rattle.chunk_owner.specs.Slots.Listed.{AreListed};
 ghost use Rattle.chunk_owner.specs.Slots.Cutting.{AddsAll, AddsAt, AddsChunksIn, AddsFront, AddsFrontAt, AddsSlot};
 ghost use Rattle.chunk_owner.specs.Slots.Settled.{Settles};
 
+use crate::slots::changes::Changes;
 use crate::slots::chunks::cut_chunks;
 use crate::slots::objects::cut_object;
 use crate::slots::settling::settle_all;
@@ -25,13 +27,19 @@ use object_records::keys::object_key;
 use std::alloc::{AllocError, Global};
 
 /// Appends the records of what changed since the last cut, and takes it as kept: what is held then says of each id what
-/// stands there.
+/// stands there. It looks at what is listed alone.
 ///
 /// # Errors
 ///
 /// Only where memory runs out; then the objects with their marks and the batch are as they were.
-pub fn cut(alloc: Global, slots: &mut IdMap<Slot>, into: &mut Batch) -> Result<(), AllocError>
-    requires { AreOfKind slots.old }
+pub fn cut(
+    alloc: Global,
+    slots: &mut IdMap<Slot>,
+    changes: &mut Changes,
+    into: &mut Batch,
+) -> Result<(), AllocError>
+    requires kinds { AreOfKind slots.old }
+    requires listed { AreListed changes.old slots.old }
     ensures cut { (base : Held) → IsCut (IsMarked slots.old) base
         (records into.old) (records into.new)
         (λ held. (id : Id) → InRange id → Says (get slots.old id) id base
@@ -43,37 +51,51 @@ pub fn cut(alloc: Global, slots: &mut IdMap<Slot>, into: &mut Batch) -> Result<(
     ensures marks { (key : List ℕ) → IsMarked slots.new key → IsMarked slots.old key }
     ensures same { (id : Id) → object_of (get slots.new id) ≡ object_of (get slots.old id) }
     ensures kinds { AreOfKind slots.new }
+    ensures listed { AreListed changes.new slots.new }
     ensures err { OnErr result (slots.new ≡ slots.old) }
     ensures back { OnErr result (records into.new ≡ records into.old) }
 {
-    append_whole(alloc, slots, into)?;
-    settle_all(slots);
+    append_whole(alloc, slots, changes, into)?;
+    settle_all(slots, changes);
+    changes.clear(alloc);
     Ok(())
 }
 
 // Appends the records of all objects, or none.
-fn append_whole(alloc: Global, slots: &IdMap<Slot>, into: &mut Batch) -> Result<(), AllocError>
-    requires { AreOfKind slots.now }
+fn append_whole(
+    alloc: Global,
+    slots: &IdMap<Slot>,
+    changes: &Changes,
+    into: &mut Batch,
+) -> Result<(), AllocError>
+    requires kinds { AreOfKind slots.now }
+    requires listed { AreListed changes.now slots.now }
     ensures cut { OnOk result (AddsAll slots.now (records into.old) (records into.new)) }
     ensures bodies { AppendsEach (IsSlotRecord slots.now) (records into.old) (records into.new) }
     ensures back { OnErr result (records into.new ≡ records into.old) }
 {
     let size = into.size();
-    if let Err(error) = append_all(alloc, slots, into) {
+    if let Err(error) = append_all(alloc, slots, changes, into) {
         into.truncate(size);
         return Err(error);
     }
     Ok(())
 }
 
-// Appends the records of the objects, one after another.
-fn append_all(alloc: Global, slots: &IdMap<Slot>, into: &mut Batch) -> Result<(), AllocError>
-    requires { AreOfKind slots.now }
+// Appends the records of the objects, one after another. It looks at no others than those that are listed.
+fn append_all(
+    alloc: Global,
+    slots: &IdMap<Slot>,
+    changes: &Changes,
+    into: &mut Batch,
+) -> Result<(), AllocError>
+    requires kinds { AreOfKind slots.now }
+    requires listed { AreListed changes.now slots.now }
     ensures cut { OnOk result (AddsAll slots.now (records into.old) (records into.new)) }
     ensures bodies { AppendsEach (IsSlotRecord slots.now) (records into.old) (records into.new) }
 {
     let mut last = None;
-    while let Some(id) = slots.next_id(last.as_ref()) {
+    while let Some(id) = changes.next_listed(slots, last.as_ref()) {
         append_id(alloc, slots, &id, into)?;
         last = Some(id);
     }

@@ -4,9 +4,11 @@ ghost use Rattle.std.specs.Prelude.{◌≡◌, ◌≢◌, ◌==◌, ◌≤◌, N
 ghost use Rattle.std.specs.FinMap.{get};
 ghost use Rattle.object_ids.specs.IdValues.{Id};
 ghost use Rattle.chunk_owner.specs.Slots.Forgetting.{ForgetsKind, IsNextIn, IsToForgetIn};
+ghost use Rattle.chunk_owner.specs.Slots.Listed.{IsNoted, KeepsListed};
 ghost use Rattle.chunk_owner.specs.Slots.Marking.{AddsMarks, IsToDrop, IsToForget};
 ghost use Rattle.chunk_owner.specs.Slots.Slots.{AreOfKind, HasSameIds, StillSays, object_of};
 
+use crate::slots::changes::Changes;
 use crate::slots::placing::remove;
 use crate::slots::slot::Slot;
 use object_ids::{IdMap, Kind, ObjectId};
@@ -24,6 +26,8 @@ pub fn forget(slots: &mut IdMap<Slot>, number: u64)
     ensures alone { AddsMarks (IsToForget number (get slots.old)) slots.old slots.new }
     ensures kinds { AreOfKind slots.new }
     ensures same_ids { HasSameIds slots.old slots.new }
+    ensures others { (other : Id) → other.domain ≢ number
+        → get slots.new other ≡ get slots.old other }
 {
     forget_kind(slots, Kind::Group, number);
     forget_kind(slots, Kind::Dataset, number);
@@ -43,6 +47,32 @@ fn forget_kind(slots: &mut IdMap<Slot>, kind: Kind, number: u64)
     forget_at(slots, &last, number);
     while let Some(id) = next_of(slots, &last, number) {
         forget_at(slots, &id, number);
+        last = id;
+    }
+}
+
+/// Lists the objects of the domain of a number that changed or were removed. It looks at the ids of that domain alone.
+pub fn note_domain(changes: &mut Changes, slots: &IdMap<Slot>, number: u64)
+    requires { AreOfKind slots.now }
+    ensures noted { (id : Id) → id.domain ≡ number → IsNoted changes.new id (get slots.now id) }
+    ensures more { KeepsListed changes.old changes.new }
+{
+    note_kind(changes, slots, Kind::Group, number);
+    note_kind(changes, slots, Kind::Dataset, number);
+    note_kind(changes, slots, Kind::Datatype, number);
+}
+
+// Lists those of a kind.
+fn note_kind(changes: &mut Changes, slots: &IdMap<Slot>, kind: Kind, number: u64)
+    requires { AreOfKind slots.now }
+    ensures noted { (id : Id) → id.kind ≡ kind → id.domain ≡ number
+        → IsNoted changes.new id (get slots.now id) }
+    ensures more { KeepsListed changes.old changes.new }
+{
+    let mut last = first_id(kind, number);
+    changes.note(slots, &last);
+    while let Some(id) = next_of(slots, &last, number) {
+        changes.note(slots, &id);
         last = id;
     }
 }

@@ -3,18 +3,21 @@
 ghost use Rattle.std.specs.Prelude.{◌≡◌, ◌≢◌, false};
 ghost use Rattle.std.specs.FinMap.{get};
 ghost use Rattle.object_ids.specs.IdValues.{Id};
+ghost use Rattle.chunk_owner.specs.Slots.Listed.{AreListed};
 ghost use Rattle.chunk_owner.specs.Slots.Settled.{AreSettled, BodySettles, Settles, SlotSettles, is_dropped_slot};
 
+use crate::slots::changes::Changes;
 use crate::slots::slot::{Mark, Slot};
 use object_acts::Body;
 use object_ids::{IdMap, ObjectId};
 
-/// Takes each object as kept, or lets it go where it was removed. It takes no memory.
-pub(crate) fn settle_all(slots: &mut IdMap<Slot>)
+/// Takes each object as kept, or lets it go where it was removed. It looks at those that are listed, and takes no memory.
+pub(crate) fn settle_all(slots: &mut IdMap<Slot>, changes: &Changes)
+    requires { AreListed changes.now slots.old }
     ensures { AreSettled slots.old slots.new }
 {
     let mut last = None;
-    while let Some(id) = slots.next_id(last.as_ref()) {
+    while let Some(id) = changes.next_listed(slots, last.as_ref()) {
         settle_at(slots, &id);
         last = Some(id);
     }

@@ -27,7 +27,7 @@ selected_within : (select : Option (List ℕ)) (shape : Shape) → IfOk (selecte
 selected_within None shape = whole_within shape
 selected_within (Some text) shape = text_within text shape
 
-module _ {P : Data → Type 0} {Q : Object → Type 0} {G : Grid → Type 0} {S : Op → Type 0} (t : Trees P Q G S) where
+module _ {P : ℕ → Data → Type 0} {Q : Object → Type 0} {G : Grid → Type 0} {S : Op → Type 0} (t : Trees P Q G S) where
   -- ---- what is read
 
   part_has : (g : Grid) (r : Result Slab SlabFault) → G g → IfOk r (λ s. SlabIn s g.shape) → ReplyHas P (part_read g r)
@@ -71,7 +71,7 @@ module _ {P : Data → Type 0} {Q : Object → Type 0} {G : Grid → Type 0} {S 
 
   dims_have : (dims : List ℕ) (g : Grid) (r : Result Shape ShapeFault) → ReplyHas P (dims_taken dims g r).0
   dims_have dims g (Err f) = tt
-  dims_have dims g (Ok s) = t.none
+  dims_have dims g (Ok s) = t.added
 
   pub resized_has : (dims : List ℕ) (g : Grid) → ReplyHas P (shape_changed dims g).0
   resized_has dims g = dims_have dims g (resized_of g.shape dims)

@@ -25,7 +25,7 @@ use Rattle.register.specs.declared.verdicts.Verdict.{Verdict}
 use Rattle.service_core.specs.AnswerTrees.Bodies.{VerdictHas}
 use Rattle.service_core.proofs.AnswerTrees.Trees.{Trees, either_way}
 
-module _ {P : Data → Type 0} {Q : Object → Type 0} {G : Grid → Type 0} {S : Op → Type 0} (t : Trees P Q G S) where
+module _ {P : ℕ → Data → Type 0} {Q : Object → Type 0} {G : Grid → Type 0} {S : Op → Type 0} (t : Trees P Q G S) where
   -- the verdict of what is decided
   abbrev pub DecidedHas : Verdict × RegisterState → Type 0
   DecidedHas p = VerdictHas P p.0
@@ -33,12 +33,12 @@ module _ {P : Data → Type 0} {Q : Object → Type 0} {G : Grid → Type 0} {S 
   -- ---- folders and domains
 
   folder_has : (d : RegisterState) (path owner : List ℕ) (o : Option CatFault) → DecidedHas (folder_made d path owner o)
-  folder_has d path owner None = t.node (new_node Folder owner)
+  folder_has d path owner None = t.node_made (new_node Folder owner)
   folder_has d path owner (Some fault) = tt
 
   domain_has : (d : RegisterState) (path owner : List ℕ) (o : Option CatFault) → DecidedHas (domain_made d path owner o)
   domain_has d path owner None =
-      either_way DecidedHas (nat_lt d.serial serial_limit) (t.node (new_domain d.catalogue.next d.run d.serial owner)) tt
+      either_way DecidedHas (nat_lt d.serial serial_limit) (t.node_made (new_domain d.catalogue.next d.run d.serial owner)) tt
   domain_has d path owner (Some fault) = tt
 
   made_has : (d : RegisterState) (caller : Caller) (path : List ℕ) (folder : Bool) → DecidedHas (node_made d caller path folder)
@@ -60,7 +60,7 @@ module _ {P : Data → Type 0} {Q : Object → Type 0} {G : Grid → Type 0} {S 
   entry_read_has d name (Some rights) = t.acl name rights
 
   entry_put_has : (d : RegisterState) (path name : List ℕ) (rights : Rights) (o : Option CatFault) → DecidedHas (entry_put d path name rights o)
-  entry_put_has d path name rights None = t.none
+  entry_put_has d path name rights None = t.added
   entry_put_has d path name rights (Some fault) = tt
 
   -- ---- objects, which the register answers nothing of
@@ -91,7 +91,7 @@ module _ {P : Data → Type 0} {Q : Object → Type 0} {G : Grid → Type 0} {S 
   granted_has : (d : RegisterState) (caller : Caller) (path : List ℕ) (op : Op) (node : Node) → DecidedHas (granted d caller path op node)
   granted_has d caller path GetNode node = t.node node
   granted_has d caller path (PutNode folder) node = made_has d caller path folder
-  granted_has d caller path Flush node = t.none
+  granted_has d caller path Flush node = t.flushed
   granted_has d caller path DropNode node = removed_has d path node.class (remove_fault d.catalogue path)
   granted_has d caller path ListNodes node = t.children d.catalogue path
   granted_has d caller path GetAcls node = t.acls node.list

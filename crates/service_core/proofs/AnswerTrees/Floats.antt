@@ -84,28 +84,32 @@ refusals_exact path refusal = refl
 
 -- ---- all answers
 
-abbrev AnyObject : Object → Type 0
+abbrev pub AnyObject : Object → Type 0
 AnyObject o = Unit {0}
 
-abbrev AnyGrid : Grid → Type 0
+abbrev pub AnyGrid : Grid → Type 0
 AnyGrid g = Unit {0}
 
-abbrev AnyOp : Op → Type 0
+abbrev pub AnyOp : Op → Type 0
 AnyOp op = Unit {0}
 
-any_array : (body : Body) → ArrayHas AnyGrid body
+pub any_array : (body : Body) → ArrayHas AnyGrid body
 any_array (Group links) = tt
 any_array (Dataset array) = tt
 any_array (Datatype type) = tt
 
-exact : Trees HasNoFloat AnyObject AnyGrid AnyOp
+exact : Trees (λ status. HasNoFloat) AnyObject AnyGrid AnyOp
 exact = record {
   none = refl;
+  added = refl;
+  flushed = refl;
   node = node_exact;
+  node_made = node_exact;
   children = λ c folder. neither (children_exact c folder) refl;
   acls = λ list. neither (acls_exact list) refl;
   acl = λ name rights. refl;
   object = λ id root o any. object_exact id root o;
+  object_made = λ id root o any. object_exact id root o;
   links = λ titles. neither (links_exact titles Rest) refl;
   link = λ title to. neither (link_exact title to Rest) refl;
   attributes = λ o any. neither (attributes_exact o.attributes Rest false) refl;

@@ -44,7 +44,7 @@ use Rattle.service_core.specs.AnswerTrees.Bodies.{ReplyHas}
 use Rattle.service_core.proofs.AnswerTrees.Arrays.{points_have, resized_has, shape_has, type_has, value_has, written_has}
 use Rattle.service_core.proofs.AnswerTrees.Trees.{ArrayHas, Trees, either_way}
 
-module _ {P : Data → Type 0} {Q : Object → Type 0} {G : Grid → Type 0} {S : Op → Type 0} (t : Trees P Q G S) where
+module _ {P : ℕ → Data → Type 0} {Q : Object → Type 0} {G : Grid → Type 0} {S : Op → Type 0} (t : Trees P Q G S) where
   -- ---- what is read of an object
 
   attribute_has : (o : Object) (name : List ℕ) (found : Option Attribute) → Q o → get o.attributes name ≡ found
@@ -89,7 +89,7 @@ module _ {P : Data → Type 0} {Q : Object → Type 0} {G : Grid → Type 0} {S 
 
   put_says : {X : Type 0} (most : ℕ) (what : LimitKind) (name : List ℕ) (x : X) (m : FinMap text_order X) (o : Option PutFault)
       → Says (put_in most what name x m o)
-  put_says most what name x m None = t.none
+  put_says most what name x m None = t.added
   put_says most what name x m (Some put.Taken) = tt
   put_says most what name x m (Some put.Limit) = tt
   put_says most what name x m (Some put.NoMemory) = tt
@@ -169,7 +169,7 @@ module _ {P : Data → Type 0} {Q : Object → Type 0} {G : Grid → Type 0} {S 
   linking_gives g place fresh o h = (tt, h)
 
   making_gives : (g : Grant) (make : Make) (fresh : Option Id) (o : Option Object) → Q (made make) → At o → Gives (making g make fresh o)
-  making_gives g make (Some fresh) o new h = (t.object fresh g.root (made make) new, new)
+  making_gives g make (Some fresh) o new h = (t.object_made fresh g.root (made make) new, new)
   making_gives g make None o new h = (tt, h)
 
   make_gives : (g : Grant) (make : Make) (place : Option LinkPlace) (s : Step) (o : Option Object) → Q (made make) → At o

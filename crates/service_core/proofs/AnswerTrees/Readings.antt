@@ -105,14 +105,18 @@ refusals_readable path refusal = omega arith
 
 -- ---- all answers
 
-readable : Trees ReadsBack IsShallowObject IsShallowGrid IsSoundOp
+readable : Trees (λ status. ReadsBack) IsShallowObject IsShallowGrid IsSoundOp
 readable = record {
   none = omega arith;
+  added = omega arith;
+  flushed = omega arith;
   node = node_readable;
+  node_made = node_readable;
   children = children_readable;
   acls = acls_readable;
   acl = λ name rights. omega arith;
   object = object_readable;
+  object_made = object_readable;
   links = λ titles. omega (arith, links_deep titles Rest);
   link = λ title to. omega (arith, link_deep title to Rest);
   attributes = λ o h. omega (arith, attributes_deep o.attributes Rest false h.attributes);

@@ -46,25 +46,29 @@ ArrayHas G (Group links) = Unit {0}
 ArrayHas G (Dataset array) = G array.grid
 ArrayHas G (Datatype type) = Unit {0}
 
--- `P` holds of each tree, where `Q` holds of the object and `G` of its array;
+-- `P` holds of each tree with its status, where `Q` holds of the object and `G` of its array;
 -- where `S` holds of an operation, `Q` holds of the object that it leaves
-pub record Trees (P : Data → Type 0) (Q : Object → Type 0) (G : Grid → Type 0) (S : Op → Type 0) : Type 0 where
-  pub none : P nothing
-  pub node : (n : Node) → P (node_tree n)
-  pub children : (c : Contents) (folder : List ℕ) → P (children_body c folder)
-  pub acls : (list : Entries) → P (acls_body list)
-  pub acl : (name : List ℕ) (rights : Rights) → P (acl_body name rights)
-  pub object : (id root : Id) (o : Object) → Q o → P (object_tree id root o)
-  pub links : (titles : FinMap text_order LinkTo) → P (only (codes "links") (links_list titles Rest))
-  pub link : (title : List ℕ) (to : LinkTo) → P (only (codes "link") (link_tree title to Rest))
-  pub attributes : (o : Object) → Q o → P (only (codes "attributes") (attributes_list o.attributes Rest false))
+pub record Trees (P : ℕ → Data → Type 0) (Q : Object → Type 0) (G : Grid → Type 0) (S : Op → Type 0) : Type 0 where
+  pub none : P 200 nothing
+  pub added : P 201 nothing
+  pub flushed : P 204 nothing
+  pub node : (n : Node) → P 200 (node_tree n)
+  pub node_made : (n : Node) → P 201 (node_tree n)
+  pub children : (c : Contents) (folder : List ℕ) → P 200 (children_body c folder)
+  pub acls : (list : Entries) → P 200 (acls_body list)
+  pub acl : (name : List ℕ) (rights : Rights) → P 200 (acl_body name rights)
+  pub object : (id root : Id) (o : Object) → Q o → P 200 (object_tree id root o)
+  pub object_made : (id root : Id) (o : Object) → Q o → P 201 (object_tree id root o)
+  pub links : (titles : FinMap text_order LinkTo) → P 200 (only (codes "links") (links_list titles Rest))
+  pub link : (title : List ℕ) (to : LinkTo) → P 200 (only (codes "link") (link_tree title to Rest))
+  pub attributes : (o : Object) → Q o → P 200 (only (codes "attributes") (attributes_list o.attributes Rest false))
   pub attribute : (o : Object) (name : List ℕ) (a : Attribute) → Q o → get o.attributes name ≡ Some a
-      → P (attribute_tree name (content a) Rest true)
+      → P 200 (attribute_tree name (content a) Rest true)
   pub array : (o : Object) → Q o → ArrayHas G o.body
-  pub shape : (g : Grid) → G g → P (only (codes "shape") (shape_tree g.shape Rest))
-  pub kind : (g : Grid) → G g → P (only (codes "type") (type_tree g.kind))
-  pub part : (g : Grid) (s : Slab) → G g → SlabIn s g.shape → P (only (codes "value") (part_tree g s))
-  pub points : (g : Grid) (ps : List (List ℕ)) → G g → P (only (codes "value") (points_tree g ps))
+  pub shape : (g : Grid) → G g → P 200 (only (codes "shape") (shape_tree g.shape Rest))
+  pub kind : (g : Grid) → G g → P 200 (only (codes "type") (type_tree g.kind))
+  pub part : (g : Grid) (s : Slab) → G g → SlabIn s g.shape → P 200 (only (codes "value") (part_tree g s))
+  pub points : (g : Grid) (ps : List (List ℕ)) → G g → P 200 (only (codes "value") (points_tree g ps))
   pub empty : Q empty_group
   pub made : (make : Make) (place : Option LinkPlace) → S (MakeObject make place) → Q (made make)
   pub linked : (place : LinkPlace) (fresh : Id) (o : Object) → Q o → Q (link_to place fresh o).1

@@ -28,7 +28,7 @@ use Rattle.service_core.proofs.AnswerTrees.Trees.{Trees, either_way}
 use Rattle.object_acts.specs.Objects.{Objects}
 use Rattle.object_ops.specs.Replies.{was_done}
 
-module _ {P : Data → Type 0} {Q : Object → Type 0} {G : Grid → Type 0} {S : Op → Type 0} (t : Trees P Q G S) where
+module _ {P : ℕ → Data → Type 0} {Q : Object → Type 0} {G : Grid → Type 0} {S : Op → Type 0} (t : Trees P Q G S) where
   taken_leaves : (g : Grant) (op : Op) (s : Option Step) (m : Objects) → S op → AreAll t m → OutcomeHas t (step_taken g op s m)
   taken_leaves g op None m sound h = (t.none, h)
   taken_leaves g op (Some s) m sound h = acted_leaves t g op s m sound h

@@ -11,6 +11,8 @@ use Rattle.object_records.specs.Keys.Keys.{IsSubject, Subject, key_of}
 use Rattle.object_records.specs.Keys.Keys.{the_run, node, object, chunk, next_number}
 use Rattle.containers.specs.TextMaps.Fronts.{IsLeast, held_by}
 use Rattle.containers.proofs.TextMaps.Fronts.{all_held, held_before, held_here, split_more}
+use Rattle.chunk_owner.specs.Installs.Records.{IsOther}
+use Rattle.chunk_owner.specs.Owners.Records.{KeepsOthers}
 use Rattle.register.specs.Installed.Registers.{is_node_key}
 use Rattle.service_core.specs.Strays.Strays.{HasNoStrays, IsNumberKey, IsObjectKey, IsStray, IsStrayKey}
 use Rattle.containers.proofs.TextMaps.TextOrders.{same_key}
@@ -81,3 +83,22 @@ module _ (held : Held) (rest after : List Record) (e : Record) (w : IsSearched h
 pub searched_end : (held : Held) (rest : List Record) → IsSearched held rest → rest ≡ [] → HasNoStrays held
 searched_end held rest w none k f =
     none_held w.front w.none k f.body f.stray (ap (λ (m : Held). get m k) (all_held held w.front rest w.split none) ∙ f.here)
+
+-- ---- records of objects and chunks that were taken out
+
+module _ (old new : Held) (keeps : KeepsOthers old new) where
+  no_part : (key : List ℕ) → IsStrayKey key → IsOther key
+  no_part key stray = (λ id range same. stray.no_subject (object id) range same, λ id index is same. stray.no_subject (chunk id index) is same)
+
+  stray_after : (key : List ℕ) → IsStray old key → IsStray new key
+  stray_after key f = record { stray = f.stray; body = f.body; here = keeps key (no_part key f.stray) ∙ f.here }
+
+  -- the strays are those that are left
+  pub least_before : (key : List ℕ) → IsLeast (IsStray new) key → IsLeast (IsStray old) key
+  least_before key least = record {
+    has = record { stray = least.has.stray; body = least.has.body; here = sym (keeps key (no_part key least.has.stray)) ∙ least.has.here };
+    least = λ q f. least.least q (stray_after q f);
+  }
+
+  pub none_before : HasNoStrays new → HasNoStrays old
+  none_before none key f = none key (stray_after key f)

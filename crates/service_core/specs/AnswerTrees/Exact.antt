@@ -23,7 +23,7 @@ HasNoFloat body = has_float body ≡ false
 
 -- so is the body of what is answered
 abbrev pub IsExact : What → Type 0
-IsExact = AnswerHas HasNoFloat
+IsExact = AnswerHas (λ status. HasNoFloat)
 
 -- whatever the world, each request is answered so
 abbrev pub AnswersAreExact : Type 0
@@ -34,11 +34,11 @@ AnswersAreExact = (w : World) (caller : Caller) (request : Request) (answer : An
 
 -- whatever the register, it answers so by itself
 abbrev pub DecisionsAreExact : Type 0
-DecisionsAreExact = (d : RegisterState) (caller : Caller) (request : Request) → VerdictHas HasNoFloat (decided d caller request).0
+DecisionsAreExact = (d : RegisterState) (caller : Caller) (request : Request) → VerdictHas (λ status. HasNoFloat) (decided d caller request).0
 
 -- whatever the objects, each step on them answers so
 abbrev pub ActsAreExact : Type 0
-ActsAreExact = (g : Grant) (op : Op) (step : Step) (m : Objects) → ReplyHas HasNoFloat (acted g op step m).0
+ActsAreExact = (g : Grant) (op : Op) (step : Step) (m : Objects) → ReplyHas (λ status. HasNoFloat) (acted g op step m).0
 
 -- whatever is refused, and at which path, the refusal's body is so
 abbrev pub RefusalsAreExact : Type 0

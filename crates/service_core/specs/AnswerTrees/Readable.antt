@@ -55,7 +55,7 @@ ReadsBack body = depth body ≤ max_depth
 
 -- so is the body of what is answered
 abbrev pub IsReadable : What → Type 0
-IsReadable = AnswerHas ReadsBack
+IsReadable = AnswerHas (λ status. ReadsBack)
 
 -- whatever the world, where its objects are so, each sound request is answered so
 abbrev pub AnswersAreReadable : Type 0

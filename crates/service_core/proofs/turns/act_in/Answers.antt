@@ -3,6 +3,7 @@ use Rattle.chunk_owner.specs.Owners.Joined.{whole}
 use Rattle.chunk_owner.specs.Acts.{act, touched}
 use Rattle.chunk_owner.proofs.OfOwners.WholeLemmas.{follows_whole, fresh_here, lane_after, touched_own}
 use Rattle.chunk_owner.proofs.OfOwners.SaidLemmas.{said_set}
+use Rattle.object_acts.specs.Arrays.Marked.{IsDone}
 use Rattle.service_core.specs.Marking.{IsStepMark}
 use Rattle.service_core.proofs.TurnMarks.{marked_set, step_mark}
 use Rattle.service_core.proofs.turns.act_in.Goals as goal
@@ -44,6 +45,9 @@ returns-clause-alone c =
     let ls = c.args.owners.now in
     let l = get_or ls c.args.lane c.index-owners-lane.result in
     let here : get_or ls c.args.lane l ≡ l = sym (ap (get_or ls c.args.lane) c.index-owners-lane.is) in
-    marked_set (IsStepMark c.args.grant.now c.args.op.now c.args.step (whole ls)) l c.act.new.self
-    (λ key marked. ⊎_elim inl (λ p. inr (step_mark _ c.args.lane ls l c.requires.lanes c.requires.lane here c.is_whole.ensures.own c.args.grant.now c.args.op.now c.args.step c.act.result _
-    c.requires.ready.touches (returns-clause-acts c) key p)) (c.act.ensures.alone key marked)) c.args.lane ls here
+    marked_set (λ key. IsDone c.act.result × IsStepMark c.args.grant.now c.args.op.now c.args.step (whole ls) key) l c.act.new.self
+    (λ key marked. ⊎_elim inl (λ p. inr (
+      p.0,
+      step_mark _ c.args.lane ls l c.requires.lanes c.requires.lane here c.is_whole.ensures.own c.args.grant.now c.args.op.now c.args.step c.act.result _
+          c.requires.ready.touches (returns-clause-acts c) key p,
+    )) (c.act.ensures.alone key marked)) c.args.lane ls here

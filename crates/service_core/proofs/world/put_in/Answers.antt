@@ -1,6 +1,6 @@
 use Rattle.std.proofs.Common.{get_or, sym, ap}
 use Rattle.object_acts.specs.Objects.{unmarked}
-use Rattle.chunk_owner.proofs.OfOwners.WholeLemmas.{home_by_lane, kept_whole, lane_put, none_here, put_whole}
+use Rattle.chunk_owner.proofs.OfOwners.WholeLemmas.{home_by_lane, kept_lanes, lane_put, none_here, put_whole}
 use Rattle.chunk_owner.proofs.OfOwners.SaidLemmas.{said_set}
 use Rattle.chunk_owner.proofs.OfOwners.UndroppedLemmas.{undropped_set}
 use Rattle.chunk_owner.specs.Slots.Slots.{IsMarkedIn}
@@ -31,7 +31,7 @@ pub returns-clause-err : goal.returns-clause-err
 returns-clause-err c =
     let ls = c.args.owners.now in
     let l = get_or ls c.args.lane c.index-owners-lane.result in
-    kept_whole _ c.args.lane ls l c.put_object.new.self c.requires.lanes c.requires.lane (sym (ap (get_or ls c.args.lane) c.index-owners-lane.is)) c.args.id (unmarked c.args.object) c.requires.home
+    kept_lanes _ c.args.lane ls l c.put_object.new.self c.requires.lanes c.requires.lane (sym (ap (get_or ls c.args.lane) c.index-owners-lane.is)) c.args.id (unmarked c.args.object) c.requires.home
     c.put_object.result c.put_object.ensures.err
 
 pub returns-clause-lanes : goal.returns-clause-lanes

@@ -9,15 +9,18 @@ use Rattle.chunk_owner.specs.Slots.Bodies.{IsSlotRecord}
 use Rattle.chunk_owner.specs.Slots.Slots.{IsMarked, Says, objects_of}
 use Rattle.chunk_owner.specs.Lanes.{Lane}
 use Rattle.chunk_owner.proofs.OfSlots.Standing.{objects-same}
-use Rattle.chunk_owner.proofs.LaneLemmas.{cut_ids, slots_still}
+use Rattle.chunk_owner.proofs.LaneLemmas.{owned_cut}
 use Rattle.chunk_owner.proofs.owner.Owner.cut.Goals as goal
 
-pub cut-requires : goal.cut-requires
-cut-requires c = c.self.invariant.kinds
+pub cut-requires-clause-kinds : goal.cut-requires-clause-kinds
+cut-requires-clause-kinds c = c.self.invariant.0.kinds
+
+pub cut-requires-clause-listed : goal.cut-requires-clause-listed
+cut-requires-clause-listed c = c.self.invariant.1
 
 pub invariant_of-self : goal.invariant_of-self
 invariant_of-self c =
-    slots_still c.self.inside.lane c.self.inside.lanes c.self.inside.slots c.cut.new.slots (cut_ids c.self.inside.slots c.cut.new.slots c.cut.ensures.each) c.cut.ensures.kinds c.self.invariant
+    owned_cut c.self.inside.lane c.self.inside.lanes c.self.inside.slots c.cut.new.slots c.self.inside.changes c.cut.new.changes c.cut.ensures.each c.cut.ensures.kinds c.cut.ensures.listed c.self.invariant.0
 
 pub returns-clause-cut : goal.returns-clause-cut
 returns-clause-cut c =

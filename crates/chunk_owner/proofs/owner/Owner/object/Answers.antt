@@ -8,4 +8,4 @@ pub returns-clause-value : goal.returns-clause-value
 returns-clause-value c = c.object.ensures.value ∙ sym (get-objects_of c.self.inside.slots c.args.id.now) ∙ ap (λ (l : Lane). get l.objects c.args.id.now) c.self.view_is
 
 pub returns-clause-kind : goal.returns-clause-kind
-returns-clause-kind c = c.object.ensures.kind c.self.invariant.kinds
+returns-clause-kind c = c.object.ensures.kind c.self.invariant.0.kinds

@@ -1,4 +1,5 @@
 use Rattle.chunk_owner.proofs.OfSlots.CutWalks.{each_settled, kinds_settled, objects_settled, still_settled}
+use Rattle.chunk_owner.proofs.OfSlots.Listing.{still_listed}
 use Rattle.chunk_owner.proofs.OfSlots.Marks.{cut_marks}
 use Rattle.chunk_owner.proofs.slots.cuts.cut.Goals as goal
 
@@ -18,4 +19,7 @@ pub returns-clause-same : goal.returns-clause-same
 returns-clause-same c = objects_settled c.args.slots.now c.settle_all.new.slots c.settle_all.ensures
 
 pub returns-clause-kinds : goal.returns-clause-kinds
-returns-clause-kinds c = kinds_settled c.args.slots.now c.settle_all.new.slots c.settle_all.ensures c.requires
+returns-clause-kinds c = kinds_settled c.args.slots.now c.settle_all.new.slots c.settle_all.ensures c.requires.kinds
+
+pub returns-clause-listed : goal.returns-clause-listed
+returns-clause-listed c = still_listed _ c.settle_all.new.slots (still_settled c.args.slots.now c.settle_all.new.slots c.settle_all.ensures)

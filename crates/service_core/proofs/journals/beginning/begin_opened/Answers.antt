@@ -11,7 +11,7 @@ use Rattle.service_core.proofs.journals.beginning.begin_opened.Goals as goal
 pub returns-in-Ok-clause-begun : goal.returns-in-Ok-clause-begun
 returns-in-Ok-clause-begun g c = λ honest content' opened'. (
   is_begun c.args.journal c.begin_run.new.journal c.args.world c.begin_run.new.self content' opened' c.in-Ok.ensures.ok (c.in-Ok.ensures.writes honest content' opened'.settled)
-      c.in-Ok.ensures.says c.is_described.ensures,
+      c.in-Ok.ensures.says c.is_described.ensures.described,
   begun_crash c.args.journal c.begin_run.new.journal c.args.world c.begin_run.new.self content' opened' c.in-Ok.ensures.ok (c.in-Ok.ensures.writes honest content' opened'.settled),
 )
 

@@ -14,7 +14,7 @@ returns-clause-cut c = λ held said.
     subst (WorldSays c.cut-result.new.self) (sym (ap (λ (rs : List Record). put_all rs held) k.appended ∙ put_both (records c.args.into.now) k.added held)) (k.stands said)
 
 pub returns-clause-told : goal.returns-clause-told
-returns-clause-told c = on_ok_weaker c.cut-result.result (λ kept held said. described_as_kept held c.cut-result.new.self (c.is_described.ensures kept held said)) c.cut-result.ensures.kept
+returns-clause-told c = on_ok_weaker c.cut-result.result (λ kept held said. described_as_kept held c.cut-result.new.self (c.is_described.ensures.described kept held said)) c.cut-result.ensures.kept
 
 pub returns-clause-world : goal.returns-clause-world
 returns-clause-world c = λ i. record { register = c.cut-result.ensures.same.register i; objects = c.cut-result.ensures.same.objects i }

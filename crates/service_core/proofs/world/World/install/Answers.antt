@@ -2,6 +2,7 @@ use Rattle.std.proofs.Common.{ℕ, ◌-◌, ap, ◌∙◌}
 use Rattle.domains.specs.Contents.{Contents}
 use Rattle.register.specs.Kept.{IsUsedUp}
 use Rattle.service_core.proofs.InstallLemmas.{built, lane_fault_handed, named_by, named_handed, named_used, none_installed, of_stray, register_named, used_handed, world_of}
+use Rattle.service_core.proofs.OfStrays.StrayLemmas.{least_before, none_before}
 use Rattle.service_core.proofs.world.World.install.Goals as goal
 
 pub returns-in_err-register-clause-named : goal.returns-in_err-register-clause-named
@@ -20,7 +21,8 @@ returns-in-Some-clause-fault c =
     let is = c.in_ok-register.ensures.described in
     let runs = ap (λ (n : ℕ). n - 1) c.run.ensures in
     let nexts = c.next_number-next.ensures.value ∙ ap (λ (x : Contents). x.next) c.catalogue.ensures in
-    of_stray c.args.kept c.args.lanes c.in_ok-register.register is (c.run.result - 1) c.next_number-next.result runs nexts c.in-Some.key.now c.bad_record.result c.in_ok-owners.ensures.faultless c.in-Some.ensures c.bad_record.ensures
+    of_stray c.args.kept c.args.lanes c.in_ok-register.register is (c.run.result - 1) c.next_number-next.result runs nexts c.in-Some.key.now c.bad_record.result c.in_ok-owners.ensures.faultless
+    (least_before c.args.kept c.install_lanes.new.kept c.in_ok-owners.ensures.others c.in-Some.key.now c.in-Some.ensures) c.bad_record.ensures
 
 pub invariant_of-result : goal.invariant_of-result
 invariant_of-result c =
@@ -34,7 +36,15 @@ returns-clause-described c =
     let is = c.in_ok-register.ensures.described in
     let runs = ap (λ (n : ℕ). n - 1) c.run.ensures in
     let nexts = c.next_number-next.ensures.value ∙ ap (λ (x : Contents). x.next) c.catalogue.ensures in
-    world_of c.args.kept c.args.lanes c.in_ok-register.register is (c.run.result - 1) c.next_number-next.result runs nexts c.in_ok-owners.owners.items c.in_ok-owners.ensures.given c.in_ok-owners.ensures.described c.in-None.ensures
+    world_of c.args.kept c.args.lanes c.in_ok-register.register is (c.run.result - 1) c.next_number-next.result runs nexts c.in_ok-owners.owners.items c.in_ok-owners.ensures.given c.in_ok-owners.ensures.described
+    (none_before c.args.kept c.install_lanes.new.kept c.in_ok-owners.ensures.others c.in-None.ensures)
+
+pub returns-clause-says : goal.returns-clause-says
+returns-clause-says c = record {
+  register = c.in_ok-register.ensures.says;
+  lanes = c.in_ok-owners.ensures.says;
+  strays = none_before c.args.kept c.install_lanes.new.kept c.in_ok-owners.ensures.others c.in-None.ensures;
+}
 
 pub returns-in_err-owners-clause-named : goal.returns-in_err-owners-clause-named
 returns-in_err-owners-clause-named c =
@@ -50,4 +60,5 @@ returns-clause-named c =
     let is = c.in_ok-register.ensures.described in
     let runs = ap (λ (n : ℕ). n - 1) c.run.ensures in
     let nexts = c.next_number-next.ensures.value ∙ ap (λ (x : Contents). x.next) c.catalogue.ensures in
-    none_installed c.args.kept c.args.lanes c.in_ok-register.register is (c.run.result - 1) c.next_number-next.result runs nexts c.in_ok-owners.ensures.faultless c.in-None.ensures
+    none_installed c.args.kept c.args.lanes c.in_ok-register.register is (c.run.result - 1) c.next_number-next.result runs nexts c.in_ok-owners.ensures.faultless
+    (none_before c.args.kept c.install_lanes.new.kept c.in_ok-owners.ensures.others c.in-None.ensures)

@@ -2,15 +2,12 @@ use Rattle.std.proofs.Common.{List, length, sym, subst, ap, ◌∙◌}
 use Rattle.chunk_owner.specs.Lanes.{Lane}
 use Rattle.chunk_owner.specs.Owners.Joined.{AreLanes, whole}
 use Rattle.chunk_owner.specs.Owners.Records.{LanesStillSay}
-use Rattle.register.specs.Decided.{decided}
-use Rattle.service_core.specs.Marking.{AddsLaneMarks, AddsWorldMarks, IsNodeMark, IsRequestMark, IsVerdictMark}
-use Rattle.service_core.specs.Marking.IsRequestMark.{of_objects, of_register}
+use Rattle.service_core.specs.Marking.{AddsRequestMarks, MarksVerdict}
 use Rattle.service_core.specs.Records.{WorldStillSays}
 use Rattle.service_core.specs.Steps.{Obeys}
 use Rattle.service_core.specs.Turns.{IsServable}
 use Rattle.service_core.specs.Worlds.{IsBuilt, State, seen}
-use Rattle.service_core.proofs.DecideMarks.{decides_marks}
-use Rattle.service_core.proofs.TurnMarks.{both_marks, by_decision}
+use Rattle.service_core.proofs.TurnMarks.{request_marked}
 use Rattle.service_core.proofs.RecordLemmas.{both_still}
 use Rattle.service_core.proofs.WorldLemmas.{built_after, servable_now, steps_said, written}
 use Rattle.service_core.proofs.world.World.step.Goals as goal
@@ -57,11 +54,10 @@ returns-clause-alone c =
     let left = c.obey-what.new.owners in
     let request = c.args.request.now in
     let caller = c.args.caller.now in
-    let lanes = subst (λ (ls : List Lane). AddsLaneMarks (IsVerdictMark request.op c.decide-verdict.result (whole ls)) ls left) c.as_mut_slice.ensures.value c.obey-what.ensures.alone in
-    subst (λ (ls : List Lane). AddsWorldMarks (IsRequestMark (seen c.args.self.now) caller request) c.args.self.now (record { register = new; lanes = ls }))
+    let value = c.as_mut_slice.ensures.value in
+    let obeys = subst (λ (ls : List Lane). Obeys request.op c.decide-verdict.result (whole ls) c.obey-what.result (whole left)) value c.obey-what.ensures.obeys in
+    let lanes = subst (λ (ls : List Lane). MarksVerdict request.op c.decide-verdict.result ls c.obey-what.result left) value c.obey-what.ensures.alone in
+    subst (λ (ls : List Lane). AddsRequestMarks c.args.self.now caller request c.obey-what.result (record { register = new; lanes = ls }))
     (sym (written _ left _ (c.obey-what.auto.owners ∙ c.as_mut_slice.ensures.len)))
-    (subst (λ (s : State). AddsWorldMarks (IsRequestMark (seen s) caller request) s (record { register = new; lanes = left })) c.self.view_is
-    (both_marks (IsNodeMark request (decided d caller request).0) (IsVerdictMark request.op c.decide-verdict.result (whole items)) (IsRequestMark (record { register = d; objects = whole items }) caller request)
-    d new items left (λ key p. of_register p)
-    (λ key p. of_objects (by_decision d caller request c.decide-verdict.result new c.decide-verdict.ensures.decides (whole items) key p))
-    (decides_marks d caller request c.decide-verdict.result new c.decide-verdict.ensures.decides) lanes))
+    (subst (λ (s : State). AddsRequestMarks s caller request c.obey-what.result (record { register = new; lanes = left })) c.self.view_is
+    (request_marked d caller request new items left c.decide-verdict.result c.obey-what.result c.decide-verdict.ensures.decides obeys lanes))
