@@ -210,3 +210,39 @@ fn the_entry_of_each_form(rt: HostRuntime) -> Result<(), Fail> {
     assert_eq!(rt; wrong.as_str(), "none");
     Ok(())
 }
+
+/// Two datasets, whose shapes stand for `#` and `%`.
+static TWO_DATASETS: &str = r#"POST|/datasets|{"type":"H5T_STD_I8LE","shape":#}
+POST|/datasets|{"type":"H5T_STD_I8LE","shape":%}"#;
+
+/// Their shapes, where the document can't fit. In the last row it could, if either dataset was there alone.
+static TOO_LARGE: &str = "[2147483647,131072]|[1]
+[2147483647,0]|[1]
+[1]|[67108865]
+[33554432]|[33554432]";
+
+fn two_datasets(alloc: Global, row: &str) -> Result<String, AllocError> {
+    TWO_DATASETS
+        .replace(alloc, "#", column(row, 0))?
+        .replace(alloc, "%", column(row, 1))
+}
+
+/// Whether the document is too large, as a tree and as a text.
+fn is_too_large(alloc: Global, world: &World, path: &DomainPath) -> bool {
+    let tree = matches!(&document(alloc, world, path), Err(ExportFault::TooLarge));
+    tree && matches!(
+        &document_text(alloc, world, path),
+        Err(ExportFault::TooLarge)
+    )
+}
+
+#[test]
+fn documents_that_cannot_fit_are_too_large(rt: HostRuntime) -> Result<(), Fail> {
+    let path = read_path(rt.alloc(), "/lab")?;
+    for row in TOO_LARGE.split('\n') {
+        let rows = two_datasets(rt.alloc(), row)?;
+        let world = filled(&rt, rows.as_str())?;
+        assert!(rt; is_too_large(rt.alloc(), &world, &path), "{row}");
+    }
+    Ok(())
+}

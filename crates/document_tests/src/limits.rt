@@ -92,3 +92,12 @@ fn limits_of_documents_are_told(rt: HostRuntime) -> Result<(), Fail> {
     assert_eq!(rt; wrong.as_str(), "none");
     Ok(())
 }
+
+/// 2^27 bytes and one more, which are 87,211 times 1,539.
+#[test]
+fn one_byte_more_than_may_be_is_too_long(rt: HostRuntime) -> Result<(), Fail> {
+    let piece = " ".repeat(rt.alloc(), 1_539)?;
+    let text = piece.as_str().repeat(rt.alloc(), 87_211)?;
+    assert_eq!(rt; told(rt.alloc(), text.as_str())?.as_str(), "0 TooLong");
+    Ok(())
+}

@@ -3,3 +3,5 @@ pub mod MemberLemmas
 pub mod LinkLemmas
 pub mod EntryLemmas
 pub mod DocumentLemmas
+pub mod RangeLemmas
+pub mod LengthLemmas

@@ -4,4 +4,5 @@ pub mod TitleLemmas
 pub mod ArrayLemmas
 pub mod IndexLemmas
 pub mod ListedLemmas
+pub mod CellLemmas
 pub mod SpelledLemmas

@@ -1,11 +1,13 @@
 -- The document of a domain of a world.
 use Rattle.std.specs.Prelude.{◌≡◌, ◌^◌, ◌<◌, ◌≤◌, ℕ, List, length, Option, Some, None, option_map, Result, Ok, Err}
+use Rattle.std.specs.FinMap.{entries}
 use Rattle.serde_json.specs.Data.{Data}
 use Rattle.serde_json.specs.Written.{compact_text}
 use Rattle.domains.specs.Contents.{class_at}
 use Rattle.domains.specs.declared.classes.NodeClass.{NodeClass}
 use Rattle.domains.specs.declared.classes.NodeClass.TheVariants.{Folder, Domain}
 use Rattle.documents.specs.Domains.Documents.{document_tree}
+use Rattle.documents.specs.Domains.Lengths.{least_values}
 use Rattle.documents.specs.Domains.Printed.{ReadsAs}
 use Rattle.documents.specs.declared.domains.home.Home.{Home}
 use Rattle.service_core.specs.Steps.{World}
@@ -29,6 +31,11 @@ doc w path = option_map (document_tree w.objects) (home_at w path)
 abbrev pub IsTooLong : Option Data → Type 0
 IsTooLong None = ⊥
 IsTooLong (Some tree) = 2 ^ 27 < length (compact_text tree)
+
+-- the shapes of the datasets of a domain alone ask for a longer text
+abbrev pub CannotFit : World → Option Home → Type 0
+CannotFit w None = ⊥
+CannotFit w (Some h) = 2 ^ 27 < least_values h (entries w.objects)
 
 -- this is the compact text of the document
 abbrev pub IsTextOf : List ℕ → Option Data → Type 0

@@ -6,7 +6,7 @@ ghost use Rattle.serde_json.specs.Written.{compact_text};
 ghost use Rattle.documents.specs.Domains.Documents.{document_tree};
 ghost use Rattle.documents.specs.Domains.Printed.{IsPrinted};
 ghost use Rattle.service_core.specs.Worlds.{seen};
-ghost use Rattle.json_export.specs.Documents.{Answers, IsReadAs, IsTextOf, IsTooLong, doc};
+ghost use Rattle.json_export.specs.Documents.{Answers, CannotFit, IsReadAs, IsTextOf, IsTooLong, doc};
 ghost use Rattle.json_export.specs.Documents.{home_at, home_of};
 
 use crate::faults::ExportFault;
@@ -23,12 +23,15 @@ use std::alloc::Global;
 /// # Errors
 ///
 /// [`ExportFault::NoDomain`] exactly where no domain is at the path; [`ExportFault::TooLarge`] exactly where the compact text of
-/// the document has more than [`crate::MAX_TEXT`] bytes; [`ExportFault::NoMemory`] only where memory runs out.
+/// the document has more than [`crate::MAX_TEXT`] bytes, and before a value is read where the shapes of the datasets ask for
+/// so many; [`ExportFault::NoMemory`] only where memory runs out.
 pub fn document(alloc: Global, world: &World, path: &DomainPath) -> Result<Value, ExportFault>
     ensures tree { IfOk result (λ tree. doc (seen world.now) path.now ≡ Some (view tree)) }
     ensures short { IfOk result (λ tree. length (compact_text (view tree)) ≤ 2 ^ 27) }
     ensures none { (result ≡ Err ExportFault.NoDomain) ↔ (doc (seen world.now) path.now ≡ None) }
     ensures large { result ≡ Err ExportFault.TooLarge → IsTooLong (doc (seen world.now) path.now) }
+    ensures early { CannotFit (seen world.now) (home_at (seen world.now) path.now)
+        → result ≡ Err ExportFault.TooLarge }
 {
     let Printed { tree, .. } = printed(alloc, world, path)?;
     Ok(tree)
@@ -47,6 +50,8 @@ pub fn document_text(alloc: Global, world: &World, path: &DomainPath) -> Result<
     ensures short { IfOk result (λ text. length (string_bytes text) ≤ 2 ^ 27) }
     ensures none { (result ≡ Err ExportFault.NoDomain) ↔ (doc (seen world.now) path.now ≡ None) }
     ensures large { result ≡ Err ExportFault.TooLarge → IsTooLong (doc (seen world.now) path.now) }
+    ensures early { CannotFit (seen world.now) (home_at (seen world.now) path.now)
+        → result ≡ Err ExportFault.TooLarge }
 {
     let Printed { text, .. } = printed(alloc, world, path)?;
     Ok(text)
@@ -54,7 +59,9 @@ pub fn document_text(alloc: Global, world: &World, path: &DomainPath) -> Result<
 
 // The document at a path with its text, where there is one that isn't too long.
 fn printed(alloc: Global, world: &World, path: &DomainPath) -> Result<Printed, ExportFault>
-    ensures { Answers (λ p tree. IsPrinted tree p) result (doc (seen world.now) path.now) }
+    ensures answer { Answers (λ p tree. IsPrinted tree p) result (doc (seen world.now) path.now) }
+    ensures early { CannotFit (seen world.now) (home_at (seen world.now) path.now)
+        → result ≡ Err ExportFault.TooLarge }
 {
     match home_at(world, path) {
         Some(home) => domain_printed(alloc, world, &home),
@@ -83,8 +90,9 @@ fn home_of(class: &NodeClass) -> Option<Home>
 }
 
 fn domain_printed(alloc: Global, world: &World, home: &Home) -> Result<Printed, ExportFault>
-    ensures { Answers (λ p tree. IsPrinted tree p) result
+    ensures answer { Answers (λ p tree. IsPrinted tree p) result
         (Some (document_tree (seen world.now).objects home.now)) }
+    ensures early { CannotFit (seen world.now) (Some home.now) → result ≡ Err ExportFault.TooLarge }
 {
     Ok(print_domain(alloc, &WorldObjects { world }, home)?)
 }

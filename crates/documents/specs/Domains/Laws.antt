@@ -1,10 +1,10 @@
 -- Documents, in other words than the walk over their objects.
-use Rattle.std.specs.Prelude.{◌≡◌, ℕ, List, [], ◌∷◌, false, Option, Some, None, option_map, if◌then◌else◌}
-use Rattle.std.specs.FinMap.{get}
+use Rattle.std.specs.Prelude.{◌≡◌, ◌≤◌, ℕ, List, [], ◌∷◌, length, false, Option, Some, None, option_map, if◌then◌else◌}
+use Rattle.std.specs.FinMap.{entries, get}
 use Rattle.std.specs.List.Sorted.{IsStrictlySortedBy}
 use Rattle.serde_json.specs.Data.{Data, Members, no_members, member}
 use Rattle.serde_json.specs.Find.{as_object, get as find}
-use Rattle.serde_json.specs.Written.{has_float}
+use Rattle.serde_json.specs.Written.{compact_text, has_float}
 use Rattle.containers.specs.TextMaps.Keyed.{text_order}
 use Rattle.object_ids.specs.IdValues.{Id}
 use Rattle.object_ids.specs.Ids.{InRange, text_of_id}
@@ -13,6 +13,7 @@ use Rattle.object_acts.specs.declared.objects.Object.{Object}
 use Rattle.documents.specs.Domains.Domains.{object_at}
 use Rattle.documents.specs.Domains.Documents.{collection_tree, document_tree, is_of}
 use Rattle.documents.specs.Domains.Entries.{entry_tree}
+use Rattle.documents.specs.Domains.Lengths.{AreDatasetsInRange, least_values}
 use Rattle.documents.specs.declared.domains.home.Home.{Home}
 use Rattle.object_acts.specs.Objects.{Objects}
 
@@ -46,3 +47,7 @@ KeysInOrder = (m : Objects) (h : Home) (k : Kind) (ms : Members) → as_object (
 
 abbrev pub HasNoFloats : Type 0
 HasNoFloats = (m : Objects) (h : Home) → has_float (document_tree m h) ≡ false
+
+-- the compact text has the bytes that the shapes of the datasets ask for
+abbrev pub HasLeastLength : Type 0
+HasLeastLength = (m : Objects) (h : Home) → AreDatasetsInRange m h → least_values h (entries m) ≤ length (compact_text (document_tree m h))

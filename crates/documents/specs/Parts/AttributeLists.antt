@@ -1,9 +1,9 @@
 -- The attributes of an object of a document: the first fault in the stated order.
-use Rattle.std.specs.Prelude.{◌≡◌, ◌≤◌, ℕ, List, Option, Some, Result, Ok, Err, codes, decimal}
+use Rattle.std.specs.Prelude.{◌≡◌, ◌<◌, ◌≤◌, ◌⊎◌, ℕ, List, [], ◌∷◌, Option, Some, None, Result, Ok, Err, IsOkAnd, codes, decimal}
 use Rattle.std.specs.FinMap.{empty, get, insert}
 use Rattle.serde_json.specs.Data.{Data, Members}
-use Rattle.json_trees.specs.Faults.{◌>>=◌}
-use Rattle.json_trees.specs.Trees.{text_at}
+use Rattle.json_trees.specs.Faults.{◌>>=◌, Gives as GivesTold, Leaves as LeavesTold}
+use Rattle.json_trees.specs.Trees.{list_in, text_at}
 use Rattle.hdf_values.specs.Attributes.{Content, attribute_of, attribute}
 use Rattle.hdf_values.specs.declared.attributes.Attribute.{Attribute}
 use Rattle.hdf_values.specs.declared.attributes.AttributeFault.{AttributeFault}
@@ -12,10 +12,12 @@ use Rattle.attributes.specs.AttributeMaps.{AttributeMap, most_attributes}
 use Rattle.shapes.specs.RowMajor.{room_of}
 use Rattle.shapes.specs.Shapes.{dims_of}
 use Rattle.shapes.specs.declared.Shape.{Shape}
-use Rattle.documents.specs.Parts.Faults.{Fault, Tells, fault}
+use Rattle.documents.specs.Parts.Faults.{Fails, Fault, Tells, fault}
 use Rattle.documents.specs.Parts.Items.{listed_at, members_at}
 use Rattle.documents.specs.Parts.Names.{new_name}
 use Rattle.documents.specs.Parts.Paths.{under}
+use Rattle.documents.specs.declared.parts.faults.AttributesFault.{AttributesFault}
+use Rattle.documents.specs.declared.parts.faults.AttributesFault.TheVariants.{Doc, TooManyCells}
 use Rattle.documents.specs.declared.parts.faults.DocCause.TheVariants.{BadType, BadShape, BadValue, Limit}
 use Rattle.documents.specs.declared.parts.faults.DocFault.{DocFault}
 use Rattle.documents.specs.declared.parts.faults.DocFault.TheVariants.{NoMemory}
@@ -73,3 +75,34 @@ most_cells = 65536
 -- no attribute has more
 abbrev pub HaveFewCells : AttributeMap → Type 0
 HaveFewCells m = (name : List ℕ) (a : Attribute) → get m name ≡ Some a → room a.shape ≤ most_cells
+
+-- the tree spells an attribute that has more
+abbrev pub HasManyCells : Data → Type 0
+HasManyCells d = IsOkAnd (attribute_of d) (λ c. most_cells < room c.shape)
+
+-- one of the trees does
+abbrev pub OneHasManyCells : List Data → Type 0
+OneHasManyCells [] = ⊥
+OneHasManyCells (d ∷ ds) = HasManyCells d ⊎ OneHasManyCells ds
+
+abbrev pub ListHasManyCells : Option (List Data) → Type 0
+ListHasManyCells None = ⊥
+ListHasManyCells (Some ds) = OneHasManyCells ds
+
+-- one member of the list does; an absent one has none
+abbrev pub OneAtHasManyCells : Option Data → Type 0
+OneAtHasManyCells None = ⊥
+OneAtHasManyCells (Some d) = ListHasManyCells (list_in d)
+
+-- one fault tells what a document's fault tells; the other, that there are too many cells somewhere
+abbrev pub TellsOr : {A : Type 0} → Type 0 → AttributesFault → Result A Fault → Type 0
+TellsOr many (Doc e) r = Fails e r
+TellsOr many TooManyCells r = many
+
+-- a call gives what the tests find, or tells a fault
+abbrev pub AnswersOr : {A : Type 0} → Type 0 → Result A AttributesFault → Result A Fault → Type 0
+AnswersOr many given found = GivesTold (TellsOr many) (λ x. x) given found
+
+-- a call leaves behind what the tests find, or tells a fault
+abbrev pub LeavesOr : {A T : Type 0} → Type 0 → Result T AttributesFault → A → Result A Fault → Type 0
+LeavesOr many given new found = LeavesTold (TellsOr many) given new found

@@ -11,6 +11,7 @@ ghost use Rattle.documents.specs.Domains.Documents.{put_at, put_each, put_one, w
 
 use crate::domains::entries::entry_json;
 use crate::domains::home::Home;
+use crate::domains::ranges::{first_id, next_of};
 use crate::domains::store::ObjectStore;
 use object_acts::Object;
 use object_ids::{Kind, ObjectId, id_text};
@@ -72,6 +73,7 @@ fn collection<S: ObjectStore>(
     Ok(Value::Object(members))
 }
 
+// The walk looks at the ids of the kind in the domain alone.
 fn put_objects<S: ObjectStore>(
     alloc: Global,
     store: &S,
@@ -83,10 +85,11 @@ fn put_objects<S: ObjectStore>(
         ≡ put_each (S.objects store.now) home.now kind (entries (S.objects store.now))
         (members_view members.old.entries)) }
 {
-    let mut last: Option<ObjectId> = None;
-    while let Some(id) = store.next_id(last.as_ref()) {
+    let mut last = first_id(kind, home);
+    put_at(alloc, store, home, kind, &last, members)?;
+    while let Some(id) = next_of(store, home, &last) {
         put_at(alloc, store, home, kind, &id, members)?;
-        last = Some(id);
+        last = id;
     }
     Ok(())
 }
@@ -132,7 +135,7 @@ fn put_object<S: ObjectStore>(
     }
 }
 
-fn is_of(kind: Kind, home: &Home, id: &ObjectId) -> bool
+pub(crate) fn is_of(kind: Kind, home: &Home, id: &ObjectId) -> bool
     ensures { result ≡ is_of kind home.now id.now }
 {
     id.kind == kind && id.domain == home.number

@@ -1,13 +1,16 @@
 //! A document with its text.
 
 ghost use Rattle.std.specs.Prelude.{◌≡◌, ◌<◌, ◌≤◌, ◌^◌, Err, IfOk, length};
+ghost use Rattle.std.specs.FinMap.{entries};
 ghost use Rattle.serde_json.specs.Written.{compact_text};
 ghost use Rattle.documents.specs.Domains.Documents.{document_tree};
+ghost use Rattle.documents.specs.Domains.Lengths.{least_values};
 ghost use Rattle.documents.specs.Domains.Printed.{IsPrinted};
 
 use crate::domains::collections::domain_json;
 use crate::domains::home::Home;
-use crate::domains::laws::documents_have_no_floats;
+use crate::domains::laws::{documents_have_least_lengths, documents_have_no_floats};
+use crate::domains::lengths::least_length;
 use crate::domains::store::ObjectStore;
 use serde_json::Value;
 use std::alloc::{AllocError, Global};
@@ -43,7 +46,8 @@ impl From<AllocError> for PrintFault {
     }
 }
 
-/// The document of a domain with its text, where that isn't too long.
+/// The document of a domain with its text, where that isn't too long. Where the shapes of the datasets alone ask for a longer
+/// text, that is told before a value is read.
 ///
 /// # Errors
 ///
@@ -59,8 +63,14 @@ pub fn print_domain<S: ObjectStore>(
         (λ _. length (compact_text (document_tree (S.objects store.now) home.now)) ≤ 2 ^ 27) }
     ensures large { result ≡ Err PrintFault.TooLarge
         → 2 ^ 27 < length (compact_text (document_tree (S.objects store.now) home.now)) }
+    ensures early { 2 ^ 27 < least_values home.now (entries (S.objects store.now))
+        → result ≡ Err PrintFault.TooLarge }
 {
     documents_have_no_floats();
+    documents_have_least_lengths();
+    if least_length(store, home) > MAX_TEXT as u64 {
+        return Err(PrintFault::TooLarge);
+    }
     let tree = domain_json(alloc, store, home)?;
     let text = tree.to_string(alloc)?;
     if text.len() > MAX_TEXT {

@@ -26,7 +26,7 @@ use hdf_types::ElemType;
 use hdf_values::{ValueFault, read_value};
 use object_ops::creation::{Creation, CreationFault, read_creation};
 use serde_json::Value;
-use shapes::{Shape, read_shape};
+use shapes::{Shape, ShapeFault, read_shape};
 use std::alloc::{AllocError, Global};
 
 /// The array of a dataset: its `type`, its `shape`, its `creationProperties` and its `value`. An
@@ -51,7 +51,12 @@ fn shape_in(alloc: Global, path: &str, tree: Option<&Value>) -> Result<Shape, Do
 {
     match read_shape(tree, None) {
         Ok(shape) => Ok(shape),
-        Err(_) => Err(refused_at(alloc, path, "shape", DocCause::BadShape)),
+        Err(
+            ShapeFault::NotAShape
+            | ShapeFault::Rank
+            | ShapeFault::DimOverMax { .. }
+            | ShapeFault::TooLarge,
+        ) => Err(refused_at(alloc, path, "shape", DocCause::BadShape)),
     }
 }
 

@@ -1,18 +1,20 @@
 //! The attributes of an object of a document.
 
-ghost use Rattle.std.specs.Prelude.{◌≡◌, ◌-◌, ◌^◌, ◌≤◌, min, nat_le, IfOk, map};
+ghost use Rattle.std.specs.Prelude.{◌≡◌, ◌+◌, ◌-◌, ◌^◌, ◌<◌, ◌≤◌, length, min, nat_le, IfOk, map};
 ghost use Rattle.std.specs.FinMap as finite;
 ghost use Rattle.serde_json.specs.View.{view};
 ghost use Rattle.json_trees.specs.Shown.{shown};
+ghost use Rattle.attributes.specs.AttributeMaps.{most_attributes};
 ghost use Rattle.hdf_values.specs.Attributes.{IsSoundAttribute, content};
 ghost use Rattle.documents.specs.Parts.AttributeLists.{IsToldOf, attribute_at, attributes_at};
 ghost use Rattle.documents.specs.Parts.AttributeLists.{attribute_step, content_at};
-ghost use Rattle.documents.specs.Parts.AttributeLists.{HaveFewCells, most_cells, room};
-ghost use Rattle.documents.specs.Parts.Faults.{Answers, Leaves};
+ghost use Rattle.documents.specs.Parts.AttributeLists.{AnswersOr, HasManyCells, HaveFewCells};
+ghost use Rattle.documents.specs.Parts.AttributeLists.{LeavesOr, OneAtHasManyCells};
+ghost use Rattle.documents.specs.Parts.AttributeLists.{OneHasManyCells, most_cells, room};
 ghost use Rattle.documents.specs.Parts.Items.{each_item};
 ghost use Rattle.shapes.specs.RowMajor.{room_of};
 
-use crate::parts::faults::{DocCause, DocFault, refused_at};
+use crate::parts::faults::{AttributesFault, DocCause, DocFault, refused_at};
 use crate::parts::items::{items, members, numbered};
 use crate::parts::names::new_name;
 use crate::parts::paths::DocPath;
@@ -32,15 +34,16 @@ pub const MAX_ATTRIBUTE_CELLS: u64 = 65_536;
 ///
 /// The first fault: of the list that it is none, that it has more than
 /// [`MAX_ATTRIBUTES`](attributes::MAX_ATTRIBUTES) members, and then of each member that it is no
-/// object, of its name, its type, its shape, its size and its value. `NoMemory` also where one has
-/// more than [`MAX_ATTRIBUTE_CELLS`] cells.
+/// object, of its name, its type, its shape, its size and its value. `TooManyCells` only where one
+/// has no fault and more than [`MAX_ATTRIBUTE_CELLS`] cells; then nothing is read.
 #[tactic(auto, unfolding(crate::specs::Parts::AttributeLists::attributes_at))]
 pub fn read_attributes(
     alloc: Global,
     path: &str,
     tree: Option<&Value>,
-) -> Result<Attributes, DocFault>
-    ensures exact { Answers result (attributes_at path.now (shown tree.entry)) }
+) -> Result<Attributes, AttributesFault>
+    ensures exact { AnswersOr (OneAtHasManyCells (shown tree.entry)) result
+        (attributes_at path.now (shown tree.entry)) }
     ensures few { IfOk result HaveFewCells }
 {
     let Some(tree) = tree else {
@@ -50,8 +53,9 @@ pub fn read_attributes(
     listed(alloc, path, items)
 }
 
-fn listed(alloc: Global, path: &str, items: &[Value]) -> Result<Attributes, DocFault>
-    ensures exact { Answers result
+fn listed(alloc: Global, path: &str, items: &[Value]) -> Result<Attributes, AttributesFault>
+    requires { length items.now ≤ most_attributes }
+    ensures exact { AnswersOr (OneHasManyCells (map view items.now)) result
         (each_item (attribute_step path.now) finite.empty 0 (map view items.now)) }
     ensures few { IfOk result HaveFewCells }
 {
@@ -68,10 +72,12 @@ fn put_item(
     index: usize,
     item: &Value,
     attributes: &mut Attributes,
-) -> Result<(), DocFault>
-    requires { HaveFewCells attributes.old }
-    ensures exact { Leaves result attributes.new
+) -> Result<(), AttributesFault>
+    requires few { HaveFewCells attributes.old }
+    requires room { finite.len attributes.old < most_attributes }
+    ensures exact { LeavesOr (HasManyCells (view item.now)) result attributes.new
         (attribute_step path.now index attributes.old (view item.now)) }
+    ensures many { finite.len attributes.new ≤ finite.len attributes.old + 1 }
     ensures few { HaveFewCells attributes.new }
 {
     let path = numbered(alloc, path, index)?;
@@ -84,36 +90,40 @@ fn put_attribute(
     path: &str,
     item: &Value,
     attributes: &mut Attributes,
-) -> Result<(), DocFault>
-    requires { HaveFewCells attributes.old }
-    ensures exact { Leaves result attributes.new
+) -> Result<(), AttributesFault>
+    requires few { HaveFewCells attributes.old }
+    requires room { finite.len attributes.old < most_attributes }
+    ensures exact { LeavesOr (HasManyCells (view item.now)) result attributes.new
         (attribute_at path.now attributes.old (view item.now)) }
+    ensures many { finite.len attributes.new ≤ finite.len attributes.old + 1 }
     ensures few { HaveFewCells attributes.new }
 {
     members(alloc, path, item)?;
     let key = DocPath::under(alloc, path, "name")?;
     let name = new_name(alloc, key.text(), attributes, member_text(item, "name"))?;
     let attribute = content_at(alloc, path, item)?;
-    // The name is new and the list within the limit, so that memory alone can be wanting.
     match attributes.put(name, attribute) {
         Ok(()) => Ok(()),
-        Err(PutFault::Taken | PutFault::Limit | PutFault::NoMemory) => Err(DocFault::NoMemory),
+        Err(PutFault::NoMemory) => Err(AttributesFault::Doc(DocFault::NoMemory)),
+        // The name is new, and there is room.
+        Err(PutFault::Taken | PutFault::Limit) => unreachable!(),
     }
 }
 
-fn content_at(alloc: Global, path: &str, item: &Value) -> Result<Attribute, DocFault>
-    ensures exact { Answers result (content_at path.now (view item.now)) }
+fn content_at(alloc: Global, path: &str, item: &Value) -> Result<Attribute, AttributesFault>
+    ensures exact { AnswersOr (HasManyCells (view item.now)) result
+        (content_at path.now (view item.now)) }
     ensures sound { IfOk result (λ a. IsSoundAttribute (content a)) }
     ensures few { IfOk result (λ a. room a.shape ≤ most_cells) }
 {
     let attribute = match read_attribute(alloc, item) {
         Ok(attribute) => attribute,
-        Err(fault) => return Err(told(alloc, path, fault)),
+        Err(fault) => return Err(AttributesFault::Doc(told(alloc, path, fault))),
     };
     if has_few_cells(&attribute.shape) {
         Ok(attribute)
     } else {
-        Err(DocFault::NoMemory)
+        Err(AttributesFault::TooManyCells)
     }
 }
 

@@ -3,6 +3,7 @@
 ghost use Rattle.std.specs.Prelude.{◌≡◌};
 ghost use Rattle.documents.specs.Parts.Faults.{Tells, fault};
 ghost use Rattle.documents.specs.Parts.Paths.{under};
+ghost use Rattle.documents.specs.declared.parts.faults.AttributesFault.TheVariants.{Doc};
 ghost use Rattle.documents.specs.declared.parts.faults.DocFault.TheVariants.{NoMemory};
 
 use crate::parts::paths::DocPath;
@@ -63,6 +64,31 @@ impl<T: Drop> From<AllocFailed<T>> for DocFault {
     }
 }
 
+/// Why the attributes of an object were not read.
+#[derive(Debug, Drop)]
+pub enum AttributesFault {
+    /// One has more than [`MAX_ATTRIBUTE_CELLS`](crate::parts::MAX_ATTRIBUTE_CELLS) cells.
+    TooManyCells,
+    /// The document is refused, or memory ran out.
+    Doc(DocFault),
+}
+
+impl From<DocFault> for AttributesFault {
+    ghost from_gives = { λ fault e. e ≡ Doc fault };
+
+    fn from(fault: DocFault) -> AttributesFault {
+        AttributesFault::Doc(fault)
+    }
+}
+
+impl From<AllocError> for AttributesFault {
+    ghost from_gives = { λ _ e. e ≡ Doc NoMemory };
+
+    fn from(_error: AllocError) -> AttributesFault {
+        AttributesFault::Doc(DocFault::NoMemory)
+    }
+}
+
 /// The refusal of what stands at a path.
 #[tactic(auto, unfolding(crate::specs::Parts::Faults::fault))]
 pub fn refused(alloc: Global, path: &str, cause: DocCause) -> DocFault
@@ -70,7 +96,7 @@ pub fn refused(alloc: Global, path: &str, cause: DocCause) -> DocFault
 {
     match DocPath::shown(alloc, path) {
         Ok(path) => DocFault::Refused { path, cause },
-        Err(_) => DocFault::NoMemory,
+        Err(AllocError) => DocFault::NoMemory,
     }
 }
 
@@ -80,6 +106,6 @@ pub fn refused_at(alloc: Global, path: &str, key: &str, cause: DocCause) -> DocF
 {
     match DocPath::under(alloc, path, key) {
         Ok(path) => refused(alloc, path.text(), cause),
-        Err(_) => DocFault::NoMemory,
+        Err(AllocError) => DocFault::NoMemory,
     }
 }

@@ -1,6 +1,6 @@
 //! Objects and lists in a document.
 
-ghost use Rattle.std.specs.Prelude.{◌≡◌, IfOk, decimal, map, string_bytes};
+ghost use Rattle.std.specs.Prelude.{◌≡◌, ◌≤◌, IfOk, decimal, length, map, string_bytes};
 ghost use Rattle.serde_json.specs.View.{members_view, view};
 ghost use Rattle.json_trees.specs.Trees.{list_in};
 ghost use Rattle.documents.specs.Parts.Faults.{Gives};
@@ -39,8 +39,9 @@ pub(crate) fn items<'a>(
     most: usize,
     tree: &'a Value,
 ) -> Result<&'a [Value], DocFault>
-    ensures { Gives (λ items. map view items.now) result
+    ensures exact { Gives (λ items. map view items.now) result
         (items_at most path.now (list_in (view tree.now))) }
+    ensures few { IfOk result (λ items. length items.now ≤ most) }
 {
     match list_items(tree) {
         None => Err(refused(alloc, path, DocCause::NotADocument)),

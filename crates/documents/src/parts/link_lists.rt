@@ -1,10 +1,11 @@
 //! The links of a group of a document.
 
-ghost use Rattle.std.specs.Prelude.{◌≡◌, IfOk, IfSome, map};
+ghost use Rattle.std.specs.Prelude.{◌≡◌, ◌+◌, ◌<◌, ◌≤◌, IfOk, IfSome, length, map};
 ghost use Rattle.std.specs.Prelude.{option_and_then, option_map};
 ghost use Rattle.std.specs.FinMap as finite;
 ghost use Rattle.serde_json.specs.View.{view};
 ghost use Rattle.json_trees.specs.Shown.{shown};
+ghost use Rattle.groups_links.specs.GroupLinks.{most_links};
 ghost use Rattle.groups_links.specs.Targets.{IsSoundLink, link_in};
 ghost use Rattle.documents.specs.Parts.Faults.{Answers, Leaves};
 ghost use Rattle.documents.specs.Parts.LinkLists.{hard_of, link_at, link_step, links_at};
@@ -50,6 +51,7 @@ pub fn read_links(
 }
 
 fn listed(alloc: Global, document: &Value, path: &str, items: &[Value]) -> Result<Targets, DocFault>
+    requires { length items.now ≤ most_links }
     ensures { Answers result
         (each_item (link_step (view document.now) path.now) finite.empty 0 (map view items.now)) }
 {
@@ -68,8 +70,10 @@ fn put_item(
     item: &Value,
     links: &mut Targets,
 ) -> Result<(), DocFault>
-    ensures { Leaves result links.new
+    requires { finite.len links.old < most_links }
+    ensures exact { Leaves result links.new
         (link_step (view document.now) path.now index links.old (view item.now)) }
+    ensures many { finite.len links.new ≤ finite.len links.old + 1 }
 {
     let path = numbered(alloc, path, index)?;
     put_link(alloc, document, path.text(), item, links)
@@ -83,17 +87,20 @@ fn put_link(
     item: &Value,
     links: &mut Targets,
 ) -> Result<(), DocFault>
-    ensures { Leaves result links.new
+    requires { finite.len links.old < most_links }
+    ensures exact { Leaves result links.new
         (link_at (view document.now) path.now links.old (view item.now)) }
+    ensures many { finite.len links.new ≤ finite.len links.old + 1 }
 {
     members(alloc, path, item)?;
     let key = DocPath::under(alloc, path, "title")?;
     let title = new_title(alloc, key.text(), links, member_text(item, "title"))?;
     let target = target_at(alloc, document, path, item)?;
-    // The title is new and the list within the limit, so that memory alone can be wanting.
     match links.put(title, target) {
         Ok(()) => Ok(()),
-        Err(PutFault::Taken | PutFault::Limit | PutFault::NoMemory) => Err(DocFault::NoMemory),
+        Err(PutFault::NoMemory) => Err(DocFault::NoMemory),
+        // The title is new, and there is room.
+        Err(PutFault::Taken | PutFault::Limit) => unreachable!(),
     }
 }
 

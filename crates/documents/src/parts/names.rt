@@ -1,6 +1,7 @@
 //! Names of attributes and titles of links, of which none stands twice in its list.
 
-ghost use Rattle.std.specs.Prelude.{◌≡◌, ◌≤◌, IfOk, length, option_map};
+ghost use Rattle.std.specs.Prelude.{◌≡◌, ◌≤◌, false, IfOk, length, option_map};
+ghost use Rattle.std.specs.FinMap.{contains_key};
 ghost use Rattle.attributes.specs.AttributeMaps.{longest_name};
 ghost use Rattle.groups_links.specs.Titles.{IsGoodTitle};
 ghost use Rattle.documents.specs.Parts.Faults.{Answers};
@@ -24,6 +25,7 @@ pub(crate) fn new_name(
     ensures exact { Answers result
         (new_name path.now attributes.now (option_map (λ t. t.now) text.entry)) }
     ensures short { IfOk result (λ name. length name ≤ longest_name) }
+    ensures new { IfOk result (λ name. contains_key attributes.now name ≡ false) }
 {
     let name = read_name(alloc, path, MAX_ATTRIBUTE_NAME, text)?;
     if attributes.get(&name).is_some() {
@@ -43,6 +45,7 @@ pub(crate) fn new_title(
     ensures exact { Answers result
         (new_title path.now links.now (option_map (λ t. t.now) text.entry)) }
     ensures good { IfOk result IsGoodTitle }
+    ensures new { IfOk result (λ title. contains_key links.now title ≡ false) }
 {
     let title = read_title(alloc, path, text)?;
     if links.get(&title).is_some() {

@@ -7,8 +7,8 @@ ghost use Rattle.documents.specs.Reader.Objects.{attributes_of, dataset_at, data
 ghost use Rattle.documents.specs.Reader.Objects.{is_length, is_new_group, is_new_type, links_of};
 
 use crate::parts::{
-    DocCause, DocFault, DocPath, Targets, has_id, members, read_array, read_attributes, read_kind,
-    read_links, refused,
+    AttributesFault, DocCause, DocFault, DocPath, Targets, has_id, members, read_array,
+    read_attributes, read_kind, read_links, refused,
 };
 use crate::reader::MAX_ID;
 use crate::reader::loaded::{Dataset, Datatype, Group};
@@ -85,11 +85,16 @@ pub(crate) fn put_group(
     Ok(())
 }
 
+// Too many cells of one are told as want of memory is.
 fn attributes_of(alloc: Global, path: &str, tree: &Value) -> Result<Attributes, DocFault>
     ensures { Answers result (attributes_of path.now (view tree.now)) }
 {
     let list = DocPath::under(alloc, path, "attributes")?;
-    read_attributes(alloc, list.text(), tree.get("attributes"))
+    match read_attributes(alloc, list.text(), tree.get("attributes")) {
+        Ok(attributes) => Ok(attributes),
+        Err(AttributesFault::TooManyCells) => Err(DocFault::NoMemory),
+        Err(AttributesFault::Doc(fault)) => Err(fault),
+    }
 }
 
 fn links_of(alloc: Global, document: &Value, path: &str, tree: &Value) -> Result<Targets, DocFault>

@@ -45,6 +45,9 @@ number_left (Some fault) next e = let never : Some fault ≡ None = e in absurd 
 
 -- ---- the new domain
 
+pub is_free : (d : RegisterState) (path : List ℕ) (l : Loaded) → adopt_fault d path l ≡ None → domain_fault d.catalogue path ≡ None
+is_free d path l none = (no_first (domain_fault d.catalogue path) (serial_fault d (1 + other_count l)) none).0
+
 pub has_room : (d : RegisterState) (path : List ℕ) (l : Loaded) → IsRegister d → adopt_fault d path l ≡ None → HasRoom (root_at d) (other_count l)
 has_room d path l register none =
     let faults = no_first (domain_fault d.catalogue path) (serial_fault d (1 + other_count l)) none in

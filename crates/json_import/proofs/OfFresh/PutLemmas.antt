@@ -1,10 +1,13 @@
 -- The values of a map, each seen as something else and put at its key.
-use Rattle.std.proofs.Common.{◌≡◌, ◌<◌, ℕ, List, map, length, Option, Some, None, sym, ap, ◌∙◌, arith}
+use Rattle.std.proofs.Common.{◌≡◌, ◌+◌, ◌<◌, ◌≤◌, ℕ, true, false, cond, List, map, length, Option, Some, None, is_eq, is_lt, refl, sym, ap, subst, ◌∙◌, arith}
 use Rattle.std.specs.Cmp.Lexicographic.{nat_list_cmp_total}
-use Rattle.std.specs.FinMap.{FinMap, empty, entries, get}
+use Rattle.std.specs.FinMap.{FinMap, empty, entries, get, get-insert, len}
+use Rattle.std.specs.Ordering.{eq_by_cmp, ordering_reverse}
 use Rattle.containers.specs.TextMaps.Keyed.{text_order, with_values, with_entries}
-use Rattle.containers.specs.TextMaps.Nexts.{IsKeyStep, left}
+use Rattle.containers.specs.TextMaps.Nexts.{IsKeyStep, is_behind, left}
+use Rattle.containers.proofs.Passing.{lt_less}
 use Rattle.containers.proofs.TextMaps.ValueMaps.{entries-values}
+use Rattle.object_ids.proofs.PutLemmas.{insert_most}
 use Rattle.json_import.specs.Fresh.Taking.{put_at}
 use Rattle.json_import.proofs.OfFresh.TakingLemmas.{left_all}
 use Rattle.containers.proofs.TextMaps.PutLemmas.{put_entries}
@@ -31,6 +34,34 @@ module _ {X Y : Type 0} (h : X → Y) where
 
   pub put_last : (m : FinMap text_order X) (after : Option (List ℕ)) (made : FinMap text_order Y) → IsKeyStep m after None → put_left made after m ≡ with_values h m → made ≡ with_values h m
   put_last m after made none so_far = ap (λ es. with_entries made (map entry_as es)) (sym none) ∙ so_far
+
+  -- nothing is put yet at what is left
+  abbrev pub IsNewBehind : FinMap text_order Y → Option (List ℕ) → Type 0
+  IsNewBehind made after = (q : List ℕ) → is_behind text_order after q ≡ true → get made q ≡ None
+
+  later_behind : (after : Option (List ℕ)) (k q : List ℕ) → is_behind text_order after k ≡ true → is_behind text_order (Some k) q ≡ true → is_behind text_order after q ≡ true
+  later_behind None k q behind later = refl
+  later_behind (Some a) k q behind later = ap is_lt (nat_list_cmp_total.trans a k q (lt_less (text_order a k) behind) (lt_less (text_order k q) later))
+
+  pub new_more : (after : Option (List ℕ)) (k : List ℕ) (o : Option X) (old new : FinMap text_order Y) → is_behind text_order after k ≡ true → new ≡ put_at h k o old
+      → IsNewBehind old after → IsNewBehind new (Some k)
+  new_more after k o old new behind made none = λ q later. ap (λ m. get m q) made ∙ at q later o where
+    apart : (q : List ℕ) → is_behind text_order (Some k) q ≡ true → eq_by_cmp text_order q k ≡ false
+    apart q later = ap is_eq (nat_list_cmp_total.antisymm q k ∙ ap ordering_reverse (lt_less (text_order k q) later))
+
+    at : (q : List ℕ) → is_behind text_order (Some k) q ≡ true → (o : Option X) → get (put_at h k o old) q ≡ None
+    at q later None = none q (later_behind after k q behind later)
+    at q later (Some x) =
+        get-insert nat_list_cmp_total old k (h x) q
+        ∙ ap (λ b. cond b (Some (h x)) (get old q)) (apart q later)
+        ∙ none q (later_behind after k q behind later)
+
+  -- at most one more is there
+  pub one_more : (k : List ℕ) (o : Option X) (old new : FinMap text_order Y) → new ≡ put_at h k o old → len new ≤ len old + 1
+  one_more k o old new made = subst (λ m. len m ≤ len old + 1) (sym made) (at o) where
+    at : (o : Option X) → len (put_at h k o old) ≤ len old + 1
+    at None = omega arith
+    at (Some x) = insert_most (len old + 1) old k (h x) (omega arith)
 
 -- each step leaves less
 pub less_left : {X : Type 0} (m : FinMap text_order X) (after : Option (List ℕ)) (k : List ℕ) → IsKeyStep m after (Some k)

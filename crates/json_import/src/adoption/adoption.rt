@@ -1,13 +1,14 @@
 //! Adoption.
 
-ghost use Rattle.std.specs.Prelude.{◌≡◌, ◌≢◌, ◌+◌, ◌<◌, ◌^◌, None, Some, IfOk, IfSome, OnOk};
+ghost use Rattle.std.specs.Prelude.{◌≡◌, ◌≢◌, ◌+◌, ◌<◌, ◌≤◌, ◌^◌, length, None, Some, IfOk, IfSome, OnOk};
 ghost use Rattle.std.specs.FinMap.{get};
 ghost use Rattle.object_ids.specs.IdValues.{Id};
-ghost use Rattle.domains.specs.Changes.{new_domain};
+ghost use Rattle.domains.specs.Changes.{domain_fault, new_domain, root_of};
+ghost use Rattle.register.specs.Decided.{domain_added, serial_limit};
 ghost use Rattle.object_acts.specs.Objects.{kind_of_body};
 ghost use Rattle.service_core.specs.Records.{WorldStillSays};
 ghost use Rattle.service_core.specs.Steps.{IsGiven};
-ghost use Rattle.service_core.specs.Worlds.{seen};
+ghost use Rattle.service_core.specs.Worlds.{seen, with_register};
 ghost use Rattle.json_import.specs.Fresh.Names.{with_root};
 ghost use Rattle.json_import.specs.Fresh.Renamed.{other_count};
 ghost use Rattle.json_import.specs.Adoption.Adopted.{IsReadBack, counts_of, objects_adopted, register_adopted};
@@ -19,6 +20,7 @@ use crate::adoption::faults::AdoptFault;
 use crate::fresh::{NewObject, NewObjects, Renamed, rename};
 use crate::round_trips::documents_read_back;
 use documents::reader::Loaded;
+use domains::CatFault;
 use object_ids::{DomainPath, LimitKind, Name, ObjectId};
 use service_core::World;
 use std::alloc::{AllocError, Global};
@@ -92,7 +94,8 @@ fn make_domain(
     owner: &Name,
     loaded: Loaded,
 ) -> Result<(), AllocError>
-    requires { world.old.register.serial + other_count loaded < 2 ^ 40 }
+    requires free { domain_fault world.old.register.catalogue path.now ≡ None }
+    requires room { world.old.register.serial + other_count loaded < 2 ^ 40 }
     ensures register { OnOk result (world.new.register
         ≡ register_adopted world.old.register path.now owner.now loaded) }
     ensures objects { OnOk result ((seen world.new).objects
@@ -100,13 +103,34 @@ fn make_domain(
     ensures says { WorldStillSays world.old world.new }
 {
     world.is_whole();
-    // Nothing speaks against the domain, so that memory alone can be wanting.
-    let Ok(root) = world.make_domain(path, owner) else {
-        return Err(AllocError);
-    };
+    let root = new_root(world, path, owner)?;
     let renamed = rename(alloc, root, loaded)?;
     put_root(world, root, renamed.root)?;
     put_others(world, root.domain, renamed.others)
+}
+
+// The root of a new domain that nothing speaks against.
+fn new_root(world: &mut World, path: &DomainPath, owner: &Name) -> Result<ObjectId, AllocError>
+    requires free { domain_fault world.old.register.catalogue path.now ≡ None }
+    requires room { world.old.register.serial < serial_limit }
+    ensures ok { OnOk result (world.new
+        ≡ with_register world.old (domain_added world.old.register path.now owner.now)) }
+    ensures root { IfOk result (λ root. root ≡ root_of world.old.register.catalogue.next
+        world.old.register.run world.old.register.serial) }
+    ensures says { WorldStillSays world.old world.new }
+{
+    match world.make_domain(path, owner) {
+        Ok(root) => Ok(root),
+        Err(CatFault::NoMemory) => Err(AllocError),
+        Err(
+            CatFault::NoFolder
+            | CatFault::Taken
+            | CatFault::Limit { .. }
+            | CatFault::NoDomain
+            | CatFault::NotEmpty
+            | CatFault::Root,
+        ) => unreachable!(),
+    }
 }
 
 fn put_root(world: &mut World, id: ObjectId, root: Option<NewObject>) -> Result<(), AllocError>
@@ -123,8 +147,10 @@ fn put_root(world: &mut World, id: ObjectId, root: Option<NewObject>) -> Result<
     }
 }
 
+// There are as many serials left as objects.
 fn put_others(world: &mut World, number: u64, others: NewObjects) -> Result<(), AllocError>
-    requires { number < world.old.register.catalogue.next }
+    requires number { number < world.old.register.catalogue.next }
+    requires room { world.old.register.serial + length others ≤ serial_limit }
     ensures world { OnOk result (seen world.new ≡ placed_each number (seen world.old) others) }
     ensures says { WorldStillSays world.old world.new }
 {
@@ -136,13 +162,13 @@ fn put_others(world: &mut World, number: u64, others: NewObjects) -> Result<(), 
 }
 
 fn put_object(world: &mut World, number: u64, object: NewObject) -> Result<(), AllocError>
-    requires { number < world.old.register.catalogue.next }
+    requires number { number < world.old.register.catalogue.next }
+    requires room { world.old.register.serial < serial_limit }
     ensures world { OnOk result (seen world.new ≡ placed number (seen world.old) object) }
     ensures says { WorldStillSays world.old world.new }
 {
-    // As many serials are left as objects are to be made, so that there is one.
     let Some(id) = world.fresh(object.kind(), number) else {
-        return Err(AllocError);
+        unreachable!();
     };
     world.put_object(id, object.into_object())
 }

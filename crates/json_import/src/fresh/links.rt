@@ -1,7 +1,8 @@
 // Links whose targets have fresh ids.
-ghost use Rattle.std.specs.Prelude.{◌≡◌, IfOk, OnOk};
-ghost use Rattle.std.specs.FinMap.{get, insert};
+ghost use Rattle.std.specs.Prelude.{◌≡◌, ◌<◌, false, IfOk, OnOk};
+ghost use Rattle.std.specs.FinMap.{contains_key, get, insert, len};
 ghost use Rattle.containers.specs.TextMaps.Keyed.{with_values};
+ghost use Rattle.groups_links.specs.GroupLinks.{most_links};
 ghost use Rattle.groups_links.specs.Targets.{IsSoundLink};
 ghost use Rattle.groups_links.specs.Titles.{IsGoodTitle};
 ghost use Rattle.documents.specs.Parts.TitleMaps.{IsSoundTarget};
@@ -11,7 +12,7 @@ ghost use Rattle.json_import.specs.Fresh.Taking.{put_at};
 use crate::fresh::names::FreshIds;
 use documents::parts::{Target, Targets};
 use groups_links::{LinkTo, Links};
-use object_ids::Name;
+use object_ids::{Name, PutFault};
 use std::alloc::{AllocError, Global};
 
 /// The same links, of which the hard ones lead to fresh ids.
@@ -22,6 +23,7 @@ pub(crate) fn renamed_links(
 ) -> Result<Links, AllocError>
     ensures { IfOk result (λ m. m ≡ with_values (renamed_link ids.now.names ids.now.root) links.now) }
 {
+    links.is_whole();
     let mut renamed = Links::new(alloc);
     let mut after = None;
     while let Some(title) = links.next_title(after) {
@@ -37,6 +39,8 @@ fn put_renamed(
     title: &Name,
     renamed: &mut Links,
 ) -> Result<(), AllocError>
+    requires new { contains_key renamed.old title.now ≡ false }
+    requires room { len renamed.old < most_links }
     ensures { OnOk result (renamed.new
         ≡ put_at (renamed_link ids.now.names ids.now.root) title.now (get links.now title.now) renamed.old) }
 {
@@ -67,11 +71,14 @@ fn renamed_link(ids: &FreshIds, target: &Target) -> Result<LinkTo, AllocError>
 fn put_link(links: &mut Links, title: Name, link: LinkTo) -> Result<(), AllocError>
     requires title { IsGoodTitle title }
     requires link { IsSoundLink link }
+    requires new { contains_key links.old title ≡ false }
+    requires room { len links.old < most_links }
     ensures { OnOk result (links.new ≡ insert links.old title link) }
 {
-    // A group of a document has no title twice and no more links than any, so that memory alone can be wanting.
     match links.put(title, link) {
         Ok(()) => Ok(()),
-        Err(_) => Err(AllocError),
+        Err(PutFault::NoMemory) => Err(AllocError),
+        // The title is new, and there is room.
+        Err(PutFault::Taken | PutFault::Limit) => unreachable!(),
     }
 }

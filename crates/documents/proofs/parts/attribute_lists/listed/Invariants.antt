@@ -1,4 +1,4 @@
-use Rattle.std.proofs.Common.{◌≡◌, map, drop}
+use Rattle.std.proofs.Common.{◌≡◌, ◌≤◌, map, drop}
 use Rattle.std.specs.FinMap as finite
 use Rattle.serde_json.specs.View.{view}
 use Rattle.documents.specs.Parts.AttributeLists.{attribute_step, HaveFewCells}
@@ -10,4 +10,5 @@ abbrev pub invariant-loop-index : goal.invariant-loop-index
 invariant-loop-index l = record {
   listed : each_item (attribute_step l.path) l.attributes l.index (map view (drop l.index l.items)) ≡ each_item (attribute_step l.path) finite.empty 0 (map view l.items);
   few : HaveFewCells l.attributes;
+  many : finite.len l.attributes ≤ l.index;
 }

@@ -3,12 +3,15 @@ use Rattle.std.specs.FinMap.{get}
 use Rattle.service_core.specs.Worlds.{seen}
 use Rattle.json_import.proofs.OfFresh.LawLemmas.{others_stay}
 use Rattle.json_import.specs.Adoption.Adopted.{root_at}
-use Rattle.json_import.proofs.OfAdoption.DocumentLemmas.{has_room, read_back}
+use Rattle.json_import.proofs.OfAdoption.DocumentLemmas.{has_room, is_free, read_back}
 use Rattle.json_import.proofs.OfAdoption.DomainLemmas.{domain_there}
 use Rattle.json_import.proofs.adoption.adoption.adopt.Goals as goal
 
-pub make_domain-requires : goal.make_domain-requires
-make_domain-requires c =
+pub make_domain-requires-clause-free : goal.make_domain-requires-clause-free
+make_domain-requires-clause-free c = is_free c.args.world.now.register c.args.path.now c.args.loaded c.in_ok-may_adopt.ensures
+
+pub make_domain-requires-clause-room : goal.make_domain-requires-clause-room
+make_domain-requires-clause-room c =
     (has_room c.args.world.now.register c.args.path.now c.args.loaded c.is_whole.ensures.roots c.in_ok-may_adopt.ensures).left
 
 pub returns-clause-domain : goal.returns-clause-domain
