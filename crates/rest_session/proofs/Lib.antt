@@ -5,3 +5,4 @@ pub mod OfKept
 pub mod OfLinks
 pub mod AnswerSizes
 pub mod KeptNodes
+pub mod DoneBytes

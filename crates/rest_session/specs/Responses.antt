@@ -62,6 +62,13 @@ extra_said (Replied (outcome.Refused refusal)) = extra_of refusal no_methods
 extra_said (Denied right) = extra_of (Forbidden right) no_methods
 extra_said NoMemory = extra.None
 
+-- the bytes are an answer with this status
+pub record HasStatus (status : ℕ) (bytes : List ℕ) : Type 0 where
+  pub more : Extra
+  pub body : List ℕ
+  pub close : Bool
+  pub written : bytes ≡ reply_text status more body close
+
 -- an answer to a request that was decided at a path
 abbrev pub said : List ℕ → What → Bool → List ℕ
 said path what close = reply_text (status_said what) (extra_said what) (body_text path what) close

@@ -2,6 +2,7 @@
 
 ghost use Rattle.std.specs.Prelude.{◌≡◌, ◌<◌, ◌≤◌, ◌^◌, ℕ, Bool, List, [], ◌∷◌, length};
 ghost use Rattle.std.specs.Prelude.{None, Option, false, true};
+ghost use Rattle.serde_json.specs.Data.{Data};
 ghost use Rattle.access_lists.specs.declared.people.Caller.{Caller};
 ghost use Rattle.access_lists.specs.declared.right.Right.{Right};
 ghost use Rattle.flush_journal.specs.Batches.{records};
@@ -21,15 +22,17 @@ ghost use Rattle.object_ops.specs.declared.ops.Request.{Request};
 ghost use Rattle.object_ops.specs.declared.refusals.Refusal.TheVariants.{DiskFault, JournalFull};
 ghost use Rattle.service_core.specs.Steps.{Steps, World as Seen};
 ghost use Rattle.service_core.specs.declared.answers.Answer.{Answer};
-ghost use Rattle.service_core.specs.declared.answers.What.TheVariants.{Denied};
-ghost use Rattle.rest_session.specs.Responses.{refusal_of, refused, said};
-ghost use Rattle.rest_session.specs.Sessions.{IsServed, IsUnkept, Served, acknowledges};
+ghost use Rattle.object_ops.specs.declared.replies.Reply.TheVariants.{Done};
+ghost use Rattle.service_core.specs.declared.answers.What.TheVariants.{Denied, Replied};
+ghost use Rattle.rest_session.specs.Responses.{HasStatus, refusal_of, refused, said};
+ghost use Rattle.rest_session.specs.Sessions.{IsServed, IsUnkept, Served};
 ghost use Rattle.rest_session.specs.Sessions.{is_to_keep};
 ghost use Rattle.rest_session.specs.Stood.{AreOfStood, HoldsStood, IsBackedBy, IsBackedByStood};
 ghost use Rattle.rest_session.specs.Stood.{IsStretch};
 
 use edge_traits::Disk;
 use flush_journal::keepings::images_are_kept;
+use service_core::answer_trees::answers_have_done_statuses;
 use service_core::{World, places_in_order};
 
 /// What ends a link is refused as a request is.
@@ -51,14 +54,24 @@ pub fn what_is_not_kept_changes_no_node()
         → v.register.catalogue ≡ w.register.catalogue }
 {}
 
-/// The bytes of an answer that acknowledges a change, or that all is kept, are never those by which it is said that a
-/// change was not kept, a 503 or a 507.
-pub fn what_is_acknowledged_is_told_apart()
-    ensures { (w v : Seen) (caller : Caller) (request : Request) (answer : Answer)
-        (path : List ℕ) (close shut : Bool) (why : Why) (bytes : List ℕ)
-        → Steps w caller request answer v → acknowledges request.op answer.what ≡ true
-        → bytes ≡ said path answer.what close → IsUnkept why shut bytes → ⊥ }
-{}
+/// The bytes of an answer that something was done are never those of a 503 or a 507, and so never those by which it is said
+/// that a change was not kept.
+pub fn what_is_done_is_told_apart()
+    ensures unavailable { (w v : Seen) (caller : Caller) (request : Request) (answer : Answer)
+        (status : ℕ) (body : Data) (path : List ℕ) (close : Bool)
+        → Steps w caller request answer v → answer.what ≡ Replied (Done status body)
+        → HasStatus 503 (said path answer.what close) → ⊥ }
+    ensures insufficient { (w v : Seen) (caller : Caller) (request : Request) (answer : Answer)
+        (status : ℕ) (body : Data) (path : List ℕ) (close : Bool)
+        → Steps w caller request answer v → answer.what ≡ Replied (Done status body)
+        → HasStatus 507 (said path answer.what close) → ⊥ }
+    ensures unkept { (w v : Seen) (caller : Caller) (request : Request) (answer : Answer)
+        (status : ℕ) (body : Data) (path : List ℕ) (close shut : Bool) (why : Why)
+        → Steps w caller request answer v → answer.what ≡ Replied (Done status body)
+        → IsUnkept why shut (said path answer.what close) → ⊥ }
+{
+    answers_have_done_statuses();
+}
 
 /// An answer that denies a right at a path, and one that says that a change was not kept, have at most 8,192 bytes: as many
 /// as an inbox has room for.
