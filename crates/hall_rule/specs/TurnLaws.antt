@@ -36,7 +36,7 @@ use Rattle.hall_rule.specs.declared.slot.RegisterSlot.{RegisterSlot}
 use Rattle.hall_rule.specs.declared.slot.RegisterNews.TheVariants.{Asks, Cuts, Draws}
 use Rattle.hall_rule.specs.declared.slot.Slot.TheVariants.{AtDesk, AtLane, AtRegister}
 use Rattle.hall_rule.specs.Sums.{times, total, upward}
-use Rattle.hall_rule.specs.Queues.{slot_of}
+use Rattle.hall_rule.specs.Queues.{limit_of, slot_of}
 use Rattle.hall_rule.specs.Claims.{claim, count_of, holds}
 use Rattle.hall_rule.specs.Seen.{GrowsFrom, GrowsUncut, SeenLists, at_desk, at_lane, at_register}
 use Rattle.hall_rule.specs.Seen.{history_of, lane_of, lanes_of, pushed}
@@ -54,12 +54,12 @@ pub record MachinesStand {service : Service} {M N P : Type 0} (m : Machines serv
       → (t : HasTaken m start (claim OfRegister n false) others me after)
       → (d : RegisterSlot M service.Asked service.Verdict) × (t.slot ≡ AtRegister d)
       × IsRegisterOf m start t.seen.register d.register
-  -- so many places were given at most, and tickets of a lane
+  -- so many places were given at most, and no ticket of a lane waits without end
   pub room : (start : Start M N P) (n : ℕ) (others : List Claim)
       (me after : HallHand service M N P)
       → (t : HasTaken m start (claim OfRegister n false) others me after)
       → (places t.seen.register < 2 ^ 61)
-      × ((l : ℕ) → count_of service t.seen.register l < 2 ^ 62)
+      × ((l : ℕ) → count_of service t.seen.register l < limit_of (OfLane l))
   pub owner : (start : Start M N P) (lane n : ℕ) (others : List Claim)
       (me after : HallHand service M N P)
       → (t : HasTaken m start (claim (OfLane lane) n false) others me after)

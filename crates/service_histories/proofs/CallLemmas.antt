@@ -23,7 +23,7 @@ use Rattle.lane_histories.specs.declared.items.Part.{Part}
 use Rattle.lane_histories.specs.declared.items.Part.TheVariants.{Only, First, Second}
 use Rattle.lane_histories.specs.declared.items.RegisterItem.TheVariants.{Entered, DrawnCut, RegisterCut}
 use Rattle.service_histories.specs.ArrayServices.{Asked, MayDecide, array_service, cut_recorded, left_by, listed, task_of, turns_for, turns_of}
-use Rattle.service_histories.specs.Calls.{DecisionsAnswer, DropsAct, IsAnswer, TurnsAreAtHome}
+use Rattle.service_histories.specs.Calls.{CutsLeave, DecisionsAnswer, DropsAct, DropsFindMemory, IsAnswer, StepsAct, TurnsAreAtHome}
 use Rattle.service_histories.specs.declared.tasks.Task.{Task}
 use Rattle.service_histories.specs.declared.tasks.Task.TheVariants.{TakesStep, DropsDomain}
 use Rattle.service_histories.proofs.IdMaps.{get_without}
@@ -33,12 +33,18 @@ use Rattle.service_histories.proofs.StepLemmas.{is_home}
 
 -- ---- calls
 
-module _ (d : RegisterState) (caller : Caller) (request : Request) where
+module _ (d : RegisterState) (asked : Asked) where
+  abbrev caller : Caller
+  caller = asked.0.value
+
+  abbrev request : Request
+  request = asked.1.value
+
   told : (v : Verdict) (new : RegisterState) → ◌≡◌ {A = Verdict × RegisterState} (v, new) (decided d caller request)
       → ◌≡◌ {A = Verdict × RegisterState} (v, (decided d caller request).1) (decided d caller request)
   told v new h = λ i. ((ap (λ (p : Verdict × RegisterState). p.0) h) i, (decided d caller request).1)
 
-  answer : (v : Verdict) (new : RegisterState) → Decides d caller request v new → IsAnswer d caller request v new
+  answer : (v : Verdict) (new : RegisterState) → Decides d caller request v new → IsAnswer d asked v new
   answer (verdict.Granted issue) new h = record { may = told (verdict.Granted issue) new h; leaves = ap (λ (p : Verdict × RegisterState). p.1) h }
   answer (verdict.Answered reply) new h = record { may = told (verdict.Answered reply) new h; leaves = ap (λ (p : Verdict × RegisterState). p.1) h }
   answer (verdict.Denied right) new h = record { may = told (verdict.Denied right) new h; leaves = ap (λ (p : Verdict × RegisterState). p.1) h }
@@ -46,10 +52,19 @@ module _ (d : RegisterState) (caller : Caller) (request : Request) where
   answer verdict.NoMemory new h = record { may = (h.0, h.1, refl); leaves = h.2 }
 
 pub decisions_answer : DecisionsAnswer
-decisions_answer d caller request v new h = answer d caller request v new h
+decisions_answer d asked v new h = answer d asked v new h
 
 pub drops_act : DropsAct
 drops_act number old new h = same_map id_order_total id_order_once _ _ (λ q. h q ∙ sym (get_without number old q))
+
+pub cuts_leave : (lanes : ℕ) → CutsLeave lanes
+cuts_leave lanes d = record { drawn = refl; whole = refl; short = refl }
+
+pub steps_act : (lanes : ℕ) → StepsAct lanes
+steps_act lanes g op s = record { acts = λ m. refl; short = tt }
+
+pub drops_find_memory : (lanes : ℕ) → DropsFindMemory lanes
+drops_find_memory lanes number never = never
 
 -- ---- turns
 
@@ -123,10 +138,10 @@ module _ (issues : GrantsAreIssues) (lanes l place : ℕ) (part : Part) (g : Gra
   entry_home : (d : RegisterState) (asked : Asked) (v : Verdict) (p : ℕ) → length d.issued ≡ lanes → 0 < lanes → MayDecide d asked v
       → IsIn (tickets_for (array_service lanes) l p (turns_of asked v)) ticket → Home
   entry_home d asked (verdict.Granted issue) p count some may there =
-      let is : (decided d asked.0 asked.1).0 ≡ verdict.Granted issue = sym (ap (λ (q : Verdict × RegisterState). q.0) may) in
-      let f = issue_in (decided d asked.0 asked.1).0 issue (IsIssueOf d asked.1.op) is (issues d asked.0 asked.1 (subst (λ (n : ℕ). 0 < n) (sym count) some)) in
-      turns_home issue asked.1.op asked.1.op refl p (subst (λ (n : ℕ). HasSteps n asked.1.op issue.left) count f.steps)
-      (subst (λ (n : ℕ). AreAtHome n asked.1.op issue.grant issue.left) count f.homes) there
+      let is : (decided d asked.0.value asked.1.value).0 ≡ verdict.Granted issue = sym (ap (λ (q : Verdict × RegisterState). q.0) may) in
+      let f = issue_in (decided d asked.0.value asked.1.value).0 issue (IsIssueOf d asked.1.value.op) is (issues d asked.0.value asked.1.value (subst (λ (n : ℕ). 0 < n) (sym count) some)) in
+      turns_home issue asked.1.value.op asked.1.value.op refl p (subst (λ (n : ℕ). HasSteps n asked.1.value.op issue.left) count f.steps)
+      (subst (λ (n : ℕ). AreAtHome n asked.1.value.op issue.grant issue.left) count f.homes) there
   entry_home d asked (verdict.Answered reply) p count some may there = absurd there
   entry_home d asked (verdict.Denied right) p count some may there = absurd there
   entry_home d asked (verdict.Refused refusal) p count some may there = absurd there

@@ -48,17 +48,17 @@ module _ (issues : GrantsAreIssues) (lanes : ℕ) (some : 0 < lanes) (d : Regist
     new : OneWorld
     register : new.register ≡ left_by d asked x
     objects : IsIn lanes (turns_done (array_service lanes) (turns_of asked x) o) new.objects
-    answered : IsAnswered here asked.0 asked.1 (answer_of (turns_reply (array_service lanes) x (turns_of asked x) o)) new
-    exact : x ≢ verdict.NoMemory → (answer_of (turns_reply (array_service lanes) x (turns_of asked x) o), new) ≡ step here asked.0 asked.1
+    answered : IsAnswered here asked.0.value asked.1.value (answer_of (turns_reply (array_service lanes) x (turns_of asked x) o)) new
+    exact : x ≢ verdict.NoMemory → (answer_of (turns_reply (array_service lanes) x (turns_of asked x) o), new) ≡ step here asked.0.value asked.1.value
 
   module _ (asked : Asked) where
     abbrev p : Verdict × RegisterState
-    p = decided d asked.0 asked.1
+    p = decided d asked.0.value asked.1.value
 
     abbrev by_step : Verdict → What × OneWorld
-    by_step x = ((by_verdict asked.1.op x m).0, record { register = p.1; objects = (by_verdict asked.1.op x m).1 })
+    by_step x = ((by_verdict asked.1.value.op x m).0, record { register = p.1; objects = (by_verdict asked.1.value.op x m).1 })
 
-    by : (x : Verdict) → x ≡ p.0 → by_step x ≡ step here asked.0 asked.1
+    by : (x : Verdict) → x ≡ p.0 → by_step x ≡ step here asked.0.value asked.1.value
     by x e = ap by_step e
 
     -- ---- a granted request
@@ -72,8 +72,8 @@ module _ (issues : GrantsAreIssues) (lanes : ℕ) (some : 0 < lanes) (d : Regist
       abbrev g : Grant
       g = issue.grant
 
-      issue_is : IsIssueOf d asked.1.op issue
-      issue_is = issue_in p.0 issue (IsIssueOf d asked.1.op) is (issues d asked.0 asked.1 (subst (λ (n : ℕ). 0 < n) (sym count) some))
+      issue_is : IsIssueOf d asked.1.value.op issue
+      issue_is = issue_in p.0 issue (IsIssueOf d asked.1.value.op) is (issues d asked.0.value asked.1.value (subst (λ (n : ℕ). 0 < n) (sym count) some))
 
       home_at : (x : Op) (l : ℕ) (step : Option Step) (s : Step) → step ≡ Some s → IsStepOf x s → IsAtHome lanes x g step l → IsTouchedIn l lanes (touched g x s)
       home_at x l step s e of home = is_home lanes g x x l s of (subst (λ (y : Option Step). IsAtHome lanes x g y l) e home)
@@ -91,30 +91,30 @@ module _ (issues : GrantsAreIssues) (lanes : ℕ) (some : 0 < lanes) (d : Regist
           record { reply = λ v e. ap what.Replied turned.reply; objects = turned.objects }
       listed_served x other (t ∷ u ∷ v ∷ ts) has homes = absurd (no_three lanes x t u v ts other has)
 
-      steps_of : HasSteps lanes asked.1.op issue.left
-      steps_of = subst (λ (n : ℕ). HasSteps n asked.1.op issue.left) count issue_is.steps
+      steps_of : HasSteps lanes asked.1.value.op issue.left
+      steps_of = subst (λ (n : ℕ). HasSteps n asked.1.value.op issue.left) count issue_is.steps
 
-      homes_of : AreAtHome lanes asked.1.op g issue.left
-      homes_of = subst (λ (n : ℕ). AreAtHome n asked.1.op g issue.left) count issue_is.homes
+      homes_of : AreAtHome lanes asked.1.value.op g issue.left
+      homes_of = subst (λ (n : ℕ). AreAtHome n asked.1.value.op g issue.left) count issue_is.homes
 
-      other_served : (x : Op) → asked.1.op ≡ x → IsOther x → Served (listed g x issue.left) (run_on g x (started m) issue.left)
+      other_served : (x : Op) → asked.1.value.op ≡ x → IsOther x → Served (listed g x issue.left) (run_on g x (started m) issue.left)
       other_served x e other =
           listed_served x other issue.left (subst (λ (y : Op). HasSteps lanes y issue.left) e steps_of) (subst (λ (y : Op). AreAtHome lanes y g issue.left) e homes_of)
 
-      turns_served : (x : Op) → asked.1.op ≡ x → Served (turns_for x issue) (served x issue m)
+      turns_served : (x : Op) → asked.1.value.op ≡ x → Served (turns_for x issue) (served x issue m)
       turns_served DropNode e = record { reply = λ v said. said; objects = on_all lanes g.number o m some seen }
       turns_served x e = other_served x e tt
 
       granted_stepped : Stepped asked (verdict.Granted issue)
       granted_stepped =
-          let s = turns_served asked.1.op refl in
+          let s = turns_served asked.1.value.op refl in
           let told = s.reply (verdict.Granted issue) refl in
-          let new : OneWorld = record { register = p.1; objects = (served asked.1.op issue m).1 } in
+          let new : OneWorld = record { register = p.1; objects = (served asked.1.value.op issue m).1 } in
           record {
             new = new;
             register = refl;
             objects = s.objects;
-            answered = subst (λ (w : What). IsAnswered here asked.0 asked.1 w new) (sym told) (by (verdict.Granted issue) (sym is));
+            answered = subst (λ (w : What). IsAnswered here asked.0.value asked.1.value w new) (sym told) (by (verdict.Granted issue) (sym is));
             exact = λ _. (λ i. (told i, new)) ∙ by (verdict.Granted issue) (sym is);
           }
 
@@ -148,7 +148,7 @@ module _ (issues : GrantsAreIssues) (lanes : ℕ) where
       record {
         new = s.new;
         seen = record { register = s.register; objects = s.objects };
-        answered = subst (λ (x : OneWorld). IsAnswered x e.asked.0 e.asked.1 (answer_of (turns_reply (array_service lanes) e.verdict (turns_of e.asked e.verdict) w.objects)) s.new)
+        answered = subst (λ (x : OneWorld). IsAnswered x e.asked.0.value e.asked.1.value (answer_of (turns_reply (array_service lanes) e.verdict (turns_of e.asked e.verdict) w.objects)) s.new)
             (λ i. record { register = sym seen.register i; objects = v.objects }) s.answered;
       }
 
@@ -164,14 +164,14 @@ module _ (issues : GrantsAreIssues) (lanes : ℕ) where
         let s = stepped issues lanes over.some w.register over.count w.objects v.objects seen.objects e.asked e.verdict legal.0.1 in
         let here : OneWorld = record { register = w.register; objects = v.objects } in
         let same = s.exact found.0 in
-        let like = alike here v e.asked.0 e.asked.1 (record { catalogue = seen.catalogue; run = seen.run; serial = seen.serial; objects = refl }) in
-        let next : IsSeenAlike lanes (plain_step (array_service lanes) w (Entered e)) (step v e.asked.0 e.asked.1).1 = record {
+        let like = alike here v e.asked.0.value e.asked.1.value (record { catalogue = seen.catalogue; run = seen.run; serial = seen.serial; objects = refl }) in
+        let next : IsSeenAlike lanes (plain_step (array_service lanes) w (Entered e)) (step v e.asked.0.value e.asked.1.value).1 = record {
           catalogue = like.1.catalogue ∙ ap (λ (q : What × OneWorld). q.1.register.catalogue) (sym same) ∙ ap (λ (x : RegisterState). x.catalogue) s.register;
           run = like.1.run ∙ ap (λ (q : What × OneWorld). q.1.register.run) (sym same) ∙ ap (λ (x : RegisterState). x.run) s.register;
           serial = like.1.serial ∙ ap (λ (q : What × OneWorld). q.1.register.serial) (sym same) ∙ ap (λ (x : RegisterState). x.serial) s.register;
           objects = λ id. ap (λ (x : Objects). get x id) (like.1.objects ∙ ap (λ (q : What × OneWorld). q.1.objects) (sym same)) ∙ s.objects id;
         } in
-        let rest = replays_are_steps (plain_step (array_service lanes) w (Entered e)) (step v e.asked.0 e.asked.1).1 _ _ items (over_later w e over) next legal.1 found.1 in
+        let rest = replays_are_steps (plain_step (array_service lanes) w (Entered e)) (step v e.asked.0.value e.asked.1.value).1 _ _ items (over_later w e over) next legal.1 found.1 in
         record {
           answers = λ i. ((ap (λ (q : What × OneWorld). q.0) same ∙ sym like.0) i ∷ rest.answers i);
           world = rest.world;

@@ -11,3 +11,6 @@ pub mod TellLemmas
 pub mod CallLemmas
 pub mod OpeningLemmas
 pub mod ImageLemmas
+pub mod CountLemmas
+pub mod ClosingLemmas
+pub mod KeptLemmas

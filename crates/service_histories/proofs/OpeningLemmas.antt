@@ -24,12 +24,12 @@ use Rattle.service_histories.specs.Markings.{SaysOwner}
 use Rattle.service_histories.specs.Tellings.{IsOpening, KeptRegistersAreSince, OwnersAreSaid, WorldsOpen, objects_in}
 
 -- the lane of a number
-record IsAt (ls : List Lane) (i : ℕ) : Type 0 where
-  lane : Lane
-  here : get_or ls i lane ≡ lane
-  objects : objects_in ls i ≡ lane.objects
+pub record IsAt (ls : List Lane) (i : ℕ) : Type 0 where
+  pub lane : Lane
+  pub here : get_or ls i lane ≡ lane
+  pub objects : objects_in ls i ≡ lane.objects
 
-lane_at : (ls : List Lane) (i : ℕ) → i < length ls → IsAt ls i
+pub lane_at : (ls : List Lane) (i : ℕ) → i < length ls → IsAt ls i
 lane_at [] i few = absurd (omega arith)
 lane_at (l ∷ ls) zero few = record { lane = l; here = refl; objects = refl }
 lane_at (l ∷ ls) (suc i) few = let a = lane_at ls i (omega arith) in record { lane = a.lane; here = a.here; objects = a.objects }

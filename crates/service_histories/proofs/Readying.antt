@@ -68,10 +68,10 @@ passed_on : (d : RegisterState) → Continues d (passed d)
 passed_on d = record { run = refl; lanes = refl; serial = omega arith; next = omega arith; domains = λ path number root at. stood at }
 
 pub decided_on : (d : RegisterState) (asked : Asked) (v : Verdict) → Continues d (left_by d asked v)
-decided_on d asked (verdict.Granted issue) = (decided_leaves d asked.0 asked.1).continues
-decided_on d asked (verdict.Answered answer) = (decided_leaves d asked.0 asked.1).continues
-decided_on d asked (verdict.Denied right) = (decided_leaves d asked.0 asked.1).continues
-decided_on d asked (verdict.Refused refusal) = (decided_leaves d asked.0 asked.1).continues
+decided_on d asked (verdict.Granted issue) = (decided_leaves d asked.0.value asked.1.value).continues
+decided_on d asked (verdict.Answered answer) = (decided_leaves d asked.0.value asked.1.value).continues
+decided_on d asked (verdict.Denied right) = (decided_leaves d asked.0.value asked.1.value).continues
+decided_on d asked (verdict.Refused refusal) = (decided_leaves d asked.0.value asked.1.value).continues
 decided_on d asked verdict.NoMemory = passed_on d
 
 pub drawn_on : (d : RegisterState) → Continues d (cut_drawn d)
@@ -235,7 +235,7 @@ module _ (issues : GrantsAreIssues) (lanes : ℕ) where
   ready : (d : RegisterState) (asked : Asked) (v : Verdict) → MayDecide d asked v
       → AreReady (array_service lanes) Needs (IsGivenIn lanes d) (IsGivenIn lanes (left_by d asked v)) (turns_of asked v)
   ready d asked (verdict.Granted issue) may =
-      turns_ready issues lanes d asked.0 asked.1 issue (sym (ap (λ (p : Verdict × RegisterState). p.0) may)) asked.1.op refl
+      turns_ready issues lanes d asked.0.value asked.1.value issue (sym (ap (λ (p : Verdict × RegisterState). p.0) may)) asked.1.value.op refl
   ready d asked (verdict.Answered answer) may = tt
   ready d asked (verdict.Denied right) may = tt
   ready d asked (verdict.Refused refusal) may = tt

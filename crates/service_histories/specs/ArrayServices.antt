@@ -1,5 +1,5 @@
 -- The array service, as a service with a register and lanes.
---     Asked                    a request, and who asks
+--     Asked                    a request, and who asks, as clauses see them
 --     KeptPart                 what a journal keeps of a register
 --     task_of, turns_of        what the turns of a verdict do
 --     HasDomain c number       a domain of the number stands in a catalogue
@@ -7,6 +7,7 @@
 --     array_service lanes      the service, over so many lanes
 use Rattle.std.specs.Prelude.{◌≡◌, ℕ, Bool, true, false, List, [], ◌∷◌, Option, Some, None, refl}
 use Rattle.std.specs.FinMap.{get}
+use Rattle.std.specs.declared.snapshot.Snapshot.{Snapshot}
 use Rattle.access_lists.specs.declared.people.Caller.{Caller}
 use Rattle.domains.specs.Contents.{Contents, IsDomainAt}
 use Rattle.object_ids.specs.IdValues.{Id}
@@ -33,18 +34,18 @@ use Rattle.service_histories.specs.declared.tasks.Task.TheVariants.{TakesStep, D
 
 -- ---- the register
 
--- who asks, and what
+-- who asks, and what; as clauses see them, since both are lent
 abbrev pub Asked : Type 0
-Asked = Caller × Request
+Asked = Snapshot Caller × Snapshot Request
 
 -- the register after a verdict: where memory ran out, the place alone was taken
 abbrev pub left_by : RegisterState → Asked → Verdict → RegisterState
 left_by d asked verdict.NoMemory = passed d
-left_by d asked v = (decided d asked.0 asked.1).1
+left_by d asked v = (decided d asked.0.value asked.1.value).1
 
 -- the verdict is the decision at this register; or memory ran out where it may
 abbrev pub MayDecide : RegisterState → Asked → Verdict → Type 0
-MayDecide d asked v = Decides d asked.0 asked.1 v (left_by d asked v)
+MayDecide d asked v = Decides d asked.0.value asked.1.value v (left_by d asked v)
 
 -- a ticket of each lane is given for a cut
 abbrev pub cut_drawn : RegisterState → RegisterState
@@ -82,7 +83,7 @@ turns_for DropNode issue = each_lane (DropsDomain issue.grant.number)
 turns_for op issue = listed issue.grant op issue.left
 
 abbrev pub turns_of : Asked → Verdict → Turns Task
-turns_of asked (verdict.Granted issue) = turns_for asked.1.op issue
+turns_of asked (verdict.Granted issue) = turns_for asked.1.value.op issue
 turns_of asked v = no_turn
 
 -- ---- a turn

@@ -7,3 +7,6 @@ pub mod Cuttings
 pub mod Tellings
 pub mod Calls
 pub mod Images
+pub mod Counts
+pub mod Closings
+pub mod KeptObjects

@@ -72,7 +72,7 @@ answer_of no_memory = what.NoMemory
 pub record IsStep (lanes : ℕ) (w : World (array_service lanes)) (v : OneWorld) (e : Entry Asked Verdict) : Type 0 where
   pub new : OneWorld
   pub seen : IsSeen lanes (plain_step (array_service lanes) w (Entered e)) new
-  pub answered : IsAnswered v e.asked.0 e.asked.1
+  pub answered : IsAnswered v e.asked.0.value e.asked.1.value
       (answer_of (turns_reply (array_service lanes) e.verdict (turns_of e.asked e.verdict) w.objects)) new
 
 abbrev pub EntriesAreSteps : ℕ → Type 0
@@ -85,7 +85,7 @@ EntriesAreSteps lanes =
 -- the requests, in order of places
 abbrev pub asked_in : List (RegisterItem Asked Verdict) → List (Caller × Request)
 asked_in [] = []
-asked_in (Entered e ∷ items) = e.asked ∷ asked_in items
+asked_in (Entered e ∷ items) = (e.asked.0.value, e.asked.1.value) ∷ asked_in items
 asked_in (DrawnCut number c ∷ items) = asked_in items
 asked_in (RegisterCut p found ∷ items) = asked_in items
 

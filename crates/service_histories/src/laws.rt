@@ -16,11 +16,16 @@ ghost use Rattle.lane_histories.specs.Laws.{WholeAnswersArePlain, WholeIsPlain};
 ghost use Rattle.lane_histories.specs.Ready.{GivesOut};
 ghost use Rattle.lane_histories.specs.Since.{SaysAll, TurnsStaySince};
 ghost use Rattle.service_histories.specs.ArrayServices.{array_service};
-ghost use Rattle.service_histories.specs.Calls.{DecisionsAnswer, DropsAct, TurnsAreAtHome};
+ghost use Rattle.service_histories.specs.Calls.{CutsLeave, DecisionsAnswer, DropsAct, DropsFindMemory};
+ghost use Rattle.service_histories.specs.Calls.{StepsAct, TurnsAreAtHome};
+ghost use Rattle.service_histories.specs.Closings.{WorldsClose, WorldsCloseSeen};
+ghost use Rattle.service_histories.specs.Counts.{FreshRegistersHaveRoom, InstallsAreFresh};
+ghost use Rattle.service_histories.specs.Counts.{RegistersCount};
 ghost use Rattle.service_histories.specs.Cuttings.{KeptRegistersAreParts, OwnerCutsTell};
 ghost use Rattle.service_histories.specs.Cuttings.{OwnersMark, RegisterCutsTell, SaidCutsAreTold};
 ghost use Rattle.service_histories.specs.Images.{ImagesOpen};
 ghost use Rattle.service_histories.specs.JournalParts.{array_contents};
+ghost use Rattle.service_histories.specs.KeptObjects.{KeptObjectsStand};
 ghost use Rattle.service_histories.specs.Markings.{array_marking};
 ghost use Rattle.service_histories.specs.PlainSteps.{EntriesAreSteps, HistoriesAreReplays};
 ghost use Rattle.service_histories.specs.PlainSteps.{ReplaysAreSteps};
@@ -33,7 +38,7 @@ use crate::service::ArrayService;
 use chunk_owner::installs::records_tell_one;
 use flush_journal::last_record_wins;
 use object_records::keys::record_keys_differ;
-use register::decisions_keep;
+use register::{decisions_continue, decisions_keep};
 use service_core::described::{described_registers_stand, described_worlds_stand};
 use service_core::places_and_tickets_tell_nothing;
 
@@ -94,11 +99,34 @@ pub fn own_entries_are_in_order()
 }
 
 /// A decision of the register is an entry's: its verdict may come, and leaves the register that it
-/// leaves. The drop of a domain's objects leaves what its turn leaves.
+/// leaves. A drawn cut and a cut of the register leave what their items leave, with memory or
+/// without. A step of an owner, and the drop of a domain's objects, leave what their turns leave; a
+/// step may find no memory, and a drop always finds it.
 pub fn calls_are_events()
     ensures decision { DecisionsAnswer }
+    ensures cut { (lanes : ℕ) → CutsLeave lanes }
+    ensures step { (lanes : ℕ) → StepsAct lanes }
     ensures drop { DropsAct }
+    ensures memory { (lanes : ℕ) → DropsFindMemory lanes }
 {}
+
+/// Of a domain that is kept each object is kept as the lane's first items left it; of another one
+/// some may be gone, and nothing else stands there.
+pub fn kept_objects_stand()
+    ensures { (lanes : ℕ) → KeptObjectsStand lanes }
+{}
+
+/// The places and the tickets that the register gave are those that its list adds. A register that
+/// is installed gave none; and as long as a list that it began with has fewer than 2^61 places and
+/// fewer than 2^62 tickets of each lane, a place and a ticket of each lane are left.
+pub fn the_register_counts()
+    ensures counts { (lanes : ℕ) → RegistersCount lanes }
+    ensures room { (lanes : ℕ) → FreshRegistersHaveRoom lanes }
+    ensures fresh { InstallsAreFresh }
+{
+    decisions_keep();
+    decisions_continue();
+}
 
 /// What is kept from a history is kept, with the same numbers, from each longer one.
 pub fn what_is_kept_stays_kept()
@@ -174,6 +202,17 @@ pub fn worlds_open()
     ensures owners { (lanes : ℕ) → OwnersAreSaid lanes }
     ensures register { KeptRegistersAreSince }
 {}
+
+/// The register that a legal history leaves, and the owners of all lanes with the objects that it
+/// leaves them, are a world: each owner stands in its lane, and the id of each object was given. It
+/// is seen as the history leaves it.
+pub fn worlds_close()
+    ensures built { (lanes : ℕ) → WorldsClose lanes }
+    ensures seen { (lanes : ℕ) → WorldsCloseSeen lanes }
+{
+    decisions_keep();
+    lane_histories::turns_are_ready::<ArrayService>();
+}
 
 /// What is held of a world of which all is kept tells it, lane by lane. What tells a world that is
 /// kept from a legal history describes it, so that it opens again; and a world that is installed

@@ -1,5 +1,5 @@
-use Rattle.service_histories.proofs.CallLemmas.{decisions_answer, drops_act}
+use Rattle.service_histories.proofs.CallLemmas.{cuts_leave, decisions_answer, drops_act, drops_find_memory, steps_act}
 use Rattle.service_histories.proofs.laws.calls_are_events.Goals as goal
 
 pub returns : goal.returns
-returns c = record { decision = decisions_answer; drop = drops_act }
+returns c = record { decision = decisions_answer; cut = cuts_leave; step = steps_act; drop = drops_act; memory = drops_find_memory }
