@@ -1,0 +1,101 @@
+-- What an `ask` answers.
+--     asked_by caller request    as a history has it
+--     IsServing ..               an entry was decided behind some items, and its tickets are in hand
+--     IsServed ..                all its tickets were passed, and this is what it is answered
+--     HasAnswered ..             one entry more is the pass's own, and the answer is its place's reply
+--     IsDeniedWhere ..           it is denied exactly where the list in force doesn't give the right
+use Rattle.std.specs.Prelude.{◌≡◌, ◌↔◌, ℕ, List}
+use Rattle.access_lists.specs.declared.people.Caller.{Caller}
+use Rattle.access_lists.specs.declared.right.Right.{Right}
+use Rattle.chunk_owner.specs.Lanes.{Lane}
+use Rattle.object_ops.specs.Needs.{right_for}
+use Rattle.object_ops.specs.declared.grants.Grant.{Grant}
+use Rattle.object_ops.specs.declared.ops.Op.{Op}
+use Rattle.object_ops.specs.declared.ops.Request.{Request}
+use Rattle.object_ops.specs.declared.replies.Reply.{Reply}
+use Rattle.register.specs.Decided.{RegisterState}
+use Rattle.register.specs.Laws.{IsDenied}
+use Rattle.register.specs.Tickets.{Issue}
+use Rattle.register.specs.declared.verdicts.Verdict.{Verdict}
+use Rattle.register.specs.declared.verdicts.Verdict.TheVariants as verdict
+use Rattle.service_core.specs.declared.answers.Answer.{Answer}
+use Rattle.service_core.specs.declared.answers.What.{What}
+use Rattle.service_core.specs.declared.answers.What.TheVariants as what
+use Rattle.lane_histories.specs.Histories.{register_after, register_at}
+use Rattle.lane_histories.specs.Legal.{IsLegalRegister}
+use Rattle.lane_histories.specs.Replies.{What as LaneWhat}
+use Rattle.lane_histories.specs.declared.items.Entry.{Entry}
+use Rattle.lane_histories.specs.declared.items.RegisterItem.{RegisterItem}
+use Rattle.hall_rule.specs.Asks.{HasAsked, HasServed, MayServe}
+use Rattle.hall_rule.specs.Rule.{HallView}
+use Rattle.hall_rule.specs.declared.view.Start.{Start}
+use Rattle.service_histories.specs.ArrayServices.{Asked, MayDecide, array_service}
+use Rattle.service_histories.specs.PlainSteps.{answer_of}
+use Rattle.hall.specs.declared.desk.NotedDesk.{NotedDesk}
+use Rattle.hall.specs.ArrayMachines.{lanes_in, machines}
+
+-- with what a hall began, and what a pass of it knows
+abbrev pub ArrayStart : Type 0 → Type 0
+ArrayStart D = Start RegisterState Lane (NotedDesk D)
+
+abbrev pub ArrayView : Type 0 → Type 0
+ArrayView D = HallView (array_service 0) RegisterState Lane (NotedDesk D)
+
+abbrev pub asked_by : Caller → Request → Asked
+asked_by caller request =
+    (record { marker = record {}; value = caller }, record { marker = record {}; value = request })
+
+-- the pass has the tickets of this entry in hand, which was decided behind these items
+pub record IsServing {D : Type 0} (start : ArrayStart D) (before : List (RegisterItem Asked Verdict))
+    (e : Entry Asked Verdict) (v : ArrayView D) : Type 0 where
+  pub may : MayServe (machines (lanes_in start)) start before e v
+  pub decided : MayDecide
+      (register_after (array_service (lanes_in start)) start.register before) e.asked e.verdict
+  pub legal : IsLegalRegister (array_service (lanes_in start)) start.register 0 0 before
+
+-- and it is of this operation and place, with this verdict
+pub record IsServingVerdict {D : Type 0} (start : ArrayStart D)
+    (before : List (RegisterItem Asked Verdict)) (e : Entry Asked Verdict) (place : ℕ) (op : Op)
+    (v : Verdict) (w : ArrayView D) : Type 0 where
+  pub serving : IsServing start before e w
+  pub place_is : e.place ≡ place
+  pub op_is : e.asked.1.value.op ≡ op
+  pub verdict_is : e.verdict ≡ v
+
+-- or was granted with these turns
+pub record IsServingJob {D : Type 0} (start : ArrayStart D)
+    (before : List (RegisterItem Asked Verdict)) (e : Entry Asked Verdict) (place : ℕ) (op : Op)
+    (grant : Grant) (issue : Issue) (w : ArrayView D) : Type 0 where
+  pub serving : IsServingVerdict start before e place op (verdict.Granted issue) w
+  pub grant_is : issue.grant ≡ grant
+
+-- every ticket was passed, and this is what the entry is answered
+pub record IsServed {D : Type 0} (start : ArrayStart D) (e : Entry Asked Verdict) (answer : What)
+    (v w : ArrayView D) : Type 0 where
+  pub what_is : LaneWhat Verdict Reply
+  pub served : HasServed (machines (lanes_in start)) start e what_is v w
+  pub told : answer ≡ answer_of what_is
+
+-- The lists seen before are beginnings of those seen now, which are legal; the pass's own entries
+-- have grown by exactly this one, which stands at the answer's place; and what is answered is the
+-- reply of that place.
+pub record HasAnswered {D : Type 0} (start : ArrayStart D) (caller : Caller) (request : Request)
+    (answer : Answer) (v w : ArrayView D) : Type 0 where
+  pub decided_as : Verdict
+  pub what_is : LaneWhat Verdict Reply
+  pub asked : HasAsked (machines (lanes_in start)) start answer.place (asked_by caller request)
+      decided_as what_is v w
+  pub told : answer.what ≡ answer_of what_is
+
+-- the register at a place, by the lists that a pass has seen
+abbrev pub register_then : {D : Type 0} → ArrayStart D → ArrayView D → ℕ → RegisterState
+register_then start v place =
+    register_at (array_service (lanes_in start)) place start.register v.seen.register
+
+-- a folder or domain of the wanted class stands there, and its list doesn't give the right
+abbrev pub IsDeniedWhere : {D : Type 0} → ArrayStart D → ArrayView D → Caller → Request → Answer
+    → Type 0
+IsDeniedWhere start v caller request answer =
+    (right : Right) → (answer.what ≡ what.Denied right)
+    ↔ ((right ≡ right_for request.op)
+    × IsDenied (register_then start v answer.place) caller request)

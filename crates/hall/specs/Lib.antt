@@ -1,0 +1,4 @@
+pub mod ArrayMachines
+pub mod Turns
+pub mod Passes
+pub mod Answers

@@ -1,0 +1,133 @@
+//! The rule of the hall's table, and what each kind of step tells.
+
+use crate::desk::NotedDesk;
+use atomic_table::{Join, Play, Seat, Split, TableRule};
+use chunk_owner::Owner;
+use hall_rule::{Opening, RuledHall, Slot, Start, View};
+use object_ops::Reply;
+use register::{Register, Verdict};
+use service_histories::{Asked, Task};
+use std::marker::PhantomData;
+
+/// What a pass knows.
+pub(crate) type Sight<D> = View<Asked, Verdict, Task, Reply, Start<Register, Owner, NotedDesk<D>>>;
+
+/// A slot of the table.
+pub(crate) type Place<D> = Slot<Register, Owner, NotedDesk<D>, Asked, Verdict, Reply>;
+
+/// What a pass steps with.
+pub(crate) type Chair<D> = Seat<Place<D>, Sight<D>>;
+
+/// What the table is told when it is made.
+pub(crate) type Begun<D> = Opening<Register, Owner, NotedDesk<D>>;
+
+/// The hall of the array service, for the laws of halls.
+pub(crate) struct ArrayHall<D> {
+    of: PhantomData<D>,
+}
+
+impl<D> RuledHall for ArrayHall<D> {
+    ghost use Rattle.service_histories.specs.ArrayServices.{array_service};
+    ghost use Rattle.register.specs.Decided.{RegisterState};
+    ghost use Rattle.chunk_owner.specs.Lanes.{Lane};
+    ghost use Rattle.hall.specs.declared.desk.NotedDesk.{NotedDesk};
+    ghost use Rattle.hall.specs.ArrayMachines.{machines};
+
+    ghost service = { array_service };
+
+    ghost hall = { λ lanes. record {
+      Register = RegisterState;
+      Owner = Lane;
+      Desk = NotedDesk D;
+      machines = machines lanes;
+    } };
+}
+
+/// The rule of the table.
+pub(crate) struct Law<D> {
+    of: PhantomData<D>,
+}
+
+impl<D: Drop> TableRule<Place<D>, Sight<D>, Begun<D>> for Law<D> {
+    ghost use Rattle.hall.specs.ArrayMachines.{lanes_in, machines, start_of};
+    ghost use Rattle.hall_rule.specs.Rule.{FollowsRule, first_view};
+
+    ghost holds = { λ key. FollowsRule (machines (lanes_in (start_of key))) key.passes
+        (start_of key) };
+
+    ghost first = { λ key. first_view key.passes (lanes_in (start_of key)) (start_of key) };
+}
+
+/// A number of the register comes into hand.
+pub(crate) struct DrawRegister;
+
+impl<Z, Q, V, T, R, X> Play<Z, View<Q, V, T, R, X>> for DrawRegister {
+    ghost use Rattle.hall_rule.specs.declared.queue.Queue.TheVariants.{OfRegister};
+    ghost use Rattle.hall_rule.specs.Steps.{HasDrawn};
+
+    ghost then = { HasDrawn OfRegister };
+}
+
+/// A look for the turn of the newest claim.
+pub(crate) struct Look<D> {
+    of: PhantomData<D>,
+}
+
+impl<D: Drop> Play<Place<D>, Sight<D>> for Look<D> {
+    ghost use Rattle.hall.specs.ArrayMachines.{lanes_known, machines};
+    ghost use Rattle.hall_rule.specs.Steps.{HasLooked};
+
+    ghost then = { λ st me. HasLooked (machines (lanes_known me.0)) st me };
+}
+
+/// The turn of the newest claim is passed on.
+pub(crate) struct Leave<D> {
+    of: PhantomData<D>,
+}
+
+impl<D: Drop> Play<Place<D>, Sight<D>> for Leave<D> {
+    ghost use Rattle.hall.specs.ArrayMachines.{lanes_known, machines};
+    ghost use Rattle.hall_rule.specs.Steps.{PassesTurn};
+
+    ghost then = { λ st me. PassesTurn (machines (lanes_known me.0)) st me };
+}
+
+/// A load behind a join, which tells what the lists are.
+pub(crate) struct Learn<D> {
+    of: PhantomData<D>,
+}
+
+impl<D: Drop> Play<Place<D>, Sight<D>> for Learn<D> {
+    ghost use Rattle.hall.specs.ArrayMachines.{lanes_known, machines};
+    ghost use Rattle.hall_rule.specs.Steps.{HasLearnt};
+
+    ghost then = { λ st me. HasLearnt (machines (lanes_known me.0)) st me };
+}
+
+/// A look at the register's word with nothing in hand.
+pub(crate) struct Count;
+
+impl<Z, Q, V, T, R, X> Play<Z, View<Q, V, T, R, X>> for Count {
+    ghost use Rattle.hall_rule.specs.Steps.{HasCounted};
+
+    ghost then = { HasCounted };
+}
+
+/// A pass is cut in two, or two are joined.
+pub(crate) struct Share;
+
+impl<Q, V, T, R, X> Split<View<Q, V, T, R, X>> for Share {
+    ghost use Rattle.hall_rule.specs.Rule.{given_by_split, left_by_split};
+
+    ghost left = { left_by_split };
+
+    ghost right = { given_by_split };
+}
+
+impl<Q, V, T, R, X> Join<View<Q, V, T, R, X>> for Share {
+    ghost use Rattle.hall_rule.specs.Rule.{merged, spent_view};
+
+    ghost both = { merged };
+
+    ghost spent = { spent_view };
+}

@@ -1,0 +1,18 @@
+//! What may cross threads.
+
+use crate::hall::Hall;
+use crate::pass::Pass;
+
+/// A pass may go to another thread.
+pub fn pass_is_sent<D: Drop + Send>(pass: &Pass<D>) {
+    is_sent(pass);
+}
+
+/// A hall may be shared by several threads.
+pub fn hall_is_shared<D: Drop + Send>(hall: &Hall<D>) {
+    is_shared(hall);
+}
+
+fn is_sent<T: Send>(_value: &T) {}
+
+fn is_shared<T: Sync>(_value: &T) {}
