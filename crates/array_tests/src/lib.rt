@@ -21,6 +21,8 @@ mod plain;
 #[cfg(test)]
 mod point_rows;
 #[cfg(test)]
+mod print_rows;
+#[cfg(test)]
 mod run_rows;
 #[cfg(test)]
 mod shape_rows;

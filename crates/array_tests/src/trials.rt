@@ -17,7 +17,7 @@ use crate::twins::Twins;
 use chunk_layout::{Layout, read_layout};
 use chunk_store::Array;
 use hdf_types::{ElemType, read_type};
-use hdf_values::{first_unencoded, is_encoded};
+use hdf_values::{first_unencoded, is_encoded, nested_text, write_nested};
 use hyperslab::{Slab, read_select, whole};
 use point_select::{Points, read_points};
 use serde_json::Value;
@@ -475,6 +475,25 @@ fn check_read(
     Ok(())
 }
 
+/// Prints elements straight from their bytes and by their tree: both texts are the same.
+fn check_texts(
+    rt: &(impl Abort + AllocGlobal),
+    array: &Array,
+    slab: &Slab,
+    bytes: &[u8],
+) -> Result<(), AllocError>
+    requires { IsSlab slab.now }
+{
+    array.is_whole();
+    assert!(rt; are_elements(array.elem(), slab.count(), bytes));
+    let extents = slab.extents();
+    let tree = write_nested(rt.alloc(), array.elem(), &extents, bytes)?;
+    let by_tree = tree.to_string(rt.alloc())?;
+    let straight = nested_text(rt.alloc(), array.elem(), &extents, bytes)?;
+    assert!(rt; straight.as_str() == by_tree.as_str(), "{straight}");
+    Ok(())
+}
+
 fn read_slab(
     rt: &(impl Abort + AllocGlobal),
     twins: &Twins,
@@ -483,6 +502,7 @@ fn read_slab(
 ) -> Result<(), AllocError> {
     let slab = slab_of(rt, &twins.array, place);
     let bytes = twins::read_slab(rt, &twins.array, &twins.plain, &slab)?;
+    check_texts(rt, &twins.array, &slab, bytes.as_slice())?;
     let mut letters = Vec::new(rt.alloc());
     for cell in cells {
         if is_selected(&slab, &cell.at) {

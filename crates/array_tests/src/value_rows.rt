@@ -37,7 +37,7 @@ fn type_text(name: &str) -> &'static str {
 }
 
 /// The type of a name.
-fn kind_of(rt: &(impl Abort + AllocGlobal), name: &str) -> ElemType
+pub fn kind_of(rt: &(impl Abort + AllocGlobal), name: &str) -> ElemType
     ensures { IsSoundType (elem result) }
 {
     read_type(rt.alloc(), &tree(rt, type_text(name))).expect(rt, "a type")

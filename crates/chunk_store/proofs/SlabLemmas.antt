@@ -1,9 +1,11 @@
 -- Reads and writes of a selection's cells, chunk by chunk.
-use Rattle.std.proofs.Common.{◌≡◌, ℕ, suc, ◌+◌, ◌*◌, ◌<◌, ◌≤◌, ◌⊎◌, ◌||◌, true, false, cond, is_some, bytes_eq, List, [], ◌∷◌, ◌++◌, length, take, drop, get_or, map, Some, None, inl, inr, refl, sym, ap, subst, ◌∙◌, arith, true≢false}
+use Rattle.std.proofs.Common.{◌≡◌, ℕ, suc, ◌+◌, ◌-◌, ◌*◌, ◌<◌, ◌≤◌, ◌⊎◌, ◌||◌, true, false, cond, is_some, bytes_eq, List, [], ◌∷◌, ◌++◌, length, take, drop, replicate, get_or, map, All, Some, None, inl, inr, refl, sym, ap, subst, ◌∙◌, arith, true≢false}
 use Rattle.std.specs.BTreeMap.{BTreeMap}
 use Rattle.std.specs.List.{AllZip, flat_map}
 use Rattle.std.proofs.lemmas.Bool.{cases_lt, cases_Bool}
-use Rattle.std.proofs.lemmas.List.{append_assoc, append-nil, drop_more, drop_all, take-append-drop, drop-drop, length-drop}
+use Rattle.std.proofs.lemmas.List.{append_assoc, append-nil, drop_more, drop_all, take-append-drop, drop-drop, length-drop, take-replicate, drop-replicate}
+use Rattle.std.proofs.lemmas.List.Elements.{All-head, All-tail}
+use Rattle.std.proofs.lemmas.Nat.{mul-le}
 use Rattle.std.proofs.lemmas.Slice.Eq.{bytes_eq-Decides}
 use Rattle.hdf_values.specs.Nested.{piece_at}
 use Rattle.shapes.specs.RowMajor.{cell_count, digits_by, IsInside}
@@ -24,7 +26,7 @@ use Rattle.chunk_store.specs.Grids.{written}
 use Rattle.chunk_store.specs.Indexes.{IsIndex}
 use Rattle.chunk_store.specs.Listed.{IsLast}
 use Rattle.chunk_store.specs.Marks.{touches}
-use Rattle.chunk_store.specs.Slabs.{IsChunkRead, IsChunkWritten, IsThere}
+use Rattle.chunk_store.specs.Slabs.{AreReady, IsChunkRead, IsChunkWritten, IsThere}
 use Rattle.chunk_store.specs.Touched.{AreTouched, touched_at, touched_count}
 use Rattle.chunk_store.specs.declared.buffers.Frame.{Frame}
 use Rattle.chunk_store.specs.declared.buffers.Held.{Held}
@@ -79,6 +81,10 @@ chunk_box f s origin i b =
       ends = corner_ends ns i b.frame.chunk.dims b.index.rank b.index.small;
     })
 
+same_blank : (x y z : List ℕ) → y ≡ z → (x ≡ y) ⊎ (x ≡ z) → x ≡ y
+same_blank x y z e (inl h) = h
+same_blank x y z e (inr h) = h ∙ sym e
+
 module _ (f : Frame) (s : Slab) (origin i : List ℕ) (b : IsChunkBox f s origin i) where
   rank_of : (p : ℕ) → p < cell_count (extents s) → length (cell_at s p) ≡ length f.layout.chunk
   rank_of p low = cell_rank s p b.slab low ∙ sym b.rank
@@ -114,6 +120,13 @@ module _ (f : Frame) (s : Slab) (origin i : List ℕ) (b : IsChunkBox f s origin
     others = λ p apart. done.others p (λ box. apart (of_box p box));
   }
 
+  -- what isn't held is what is ready
+  pub read_ready : (m : Chunks) (out : List ℕ) → find_in m i ≡ None → AreReady m f s out → IsChunkRead m f s i out out
+  read_ready m out found ready = record {
+    here = λ p there. same_blank (piece_at f.size p out) (bytes_at m f (cell_at s p)) f.blank.items (found_bytes m f (cell_at s p) i None (sym there.1) found) (ready p there.0);
+    others = λ p apart. refl;
+  }
+
 -- ---- chunk after chunk of a read
 
 -- the cells of the first `n` chunks stand in `out`
@@ -122,6 +135,31 @@ pub record AreChunksRead (m : Chunks) (f : Frame) (s : Slab) (n : ℕ) (out : Li
 
 pub read_first : (m : Chunks) (f : Frame) (s : Slab) (out : List ℕ) → AreChunksRead m f s 0 out
 read_first m f s out = record { each = λ b p h there. absurd (omega (arith, h)) }
+
+zero_list : (xs : List ℕ) → All (λ b. b ≡ 0) xs → xs ≡ replicate (length xs) 0
+zero_list [] h = refl
+zero_list (x ∷ xs) h = ap (λ y. y ∷ xs) (All-head (λ b. b ≡ 0) x xs h) ∙ ap (λ ys. 0 ∷ ys) (zero_list xs (All-tail (λ b. b ≡ 0) x xs h))
+
+zero_piece : (k p n : ℕ) (xs : List ℕ) → All (λ b. b ≡ 0) xs → length xs ≡ k → (p + 1) * k ≤ n → piece_at k p (replicate n 0) ≡ xs
+zero_piece k p n xs zeros len room =
+    ap (take k) (drop-replicate (p * k) n 0) ∙ take-replicate k (n - p * k) 0 (omega (arith, room)) ∙ ap (λ m. replicate m 0) (sym len) ∙ sym (zero_list xs zeros)
+
+-- where a cell that was never written has zeros alone, zeros are ready
+pub ready_first : (m : Chunks) (f : Frame) (s : Slab) (out : List ℕ) → IsFrame f → All (λ b. b ≡ 0) f.blank.items → out ≡ replicate (cell_count (extents s) * f.size) 0 → AreReady m f s out
+ready_first m f s out frame zeros is p low =
+    let room : (p + 1) * f.size ≤ cell_count (extents s) * f.size = mul-le (p + 1) f.size (cell_count (extents s)) f.size (omega (arith, low)) (omega arith) in
+    inr (ap (piece_at f.size p) is ∙ zero_piece f.size p (cell_count (extents s) * f.size) f.blank.items zeros frame.blank room)
+
+kept_ready : (x y z w : List ℕ) → y ≡ x → (x ≡ z) ⊎ (x ≡ w) → (y ≡ z) ⊎ (y ≡ w)
+kept_ready x y z w e (inl h) = inl (e ∙ h)
+kept_ready x y z w e (inr h) = inr (e ∙ h)
+
+pub ready_more : (m : Chunks) (f : Frame) (s : Slab) (i old out : List ℕ) → AreReady m f s old → IsChunkRead m f s i old out → AreReady m f s out
+ready_more m f s i old out ready box p low =
+    let at = cell_at s p in
+    same_or (quotients at f.layout.chunk) i ((piece_at f.size p out ≡ bytes_at m f at) ⊎ (piece_at f.size p out ≡ f.blank.items))
+    (λ same. inl (box.here p (low, same)))
+    (λ other. kept_ready (piece_at f.size p old) (piece_at f.size p out) (bytes_at m f at) f.blank.items (box.others p (λ here. other here.1)) (ready p low))
 
 -- a chunk that isn't the next stands before it
 earlier : (at : ℕ → List ℕ) (n b : ℕ) (i : List ℕ) → b < n + 1 → i ≡ at b → (i ≡ at n → ⊥) → b < n

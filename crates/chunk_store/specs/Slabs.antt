@@ -1,5 +1,5 @@
 -- What reads and writes of the selected cells of one chunk do.
-use Rattle.std.specs.Prelude.{◌≡◌, ℕ, ◌<◌, List, length, true, Some}
+use Rattle.std.specs.Prelude.{◌≡◌, ◌⊎◌, ℕ, ◌<◌, List, length, true, Some}
 use Rattle.std.specs.BTreeMap.{BTreeMap}
 use Rattle.hdf_values.specs.Nested.{piece_at}
 use Rattle.shapes.specs.RowMajor.{cell_count}
@@ -14,6 +14,10 @@ use Rattle.chunk_store.specs.declared.buffers.Held.{Held}
 -- the selected cell number `p` lies in the chunk
 abbrev pub IsThere : Frame → Slab → List ℕ → ℕ → Type 0
 IsThere f s i p = (p < cell_count (extents s)) × (quotients (cell_at s p) f.layout.chunk ≡ i)
+
+-- each selected cell has its element among these, or that of a cell that was never written
+abbrev pub AreReady : BTreeMap (List ℕ) Held → Frame → Slab → List ℕ → Type 0
+AreReady m f s out = (p : ℕ) → p < cell_count (extents s) → (piece_at f.size p out ≡ bytes_at m f (cell_at s p)) ⊎ (piece_at f.size p out ≡ f.blank.items)
 
 -- the selected cells of the chunk stand among the elements, of which all others are what they were
 pub record IsChunkRead (m : BTreeMap (List ℕ) Held) (f : Frame) (s : Slab) (i old out : List ℕ) : Type 0 where

@@ -98,7 +98,8 @@ fn blanks(alloc: Global, frame: &Frame) -> Result<Vec<u8>, AllocError>
     Ok(bytes)
 }
 
-fn are_zero(bytes: &[u8]) -> bool
+/// Whether each byte is zero.
+pub(crate) fn are_zero(bytes: &[u8]) -> bool
     ensures { IsTrue result ↔ All (λ b. b ≡ 0) bytes.now }
 {
     bytes.iter().all(|byte| *byte == 0)

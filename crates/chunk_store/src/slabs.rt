@@ -1,6 +1,6 @@
 //! Reads and writes of a selection's cells, chunk by chunk and run by run.
 
-ghost use Rattle.std.specs.Prelude.{◌≡◌, ◌*◌, ℕ, List, length, true, IfOk, OnOk};
+ghost use Rattle.std.specs.Prelude.{◌≡◌, ◌*◌, ℕ, List, length, true, IfOk, IsTrue, OnOk};
 ghost use Rattle.std.specs.List.{flat_map};
 ghost use Rattle.shapes.specs.RowMajor.{cell_count};
 ghost use Rattle.chunk_layout.specs.Chunks.{IsChunk, corner};
@@ -10,10 +10,10 @@ ghost use Rattle.chunk_store.specs.Buffers.{AreFull, AreThere, ChunkMap, IsFrame
 ghost use Rattle.chunk_store.specs.Changes.{KeepsListed};
 ghost use Rattle.chunk_store.specs.Cells.{has};
 ghost use Rattle.chunk_store.specs.Indexes.{IsIndex};
-ghost use Rattle.chunk_store.specs.Slabs.{IsChunkRead, IsChunkWritten};
+ghost use Rattle.chunk_store.specs.Slabs.{AreReady, IsChunkRead, IsChunkWritten};
 
 use crate::box_copies::{fill_box, read_box, write_box};
-use crate::buffers::{Chunks, Frame, Held, add_chunk};
+use crate::buffers::{Chunks, Frame, Held, add_chunk, are_zero};
 use crate::changes::Changes;
 use crate::touched::Touched;
 use hyperslab::Slab;
@@ -35,22 +35,32 @@ pub(crate) fn read_slab(
         → v.items ≡ flat_map (bytes_at chunks.now frame.now) (selected slab.now dims)) }
 {
     let mut out = vec![in alloc; 0; slab.count() as usize * frame.size]?;
+    let ready = are_zero(frame.blank.as_slice());
     let touched = Touched::new(slab, &frame.layout.chunk);
     for number in 0..touched.many() {
         let index = touched.index(number);
-        read_chunk(out.as_mut_slice(), chunks, frame, slab, &index);
+        read_chunk(out.as_mut_slice(), chunks, frame, slab, &index, ready);
     }
     Ok(out)
 }
 
-/// Puts the elements of the selected cells of a chunk in their places.
-fn read_chunk(out: &mut [u8], chunks: &Chunks, frame: &Frame, slab: &Slab, index: &Dims)
+/// Puts the elements of the selected cells of a chunk in their places. Where these are ready, the
+/// cells of a chunk that isn't held stand there already.
+fn read_chunk(
+    out: &mut [u8],
+    chunks: &Chunks,
+    frame: &Frame,
+    slab: &Slab,
+    index: &Dims,
+    ready: bool,
+)
     requires frame { IsFrame frame.now }
     requires full { AreFull chunks.now frame.now }
     requires slab { IsSlab slab.now }
     requires rank { length frame.now.layout.chunk ≡ length slab.now.start }
     requires index { IsIndex frame.now.layout.chunk index.now }
     requires out { length out.old ≡ cell_count (extents slab.now) * frame.now.size }
+    requires ready { IsTrue ready → AreReady chunks.now frame.now slab.now out.old }
     ensures read { IsChunkRead chunks.now frame.now slab.now index.now out.old out.new }
     ensures len { length out.new ≡ length out.old }
 {
@@ -58,14 +68,12 @@ fn read_chunk(out: &mut [u8], chunks: &Chunks, frame: &Frame, slab: &Slab, index
     let origin = first_cell(chunk, index);
     match chunks.get(index) {
         Some(held) => read_box(out, held.bytes.as_slice(), slab, &origin, chunk, frame.size),
-        None => fill_box(
-            out,
-            frame.blank.as_slice(),
-            slab,
-            &origin,
-            chunk,
-            frame.size,
-        ),
+        None => {
+            if !ready {
+                let blank = frame.blank.as_slice();
+                fill_box(out, blank, slab, &origin, chunk, frame.size);
+            }
+        }
     }
 }
 

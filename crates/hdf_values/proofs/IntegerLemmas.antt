@@ -1,11 +1,11 @@
 -- A number and its bytes.
-use Rattle.std.proofs.Common.{◌≡◌, ℕ, zero, suc, ◌+◌, ◌-◌, ◌*◌, ◌/◌, ◌%◌, ◌^◌, ◌<◌, ◌≤◌, ℤ, pos, negsuc, ◌≤ℤ◌, FitsSigned, to_z, of_z, Bool, true, false, ◌&&◌, T, if◌then◌else◌, List, [], ◌∷◌, ◌++◌, length, replicate, reverse, take, drop, set, get_or, inl, inr, refl, sym, ap, ◌∙◌, subst, arith}
+use Rattle.std.proofs.Common.{◌≡◌, ℕ, zero, suc, ◌+◌, ◌-◌, ◌*◌, ◌/◌, ◌%◌, ◌^◌, ◌<◌, ◌≤◌, ℤ, pos, negsuc, ◌≤ℤ◌, FitsSigned, to_z, of_z, Bool, true, false, ◌&&◌, T, if◌then◌else◌, List, [], ◌∷◌, ◌++◌, length, replicate, reverse, inl, inr, refl, sym, ap, ◌∙◌, subst, arith}
 use Rattle.std.specs.List.{AllByRecursion}
-use Rattle.std.proofs.Math.Nat.{pow-suc, pow-le-pow_right}
+use Rattle.std.proofs.Math.Nat.{pow-suc}
 use Rattle.std.proofs.lemmas.Bool.{and_parts, and_from, lt-ltb, le-ltb, cases_lt}
 use Rattle.std.specs.Int.{w128}
 use Rattle.std.proofs.lemmas.Int.{ints, to_z-of_z}
-use Rattle.std.proofs.lemmas.List.{append-nil, append_assoc, length-append, reverse-append, reverse-reverse, length-reverse, length-set, take_more, take_more_set, take_all, drop_more, replicate_more}
+use Rattle.std.proofs.lemmas.List.{length-append, reverse-reverse, length-reverse, replicate_more}
 use Rattle.std.proofs.lemmas.Nat.{div_below}
 use lib.Signed.{le_z, le_z_yes}
 use mathlib.Core.List.{reverse_aux, reverse-cons}
@@ -181,7 +181,7 @@ value-bytes t z w h =
     ap (value_of t.signed t.bits) number ∙ value_back t.signed t.bits z width h.not_below h.not_above
 
 -- the bytes of a type are a number of its width
-number_within : (t : IntType) (bs : List ℕ) → IsWidth t.bits → AllByRecursion (λ b. b < 256) bs → length bs ≡ int_size t.bits → number_of (in_order t.big bs) < 2 ^ t.bits
+pub number_within : (t : IntType) (bs : List ℕ) → IsWidth t.bits → AllByRecursion (λ b. b < 256) bs → length bs ≡ int_size t.bits → number_of (in_order t.big bs) < 2 ^ t.bits
 number_within t bs w h e =
     let below = number_below (in_order t.big bs) (each_in_order t.big bs h) in
     let same : 256 ^ length (in_order t.big bs) ≡ 2 ^ t.bits = ap (λ m. 256 ^ m) (length-in_order t.big bs ∙ e) ∙ (halves t.bits w).bytes in
@@ -221,6 +221,19 @@ width_told t z w e =
     let h = range_told t z e in
     width_both t.signed t.bits z (halves t.bits w) h.not_below h.not_above
 
+-- a number of a type is below the end of its width in two's complement
+pub twos_within : (t : IntType) (z : ℤ) → IsWidth t.bits → in_range t z ≡ true → twos t.bits z < 2 ^ t.bits
+twos_within t z w e =
+    let h = range_told t z e in
+    twos_below t.signed t.bits z (halves t.bits w) h.not_below h.not_above
+
+-- as many bytes as a width has are of that width
+pub width_again : (bits n : ℕ) → IsWidth bits → n ≡ bits / 8 → IsWidth (8 * n)
+width_again bits n (inl e) h = inl (omega arith)
+width_again bits n (inr (inl e)) h = inr (inl (omega arith))
+width_again bits n (inr (inr (inl e))) h = inr (inr (inl (omega arith)))
+width_again bits n (inr (inr (inr e))) h = inr (inr (inr (omega arith)))
+
 pub bytes_told : (t : IntType) (z : ℤ) (big : Bool) (k n : ℕ) → t.big ≡ big → k ≡ int_size t.bits → n ≡ twos t.bits z → in_order big (low_first k n) ≡ int_bytes t z
 unfolding int_bytes
 bytes_told t z big k n b l e = ap (λ m. in_order big (low_first m n)) l ∙ ap (λ m. in_order big (low_first (int_size t.bits) m)) e ∙ ap (λ o. in_order o (low_first (int_size t.bits) (twos t.bits z))) (sym b)
@@ -230,44 +243,6 @@ unfolding int_value
 value_told t bs n signed big s b e =
     let number : n ≡ number_of (in_order t.big bs) = e ∙ ap (λ o. number_of (in_order o bs)) (sym b) in
     ap (λ o. value_of o t.bits n) (sym s) ∙ ap (value_of t.signed t.bits) number
-
--- ---- steps of the walks over bytes
-
-pub step_fits : (total b i : ℕ) → total < 256 ^ i → b < 256 → i < 8 → total * 256 + b < 2 ^ 64
-step_fits total b i h l k =
-    let most : 256 ^ suc i ≤ 256 ^ 8 = pow-le-pow_right {n = 256} (omega arith) {i = suc i} {j = 8} (omega arith) in
-    omega (arith, most, pow-suc 256 i)
-
-pub step_below : (total b i : ℕ) → total < 256 ^ i → b < 256 → total * 256 + b < 256 ^ (i + 1)
-step_below total b i h l =
-    let more : i + 1 ≡ suc i = omega arith in
-    rw more (omega (arith, pow-suc 256 i))
-
-pub high_more : (bs : List ℕ) (i : ℕ) → i < length bs → number_of (reverse (take (i + 1) bs)) ≡ number_of (reverse (take i bs)) * 256 + get_or bs i 0
-high_more bs i h =
-    let turned = reverse (take i bs) in
-    let next : number_of (reverse (take (i + 1) bs)) ≡ get_or bs i 0 + 256 * number_of turned = ap (λ xs. number_of (reverse xs)) (take_more bs i 0 h) ∙ ap number_of (reverse-append (take i bs) (get_or bs i 0 ∷ [])) in
-    omega (arith, next)
-
-pub low_more : (bs : List ℕ) (i : ℕ) → i < length bs → number_of (drop (length bs - (i + 1)) bs) ≡ number_of (drop (length bs - i) bs) * 256 + get_or bs (length bs - 1 - i) 0
-low_more bs i h =
-    let at = length bs - (i + 1) in
-    let next : at + 1 ≡ length bs - i = omega arith in
-    let same : length bs - 1 - i ≡ at = omega arith in
-    let here : number_of (drop at bs) ≡ get_or bs at 0 + 256 * number_of (drop (at + 1) bs) = ap number_of (drop_more bs at 0 (omega arith)) in
-    omega (arith, here, ap (λ m. number_of (drop m bs)) next, ap (λ m. get_or bs m 0) same)
-
-pub written_more : (out : List ℕ) (i rest n : ℕ) → i < length out → take i out ++ low_first (length out - i) rest ≡ low_first (length out) n
-    → take (i + 1) (set out i (rest % 256)) ++ low_first (length (set out i (rest % 256)) - (i + 1)) (rest / 256) ≡ low_first (length (set out i (rest % 256))) n
-written_more out i rest n h e =
-    let left : length out - i ≡ suc (length out - (i + 1)) = omega arith in
-    let tail = low_first (length out - (i + 1)) (rest / 256) in
-    rw (length-set out i (rest % 256)) (ap (λ xs. xs ++ tail) (take_more_set out i (rest % 256) h) ∙ append_assoc (take i out) (rest % 256 ∷ []) tail ∙ sym (ap (λ m. take i out ++ low_first m rest) left) ∙ e)
-
-pub written_all : (out : List ℕ) (i rest n : ℕ) → length out ≤ i → take i out ++ low_first (length out - i) rest ≡ low_first (length out) n → out ≡ low_first (length out) n
-written_all out i rest n h e =
-    let none : length out - i ≡ 0 = omega arith in
-    sym (ap (λ m. take i out ++ low_first m rest) none ∙ append-nil (take i out) ∙ take_all i out h) ∙ e
 
 one_behind : (p k n m : ℕ) → p * k ≡ n → m ≡ n + k → (p + 1) * k ≡ m
 one_behind p k n m h e = omega arith

@@ -1,4 +1,5 @@
 pub mod IntegerLemmas
+pub mod ByteLemmas
 pub mod TextLemmas
 pub mod Weights
 pub mod ElementLemmas
@@ -19,3 +20,5 @@ pub mod TreeTextLemmas
 pub mod ExactlyLemmas
 pub mod AttributeLemmas
 pub mod ContentLemmas
+pub mod PrintLemmas
+pub mod ReadBackLemmas

@@ -1,19 +1,20 @@
 -- Elements one after another.
-use Rattle.std.proofs.Common.{◌≡◌, ◌↔◌, ℕ, zero, suc, ◌+◌, ◌-◌, ◌*◌, ◌/◌, ◌≤◌, ◌<◌, true, false, List, [], ◌∷◌, ◌++◌, length, take, drop, inl, inr, refl, sym, ap, subst, ◌∙◌, arith, mul_comm, eqb-true}
+use Rattle.std.proofs.Common.{◌≡◌, ◌↔◌, ℕ, zero, suc, ◌+◌, ◌-◌, ◌*◌, ◌/◌, ◌%◌, ◌≤◌, ◌<◌, true, false, List, [], ◌∷◌, ◌++◌, length, take, drop, inl, inr, refl, sym, ap, subst, ◌∙◌, arith, mul_comm, eqb-true}
 use Rattle.std.specs.List.{AllByRecursion, flat_map}
-use Rattle.std.proofs.Math.Nat.{mul-div_cancel_left}
+use Rattle.std.proofs.Math.Nat.{mul-div_cancel_left, mod-lt, div-add-mod'}
 use Rattle.std.specs.Prelude.{◌==◌}
 use Rattle.std.proofs.lemmas.Bool.{cases_lt, false≢true}
 use Rattle.std.proofs.lemmas.Nat.{mul-le}
 use Rattle.std.proofs.lemmas.List.{length-append, length-drop, length-take-le, take-append-le, drop-append-le, take-append-drop, take_all, drop-drop}
-use Rattle.hdf_types.specs.Elems.{Elem}
-use Rattle.hdf_types.specs.Reading.{size_of}
-use Rattle.hdf_types.specs.Types.{IsSoundType, IsFormed}
+use Rattle.hdf_types.specs.declared.IntType.{IntType}
+use Rattle.hdf_types.specs.Elems.{Elem, int}
+use Rattle.hdf_types.specs.Reading.{int_size, size_of}
+use Rattle.hdf_types.specs.Types.{IsSoundType, IsFormed, IsWidth}
 pub use Rattle.hdf_types.proofs.SoundLemmas.{some_size}
 use Rattle.hdf_values.specs.Elements.{Fits, bytes_of, normal, decoded, IsEncoded}
 use Rattle.hdf_values.specs.Nested.{pieces, piece_at, pieces_at, with_pieces, AreEncoded, IsFirstUnencoded}
 use Rattle.hdf_values.proofs.ElementLemmas.{decoded-bytes_of, normal_fits, bytes_of-normal}
-use Rattle.hdf_values.proofs.EncodedLemmas.{length-encoded}
+use Rattle.hdf_values.proofs.EncodedLemmas.{length-encoded, int_encoded}
 use Rattle.json_trees.proofs.ListLemmas.{all_append}
 
 -- ---- what holds of all
@@ -216,3 +217,53 @@ not_all e bs i n h k =
           let less : n * size_of e ≤ i * size_of e = mul-le n (size_of e) i (size_of e) high (omega arith) in
           absurd (omega (arith, less, h.there, k.whole))
     ]
+
+-- ---- whole numbers: any bytes of their size are some number's
+
+some_bytes : (F : ℕ → Type 0) (k n : ℕ) (bs : List ℕ) → AllByRecursion F bs → AllByRecursion F (take k (drop n bs))
+some_bytes F k n bs h =
+    let behind = (all_parts F (take n bs) (drop n bs) (subst (AllByRecursion F) (sym (take-append-drop n bs)) h)).1 in
+    (all_parts F (take k (drop n bs)) (drop k (drop n bs)) (subst (AllByRecursion F) (sym (take-append-drop k (drop n bs))) behind)).0
+
+int_piece : (t : IntType) (bs : List ℕ) (j : ℕ) → IsWidth t.bits → AllByRecursion (λ b. b < 256) bs → (j + 1) * int_size t.bits ≤ length bs → IsEncoded (int t) (piece_at (int_size t.bits) j bs)
+int_piece t bs j w bytes room =
+    let k = int_size t.bits in
+    let long : int_size t.bits ≤ length (drop (j * int_size t.bits) bs) = omega (arith, length-drop (j * int_size t.bits) bs, room) in
+    int_encoded t (piece_at k j bs) w (some_bytes (λ b. b < 256) k (j * k) bs bytes) (length-take-le k (drop (j * k) bs) long)
+
+ints_passed : (t : IntType) (bs : List ℕ) (i : ℕ) → IsWidth t.bits → AllByRecursion (λ b. b < 256) bs → i * int_size t.bits ≤ length bs → IsPassed (int t) bs i (drop (i * int_size t.bits) bs)
+ints_passed t bs i w bytes room = record {
+  rest = refl;
+  room = omega (arith, length-drop (i * int_size t.bits) bs, room);
+  before = λ j q.
+      let less : (j + 1) * int_size t.bits ≤ i * int_size t.bits = mul-le (j + 1) (int_size t.bits) i (int_size t.bits) (omega arith) (omega arith) in
+      int_piece t bs j w bytes (omega (arith, less, room));
+}
+
+record IsCut (t : IntType) (bs : List ℕ) : Type 0 where
+  passed : IsPassed (int t) bs (length bs / int_size t.bits) (drop (length bs / int_size t.bits * int_size t.bits) bs)
+  left : length (drop (length bs / int_size t.bits * int_size t.bits) bs) ≡ length bs % int_size t.bits
+  few : length bs % int_size t.bits < int_size t.bits
+
+cut : (t : IntType) (bs : List ℕ) → IsWidth t.bits → AllByRecursion (λ b. b < 256) bs → IsCut t bs
+cut t bs w bytes =
+    let k = int_size t.bits in
+    let n = length bs / int_size t.bits in
+    let parts = div-add-mod' (length bs) (int_size t.bits) in
+    let room : length bs / int_size t.bits * int_size t.bits ≤ length bs = omega (arith, parts) in
+    record {
+      passed = ints_passed t bs n w bytes room;
+      left = omega (arith, parts, length-drop (length bs / int_size t.bits * int_size t.bits) bs);
+      few = mod-lt (length bs) {m = int_size t.bits} (omega (arith, some_size (int t) w));
+    }
+
+pub whole_ints : (t : IntType) (bs : List ℕ) → IsWidth t.bits → AllByRecursion (λ b. b < 256) bs → length bs % int_size t.bits ≡ 0 → AreEncoded (int t) (length bs / int_size t.bits) bs
+whole_ints t bs w bytes none =
+    let h = cut t bs w bytes in
+    all_passed (int t) bs (length bs / int_size t.bits) _ w h.passed (h.left ∙ none)
+
+pub short_int : (t : IntType) (bs : List ℕ) → IsWidth t.bits → AllByRecursion (λ b. b < 256) bs → 1 ≤ length bs % int_size t.bits → IsFirstUnencoded (int t) bs (length bs / int_size t.bits)
+short_int t bs w bytes some =
+    let h = cut t bs w bytes in
+    let left = drop (length bs / int_size t.bits * int_size t.bits) bs in
+    first_wrong (int t) bs (length bs / int_size t.bits) left h.passed (omega (arith, h.left, some)) (too_short (int t) left w (omega (arith, h.left, h.few)))

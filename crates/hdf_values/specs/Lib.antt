@@ -6,6 +6,7 @@ pub mod Nested
 pub mod Lowest
 pub mod Shaped
 pub mod Attributes
+pub mod Printed
 pub use Rattle.json_trees.specs.Trees
 pub use Rattle.serde_json.specs.View
 pub use Rattle.serde_json.specs.Data

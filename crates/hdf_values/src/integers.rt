@@ -1,6 +1,6 @@
 //! Whole numbers as two's complement bytes, in either order.
 
-ghost use Rattle.std.specs.Prelude.{◌≡◌, true, ◌≤◌, ◌<◌, ◌-◌, ◌*◌, ◌/◌, ◌^◌, ◌≤ℤ◌, ◌++◌, [], pos, negsuc, length, map, reverse, IfOk};
+ghost use Rattle.std.specs.Prelude.{◌≡◌, true, ◌<◌, ◌-◌, ◌*◌, ◌/◌, ◌^◌, ◌≤ℤ◌, ◌++◌, [], pos, negsuc, length, map, take, reverse, IfOk};
 ghost use Rattle.std.specs.List.{AllByRecursion};
 ghost use Rattle.serde_json.specs.Data.{number};
 ghost use Rattle.serde_json.specs.Find.{of_integer};
@@ -10,7 +10,7 @@ ghost use Rattle.hdf_types.specs.Reading.{int_size};
 ghost use Rattle.hdf_types.specs.Types.{IsWidth};
 ghost use Rattle.hdf_values.specs.Integers.{integer_in, in_range as is_in_range, least as least_of};
 ghost use Rattle.hdf_values.specs.Integers.{greatest as greatest_of, int_bytes, int_value, twos as twos_of};
-ghost use Rattle.hdf_values.specs.Integers.{low_first as low_bytes, number_of, signed_of};
+ghost use Rattle.hdf_values.specs.Integers.{in_order, number_of, signed_of};
 ghost use Rattle.hdf_values.specs.Elements.{Fits, IsNumberIn, decoded, int_encoded, outcome};
 ghost use Rattle.hdf_values.specs.Nested.{Appends, AppendsEach, pieces};
 
@@ -123,10 +123,9 @@ fn push_int(int: &IntType, value: i128, out: &mut Vec<u8>) -> Result<(), AllocEr
     requires fits { is_in_range int.now value ≡ true }
     ensures { IfOk result (λ _. out.new.items ≡ out.old.items ++ int_bytes int.now value) }
 {
-    let mut room = [0u8; 8];
-    let bytes = &mut room[..(int.bits / 8) as usize];
-    write_int(int, value, bytes);
-    out.extend_from_slice(bytes)
+    let bytes = eight_bytes(int, value);
+    let (front, _) = bytes.as_slice().split_at((int.bits / 8) as usize);
+    out.extend_from_slice(front)
 }
 
 fn write_int(int: &IntType, value: i128, out: &mut [u8])
@@ -135,9 +134,22 @@ fn write_int(int: &IntType, value: i128, out: &mut [u8])
     requires fits { is_in_range int.now value ≡ true }
     ensures { out.new ≡ int_bytes int.now value }
 {
-    write_low_first(twos(int.bits, value), out);
+    let bytes = eight_bytes(int, value);
+    let (front, _) = bytes.as_slice().split_at((int.bits / 8) as usize);
+    out.copy_from_slice(front);
+}
+
+/// Eight bytes, in front of which stand those of a number of this type.
+fn eight_bytes(int: &IntType, value: i128) -> [u8; 8]
+    requires width { IsWidth int.now.bits }
+    requires fits { is_in_range int.now value ≡ true }
+    ensures { take (int.now.bits / 8) result ≡ int_bytes int.now value }
+{
+    let number = twos(int.bits, value);
     if int.big {
-        out.reverse();
+        (number << (64 - int.bits)).to_be_bytes()
+    } else {
+        number.to_le_bytes()
     }
 }
 
@@ -152,16 +164,6 @@ fn twos(bits: u8, value: i128) -> u64
         ((1i128 << bits) + value) as u64
     } else {
         value as u64
-    }
-}
-
-fn write_low_first(value: u64, out: &mut [u8])
-    ensures { out.new ≡ low_bytes (length out.old) value }
-{
-    let mut rest = value;
-    for byte in out.iter_mut() {
-        *byte = (rest % 256) as u8;
-        rest /= 256;
     }
 }
 
@@ -194,11 +196,7 @@ pub fn decode_int(int: &IntType, bytes: &[u8]) -> Value
     requires room { length bytes.now ≡ int.now.bits / 8 }
     ensures { view result ≡ number (of_integer (int_value int.now bytes.now)) }
 {
-    let found = if int.big {
-        high_first(bytes)
-    } else {
-        low_first(bytes)
-    };
+    let found = plain_number(int, bytes);
     if int.signed {
         Value::from(signed(int.bits, found))
     } else {
@@ -206,32 +204,48 @@ pub fn decode_int(int: &IntType, bytes: &[u8]) -> Value
     }
 }
 
-fn low_first(bytes: &[u8]) -> u64
-    requires { length bytes.now ≤ 8 }
-    ensures value { result ≡ number_of bytes.now }
-    ensures bounded { result < 256 ^ length bytes.now }
+/// The number that bytes are in the order of their type, taken without a sign.
+pub(crate) fn plain_number(int: &IntType, bytes: &[u8]) -> u64
+    requires width { IsWidth int.now.bits }
+    requires room { length bytes.now ≡ int.now.bits / 8 }
+    ensures value { result ≡ number_of (in_order int.now.big bytes.now) }
+    ensures within { result < 2 ^ int.now.bits }
 {
-    let mut total = 0u64;
-    for i in 0..bytes.len() {
-        total = total * 256 + u64::from(bytes[bytes.len() - 1 - i]);
+    if int.big {
+        high_first(bytes)
+    } else {
+        low_first(bytes)
     }
-    total
+}
+
+fn low_first(bytes: &[u8]) -> u64
+    requires { IsWidth (8 * length bytes.now) }
+    ensures { result ≡ number_of bytes.now }
+{
+    match bytes {
+        [a] => u64::from(*a),
+        [a, b] => u64::from(u16::from_le_bytes([*a, *b])),
+        [a, b, c, d] => u64::from(u32::from_le_bytes([*a, *b, *c, *d])),
+        [a, b, c, d, e, f, g, h] => u64::from_le_bytes([*a, *b, *c, *d, *e, *f, *g, *h]),
+        _ => unreachable!(),
+    }
 }
 
 fn high_first(bytes: &[u8]) -> u64
-    requires { length bytes.now ≤ 8 }
-    ensures value { result ≡ number_of (reverse bytes.now) }
-    ensures bounded { result < 256 ^ length bytes.now }
+    requires { IsWidth (8 * length bytes.now) }
+    ensures { result ≡ number_of (reverse bytes.now) }
 {
-    let mut total = 0u64;
-    for byte in bytes {
-        total = total * 256 + u64::from(*byte);
+    match bytes {
+        [a] => u64::from(*a),
+        [a, b] => u64::from(u16::from_be_bytes([*a, *b])),
+        [a, b, c, d] => u64::from(u32::from_be_bytes([*a, *b, *c, *d])),
+        [a, b, c, d, e, f, g, h] => u64::from_be_bytes([*a, *b, *c, *d, *e, *f, *g, *h]),
+        _ => unreachable!(),
     }
-    total
 }
 
 /// The number whose two's complement is this.
-fn signed(bits: u8, value: u64) -> i64
+pub(crate) fn signed(bits: u8, value: u64) -> i64
     requires width { IsWidth bits }
     requires within { value < 2 ^ bits }
     ensures { result ≡ signed_of bits value }

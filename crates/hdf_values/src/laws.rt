@@ -3,8 +3,10 @@
 ghost use Rattle.std.specs.Prelude.{◌≡◌, ◌↔◌, ◌⊎◌, ◌<◌, ◌≤◌, ℕ, ◌+◌, ◌*◌, List, [], ◌∷◌, ◌++◌, Some, Ok, Err};
 ghost use Rattle.std.specs.Prelude.{length, slice_index_or, codes};
 ghost use Rattle.std.specs.List.{AllByRecursion, flat_map};
-ghost use Rattle.serde_json.specs.Data.{Data, null};
+ghost use Rattle.serde_json.specs.Data.{Data, null, depth};
 ghost use Rattle.serde_json.specs.Find.{get};
+ghost use Rattle.serde_json.specs.Read.{max_depth, read};
+ghost use Rattle.serde_json.specs.Written.{compact_text};
 ghost use Rattle.serde_json.specs.View.{view};
 ghost use Rattle.serde_json.specs.declared.value.Value.{Value};
 ghost use Rattle.json_trees.specs.Trees.{list_in};
@@ -26,6 +28,7 @@ ghost use Rattle.hdf_values.specs.Nested.{nested_decoded, nested_from, AreEncode
 ghost use Rattle.hdf_values.specs.Nested.{with_pieces};
 ghost use Rattle.hdf_values.specs.Lowest.{HasFault, IsLowest, IsFirstFault, IsFaultBehind};
 ghost use Rattle.hdf_values.specs.Shaped.{IsValue, value_from, value_tree};
+ghost use Rattle.hdf_values.specs.Printed.{keyed};
 ghost use Rattle.hdf_values.specs.Attributes.{Content, content, IsAttribute, IsSoundAttribute, attribute_of};
 ghost use Rattle.hdf_values.specs.declared.faults.Misfit.{Misfit};
 ghost use Rattle.hdf_values.specs.declared.faults.ValueFault.{ValueFault};
@@ -207,4 +210,17 @@ pub fn attribute_or_fault()
     ensures value { (d : Data) (c : Content) → IsAttribute d c → attribute_of d ≡ Ok c }
     ensures fault { (d : Data) (f : AttributeFault) (c : Content) → attribute_of d ≡ Err f
         → IsAttribute d c → ⊥ }
+{}
+
+/// What is printed for elements' bytes reads as the tree that they stand for, and so does an object
+/// with this tree at its one key, where they nest no deeper than `serde_json` reads.
+pub fn texts_read_back()
+    ensures nested { (e : Elem) (dims bs : List ℕ) → IsSoundType e → AreEncoded e (cell_count dims) bs
+        → depth (nested_decoded e dims bs) ≤ max_depth
+        → read (compact_text (nested_decoded e dims bs)) ≡ Some (nested_decoded e dims bs) }
+    ensures keyed { (key : List ℕ) (e : Elem) (dims bs : List ℕ) → IsSoundType e
+        → AreEncoded e (cell_count dims) bs
+        → depth (keyed key (nested_decoded e dims bs)) ≤ max_depth
+        → read (compact_text (keyed key (nested_decoded e dims bs)))
+        ≡ Some (keyed key (nested_decoded e dims bs)) }
 {}

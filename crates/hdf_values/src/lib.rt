@@ -1,5 +1,5 @@
 //! Values of elements: which JSON trees are values of a type, and their bytes; one element, lists
-//! of elements nested by an array's extents, and attributes.
+//! of elements nested by an array's extents, their JSON texts, and attributes.
 //!
 //! The forms are those of the HDF5/JSON specification and the HDF REST API, "Value" and
 //! "Attribute". A whole number is two's complement in the byte order of its type. A text is its
@@ -13,6 +13,7 @@ mod integers;
 mod laws;
 mod nested;
 mod pieces;
+mod printing;
 mod shaped;
 mod texts;
 
@@ -22,11 +23,12 @@ pub use faults::{Misfit, ValueFault};
 pub use laws::{
     attribute_or_fault, contents_tell_apart, encoded_elements, first_fault_is_told,
     limits_of_values, lowest_fault_is_told, nested_or_fault, pieces_of_joins, pieces_replaced,
-    printed_attributes_read_back, shaped_or_fault, value_or_fault, values_in_rows,
+    printed_attributes_read_back, shaped_or_fault, texts_read_back, value_or_fault, values_in_rows,
     values_read_back,
 };
 pub use nested::{read_nested, write_nested};
 pub use pieces::first_unencoded;
+pub use printing::{keyed_text, nested_text, push_nested};
 pub use shaped::{read_value, write_value};
 
 /// The most bytes of an attribute's value.

@@ -16,7 +16,7 @@ use hdf_types::{Pad, TextType};
 use serde_json::Value;
 use std::alloc::{AllocError, Global};
 
-fn fill(pad: Pad) -> u8
+pub(crate) fn fill(pad: Pad) -> u8
     ensures { result ≡ fill_of pad }
 {
     match pad {
@@ -139,7 +139,7 @@ fn read_text(
 }
 
 /// How many bytes stand in front of those that fill up.
-fn kept_len(bytes: &[u8], fill: u8) -> usize
+pub(crate) fn kept_len(bytes: &[u8], fill: u8) -> usize
     ensures within { result ≤ length bytes.now }
     ensures front { take result bytes.now ≡ without_end fill bytes.now }
 {

@@ -1,4 +1,4 @@
--- What is asked may cross threads: what it is made of, each found by itself.
+-- What is asked and what is answered may cross threads: what they are made of, each found by itself.
 use denote.Param.Send.{IsSend, sendable}
 use Rattle.std.proofs.Crossing.{crosses}
 use Rattle.std.proofs.MapsCrossing as maps
@@ -11,11 +11,15 @@ use Rattle.groups_links.specs.contracts.target.LinkTo as link
 use Rattle.object_ids.specs.contracts.ids.ObjectId as id
 use Rattle.object_ids.specs.contracts.names.Name as name
 use Rattle.access_lists.specs.contracts.rights.Rights as rights
+use Rattle.object_ops.specs.contracts.body.Body as body
+use Rattle.object_ops.specs.contracts.body.Cells as cells
+use Rattle.object_ops.specs.contracts.body.Form as form
 use Rattle.object_ops.specs.contracts.ops.LinkPlace as place
 use Rattle.object_ops.specs.contracts.ops.Make as make
 use Rattle.object_ops.specs.contracts.ops.Op as op
 use Rattle.object_ops.specs.contracts.ops.Part as part
 use Rattle.object_ops.specs.contracts.ops.SelectText as select
+use Rattle.object_ops.specs.contracts.replies.Reply as reply
 
 pub elem_send : IsSend elem.the_field.row
 elem_send = search (sendable, crosses, maps.crosses, knot.crosses) depth 40
@@ -52,3 +56,15 @@ rights_send = search (sendable, crosses, maps.crosses) depth 40 fits 20000
 
 pub op_send : IsSend op.the_field.row
 op_send = search (sendable, crosses, attribute_send, make_send, tree_send, part_send, select_send, place_send, link_send, name_send, id_send, rights_send) depth 60 fits 400000
+
+cells_send : IsSend cells.the_field.row
+cells_send = search (sendable, crosses, maps.crosses, elem_send) depth 40 fits 20000
+
+form_send : IsSend form.the_field.row
+form_send = search (sendable, crosses, maps.crosses, cells_send, send-Value) depth 40 fits 20000
+
+body_send : IsSend body.the_field.row
+body_send = search (sendable, crosses, form_send) depth 40 fits 20000
+
+pub reply_send : IsSend reply.the_field.row
+reply_send = search (sendable, crosses, maps.crosses, body_send) depth 60 fits 400000

@@ -1,4 +1,5 @@
 pub mod Replies
+pub mod Bodies
 pub mod Conditions
 pub mod Parts
 pub mod Words

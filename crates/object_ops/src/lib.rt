@@ -4,6 +4,7 @@
 //! [`creation`] has the chunks and the fill that a dataset is made with.
 #![tactic(auto)]
 
+mod body;
 pub mod creation;
 mod grants;
 mod laws;
@@ -17,6 +18,7 @@ mod sending;
 mod value_trees;
 mod words;
 
+pub use body::Body;
 pub use grants::{Grant, Step};
 pub use laws::bodies_of_refusals;
 pub use ops::{LinkPlace, Make, Op, Part, Request, SelectText};

@@ -1,13 +1,19 @@
 //! What is answered.
 
-ghost use Rattle.std.specs.Prelude.{◌≡◌, IfOk};
+ghost use Rattle.std.specs.Prelude.{◌≡◌, IfOk, codes};
 ghost use Rattle.serde_json.specs.View.{view};
+ghost use Rattle.hdf_types.specs.Types.{IsSoundType};
+ghost use Rattle.hdf_types.specs.Views.{elem};
+ghost use Rattle.shapes.specs.RowMajor.{cell_count};
+ghost use Rattle.hdf_values.specs.Nested.{AreEncoded, nested_decoded};
 ghost use Rattle.object_ops.specs.Replies.{nothing, only};
 ghost use Rattle.object_ops.specs.declared.replies.Reply.TheVariants.{Done};
 
+use crate::body::Body;
 use crate::refusals::Refusal;
-use json_trees::Tree;
+use hdf_types::ElemType;
 use serde_json::{Value, json};
+use shapes::Dims;
 use std::alloc::{AllocError, Global};
 use std::collections::BTreeMap;
 
@@ -19,7 +25,7 @@ pub enum Reply {
         /// The status (RFC 9110, section 15.3).
         status: u16,
         /// The body.
-        body: Tree,
+        body: Body,
     },
     /// It was refused.
     Refused(Refusal),
@@ -39,7 +45,21 @@ impl Reply {
     {
         Reply::Done {
             status,
-            body: Tree::new(tree),
+            body: Body::of(tree),
+        }
+    }
+
+    /// That it was done, with the status 200 and the elements that bytes are at the key `value` as the body. It takes no
+    /// memory: the bytes are kept.
+    pub fn cells(kind: ElemType, extents: Dims, bytes: Vec<u8>) -> Reply
+        requires sound { IsSoundType (elem kind) }
+        requires encoded { AreEncoded (elem kind) (cell_count extents) bytes.items }
+        ensures { result ≡ Done 200
+            (only (codes "value") (nested_decoded (elem kind) extents bytes.items)) }
+    {
+        Reply::Done {
+            status: 200,
+            body: Body::cells(kind, extents, bytes),
         }
     }
 

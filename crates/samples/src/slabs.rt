@@ -26,11 +26,12 @@ pub(crate) fn read_slab(
         → IsSummed n start result (seen world.new) }
 {
     let request = slab_request(alloc, start)?;
-    sum_of_request(world, caller, &request, start)
+    sum_of_request(alloc, world, caller, &request, start)
 }
 
 // The same by its request.
 fn sum_of_request(
+    alloc: Global,
     world: &mut World,
     caller: &Caller,
     request: &Request,
@@ -47,15 +48,18 @@ fn sum_of_request(
         return Err(AllocError);
     }
     let answer = world.step(caller, request);
-    sum_of_answer(&answer.what)
+    sum_of_answer(alloc, &answer.what)
 }
 
 // The sum of what was read, where something was.
-fn sum_of_answer(what: &What) -> Result<u64, AllocError>
+fn sum_of_answer(alloc: Global, what: &What) -> Result<u64, AllocError>
     ensures { IsSumOf what.now result }
 {
     match what {
-        What::Replied(Reply::Done { body, .. }) => Ok(sum_of_body(body)),
+        What::Replied(Reply::Done { body, .. }) => {
+            let tree = body.tree(alloc)?;
+            Ok(sum_of_body(&tree))
+        }
         _ => Err(AllocError),
     }
 }

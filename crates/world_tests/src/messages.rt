@@ -6,7 +6,6 @@ use access_lists::{Caller, Names};
 use object_ids::Name;
 use object_ops::{Refusal, Reply, Request, on_text, refusal_json};
 use rest_requests::{RequestFault, RequestParts, Tokens, read_request};
-use serde_json::Value;
 use service_core::{What, World};
 use std::alloc::Global;
 use std::test::Fail;
@@ -35,20 +34,23 @@ pub(crate) fn tokens(alloc: Global) -> Result<Tokens, Fail> {
 
 // ---- answers
 
-fn with_status(alloc: Global, status: u16, body: &Value) -> Result<String, Fail> {
-    let text = body.to_string(alloc)?;
-    Ok(format!(in alloc; "{status} {text}")?)
+fn with_status(alloc: Global, status: u16, body: &str) -> Result<String, Fail> {
+    Ok(format!(in alloc; "{status} {body}")?)
 }
 
 fn refused(alloc: Global, path: &str, refusal: &Refusal) -> Result<String, Fail> {
     let tree = refusal_json(alloc, path, refusal)?;
-    with_status(alloc, refusal.status(), &tree)
+    with_status(alloc, refusal.status(), tree.to_string(alloc)?.as_str())
 }
 
 /// The status and the body of an answer.
 fn told(alloc: Global, path: &str, what: &What) -> Result<String, Fail> {
     match what {
-        What::Replied(Reply::Done { status, body }) => with_status(alloc, *status, body.value()),
+        What::Replied(Reply::Done { status, body }) => with_status(
+            alloc,
+            *status,
+            body.text(alloc)?.as_str(),
+        ),
         What::Replied(Reply::Refused(refusal)) => refused(alloc, path, refusal),
         What::Denied { right } => refused(alloc, path, &Refusal::Forbidden { right: *right }),
         What::NoMemory => Err(Fail::from("no memory")),

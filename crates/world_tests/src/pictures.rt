@@ -40,7 +40,7 @@ fn add_value(rt: &(impl Abort + AllocGlobal), text: &mut String, id: ObjectId, o
 {
     let value = Op::GetValue { id, select: None };
     if let Reply::Done { body, .. } = reply(rt.alloc(), object, &value, &id).expect(rt, "a reply") {
-        let value = body.value().to_string(rt.alloc()).expect(rt, "a text");
+        let value = body.text(rt.alloc()).expect(rt, "a text");
         add_line(rt, text, "", value.as_str());
     }
 }

@@ -1,13 +1,15 @@
 //! What requests read of an array.
 
-ghost use Rattle.std.specs.Prelude.{◌≡◌, All, Ok, IfOk, option_map};
+ghost use Rattle.std.specs.Prelude.{◌≡◌, All, Ok, IfOk, codes, option_map};
 ghost use Rattle.serde_json.specs.View.{view};
 ghost use Rattle.shapes.specs.Shapes.{IsSound, LiesIn};
 ghost use Rattle.hyperslab.specs.Selected.{IsSlab, SlabIn, extents, slab_cells};
 ghost use Rattle.hdf_values.specs.Nested.{nested_decoded};
 ghost use Rattle.chunk_store.specs.Grids.{reads};
+ghost use Rattle.object_ops.specs.Replies.{only};
+ghost use Rattle.object_ops.specs.declared.replies.Reply.TheVariants.{Done};
 ghost use Rattle.object_acts.specs.Arrays.Stops.{settled};
-ghost use Rattle.object_acts.specs.Arrays.Arrays.{part_tree, part_read, selected_by, value_read};
+ghost use Rattle.object_acts.specs.Arrays.Arrays.{part_read, selected_by, value_read};
 ghost use Rattle.object_acts.specs.Arrays.Arrays.{points_tree, points_read_in, points_read, shape_read, type_read};
 
 use crate::arrays::MAX_BYTES;
@@ -15,7 +17,6 @@ use crate::arrays::bytes::{bytes_of, too_many_bytes};
 use crate::arrays::faults::{Stop, refused_slab, settle};
 use chunk_store::Array;
 use hdf_types::type_json;
-use hdf_values::write_nested;
 use hyperslab::{Slab, SlabFault, read_select, whole};
 use json_trees::Tree;
 use object_ops::{Reply, SelectText};
@@ -105,32 +106,24 @@ fn part_reply(alloc: Global, array: &Array, slab: &Slab) -> Result<Reply, AllocE
     if bytes > MAX_BYTES {
         return Ok(Reply::Refused(too_many_bytes(bytes)));
     }
-    let tree = part_json(alloc, array, slab)?;
-    Reply::keyed(alloc, 200, "value", tree)
-}
-
-fn part_json(alloc: Global, array: &Array, slab: &Slab) -> Result<Value, AllocError>
-    requires slab { IsSlab slab.now }
-    requires inside { SlabIn slab.now array.now.grid.shape }
-    ensures { IfOk result (λ v. view v ≡ part_tree array.now.grid slab.now) }
-{
     match array.shape() {
-        Shape::Null => Ok(Value::Null),
-        Shape::Scalar => cells_json(alloc, array, slab),
-        Shape::Simple { .. } => cells_json(alloc, array, slab),
+        Shape::Null => Reply::keyed(alloc, 200, "value", Value::Null),
+        Shape::Scalar => cells_reply(alloc, array, slab),
+        Shape::Simple { .. } => cells_reply(alloc, array, slab),
     }
 }
 
-fn cells_json(alloc: Global, array: &Array, slab: &Slab) -> Result<Value, AllocError>
+fn cells_reply(alloc: Global, array: &Array, slab: &Slab) -> Result<Reply, AllocError>
     requires slab { IsSlab slab.now }
     requires inside { SlabIn slab.now array.now.grid.shape }
-    ensures { IfOk result (λ v. view v
-        ≡ nested_decoded array.now.grid.kind (extents slab.now)
-        (reads array.now.grid (slab_cells slab.now array.now.grid.shape))) }
+    ensures { IfOk result (λ r. r ≡ Done 200 (only (codes "value")
+        (nested_decoded array.now.grid.kind (extents slab.now)
+        (reads array.now.grid (slab_cells slab.now array.now.grid.shape))))) }
 {
     array.is_whole();
+    let kind = array.elem().copy(alloc)?;
     let bytes = array.read_slab(alloc, slab)?;
-    write_nested(alloc, array.elem(), &slab.extents(), bytes.as_slice())
+    Ok(Reply::cells(kind, slab.extents(), bytes))
 }
 
 fn points_reply(alloc: Global, array: &Array, points: &Value) -> Result<Reply, Stop>
@@ -148,16 +141,17 @@ fn elements_reply(alloc: Global, array: &Array, points: &Points) -> Result<Reply
     if bytes > MAX_BYTES {
         return Ok(Reply::Refused(too_many_bytes(bytes)));
     }
-    let tree = elements_json(alloc, array, points)?;
-    Reply::keyed(alloc, 200, "value", tree)
+    cells_at(alloc, array, points)
 }
 
-fn elements_json(alloc: Global, array: &Array, points: &Points) -> Result<Value, AllocError>
+fn cells_at(alloc: Global, array: &Array, points: &Points) -> Result<Reply, AllocError>
     requires { All (λ at. LiesIn at array.now.grid.shape) points.now }
-    ensures { IfOk result (λ v. view v ≡ points_tree array.now.grid points.now) }
+    ensures { IfOk result (λ r. r
+        ≡ Done 200 (only (codes "value") (points_tree array.now.grid points.now))) }
 {
     array.is_whole();
     let extents = Dims::repeated(points.len() as u64, 1);
+    let kind = array.elem().copy(alloc)?;
     let bytes = array.read_points(alloc, points)?;
-    write_nested(alloc, array.elem(), &extents, bytes.as_slice())
+    Ok(Reply::cells(kind, extents, bytes))
 }

@@ -1,6 +1,6 @@
 use Rattle.std.proofs.Common.{Some, None, length, ap, ◌∙◌}
 use Rattle.chunk_store.proofs.BufferLemmas.{found_full, found_in}
-use Rattle.chunk_store.proofs.SlabLemmas.{IsChunkBox, chunk_box, read_held, read_blank}
+use Rattle.chunk_store.proofs.SlabLemmas.{IsChunkBox, chunk_box, read_held, read_blank, read_ready}
 use Rattle.chunk_store.proofs.slabs.read_chunk.Goals.{After-first_cell-origin}
 use Rattle.chunk_store.proofs.slabs.read_chunk.Goals as goal
 
@@ -24,7 +24,12 @@ returns-in-Some-clause-read c =
     read_held _ _ _ _ (box (goal.at.returns-in-Some-clause-read c).After-first_cell-origin) c.args.chunks.now held c.as_slice.result.now c.args.out.now c.read_box.new.out
     (found_in c.args.chunks.now c.args.index.now (Some held) c.in-Some.ensures.value) c.as_slice.ensures.value c.read_box.ensures.read
 
-pub returns-in-None-clause-read : goal.returns-in-None-clause-read
-returns-in-None-clause-read c =
-    read_blank _ _ _ _ (box (goal.at.returns-in-None-clause-read c).After-first_cell-origin) c.args.chunks.now c.as_slice-in-None.result.now c.args.out.now c.fill_box.new.out
-    (found_in c.args.chunks.now c.args.index.now None c.in-None.ensures.value) c.as_slice-in-None.ensures.value c.fill_box.ensures.filled
+pub returns-then-not-ready-clause-read : goal.returns-then-not-ready-clause-read
+returns-then-not-ready-clause-read c =
+    read_blank _ _ _ _ (box (goal.at.returns-then-not-ready-clause-read c).After-first_cell-origin) c.args.chunks.now c.as_slice-blank.result.now c.args.out.now c.fill_box.new.out
+    (found_in c.args.chunks.now c.args.index.now None c.in-None.ensures.value) c.as_slice-blank.ensures.value c.fill_box.ensures.filled
+
+pub returns-else-not-ready-clause-read : goal.returns-else-not-ready-clause-read
+returns-else-not-ready-clause-read c =
+    read_ready _ _ _ _ (box (goal.at.returns-else-not-ready-clause-read c).After-first_cell-origin) c.args.chunks.now c.args.out.now
+    (found_in c.args.chunks.now c.args.index.now None c.in-None.ensures.value) (c.requires.ready c.if-not-ready.false)

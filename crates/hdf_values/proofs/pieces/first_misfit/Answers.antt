@@ -6,7 +6,7 @@ use Rattle.hdf_types.specs.Views.{elem}
 use Rattle.hdf_values.specs.Elements.{IsEncoded}
 use Rattle.hdf_values.specs.Nested.{IsFirstUnencoded}
 use Rattle.hdf_values.proofs.PieceLemmas.{one_passed, passed_within, all_passed, first_wrong, too_short, not_all, none_left, some_left, some_size}
-use Rattle.hdf_values.proofs.pieces.first_unencoded.Goals as goal
+use Rattle.hdf_values.proofs.pieces.first_misfit.Goals as goal
 
 room_left : (c : goal.Else-not-is_encoded) → c.loop-left.index + 1 ≤ length c.args.bytes.now
 room_left c =

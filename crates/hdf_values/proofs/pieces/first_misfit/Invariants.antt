@@ -1,7 +1,7 @@
 use Rattle.std.proofs.Common.{length}
 use Rattle.hdf_types.specs.Views.{elem}
 use Rattle.hdf_values.proofs.PieceLemmas.{IsPassed}
-use Rattle.hdf_values.proofs.pieces.first_unencoded.Given as goal
+use Rattle.hdf_values.proofs.pieces.first_misfit.Given as goal
 
 abbrev pub invariant-loop-left : goal.invariant-loop-left
 invariant-loop-left l = IsPassed (elem l.kind) l.bytes l.index l.left
