@@ -1,12 +1,12 @@
 //! The owner of a lane's objects.
 
-ghost use Rattle.std.specs.Prelude.{◌≡◌, ◌<◌, ℕ, List, [], None, IfErr, IfSome, OnOk, OnErr, option_map};
+ghost use Rattle.std.specs.Prelude.{◌≡◌, ◌≢◌, ◌<◌, ℕ, List, [], None, IfErr, IfSome, OnOk, OnErr, option_map};
 ghost use Rattle.std.specs.FinMap.{empty, get, insert};
 ghost use Rattle.std.specs.Option.{option_copied};
 ghost use Rattle.containers.specs.TextMaps.Nexts.{IsNext, IsKeyStep};
 ghost use Rattle.object_ids.specs.IdValues.{Id};
 ghost use Rattle.object_ids.specs.Ids.{InRange, lane_of};
-ghost use Rattle.object_ids.specs.declared.ids.Kind.TheVariants.{Group};
+ghost use Rattle.object_ids.specs.declared.ids.Kind.TheVariants.{Dataset, Group};
 ghost use Rattle.object_ops.specs.Replies.{Follows};
 ghost use Rattle.object_ops.specs.Conditions.{IsSoundOp};
 ghost use Rattle.object_acts.specs.Arrays.Marked.{IsDone};
@@ -170,11 +170,12 @@ impl Owner {
         done
     }
 
-    /// Puts an object, of whose chunks none was cut, at a new id of the lane.
+    /// Puts an object, of whose chunks none was cut, at an id of the lane that has none. It takes the place of a group or a
+    /// datatype that was removed since the last cut.
     ///
     /// # Errors
     ///
-    /// Only where memory runs out; the lane is as it was then.
+    /// Only where memory runs out, or where a dataset of this id was removed since the last cut; the lane is as it was then.
     pub fn put_object(&mut self, id: ObjectId, object: Object) -> Result<(), AllocError>
         requires lane { lane_of self.old.lanes id ≡ self.old.lane }
         requires new { get self.old.objects id ≡ None }
@@ -182,6 +183,7 @@ impl Owner {
         requires fresh { IsTrackedBody (λ _. []) object.body }
         ensures ok { OnOk result (self.new.objects ≡ insert self.old.objects id (unmarked object)) }
         ensures err { OnErr result (self.new ≡ self.old) }
+        ensures free { OnErr result (id.kind ≢ Dataset → get self.old.slots id ≡ None) }
         ensures says { StillSays self.old.slots self.new.slots }
         ensures alone { AddsMarks (IsMarkedIn id Changed object.body)
             self.old.slots self.new.slots }

@@ -165,7 +165,3 @@ all_records rs h = All-from_recursion IsRecord rs h
 
 pub each_record : (rs : List Record) → All IsRecord rs → Records rs
 each_record rs h = recursion_from_All IsRecord rs h
-
--- a record that was read is one that a payload can have
-pub record_sound : (bytes : List ℕ) (r : Record × List ℕ) → AreBytes bytes → Some r ≡ first_record bytes → IsRecord r.0
-record_sound bytes r h e = (record_encoded bytes r (bytes_each bytes h) (sym e)).sound

@@ -11,6 +11,7 @@ pub mod BatchLemmas
 pub mod JournalLemmas
 pub mod JournalStates
 pub mod NumberLemmas
+pub mod LengthLemmas
 pub mod PayloadLemmas
 pub mod ReadLemmas
 pub mod NewLemmas

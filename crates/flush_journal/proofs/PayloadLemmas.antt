@@ -1,10 +1,10 @@
 -- The map that a payload's records make.
-use Rattle.std.proofs.Common.{◌≡◌, ◌≢◌, ℕ, ◌<◌, true, false, List, [], ◌∷◌, length, Option, Some, None, MatchOption, refl, sym, ◌∙◌, ap, arith}
+use Rattle.std.proofs.Common.{◌≡◌, ◌≢◌, ℕ, true, false, List, [], ◌∷◌, length, Option, Some, None, MatchOption, refl, sym, ◌∙◌, ap, arith}
 use Rattle.std.specs.Prelude.{option_map}
 use Rattle.std.specs.FinMap as map
 use Rattle.std.proofs.lemmas.List.{nil_from_length}
 use Rattle.flush_journal.specs.Records.{Record, Held, first_record, records_of, put_record, put_all}
-use Rattle.flush_journal.proofs.RecordLemmas.{records_of_first, records_of_none, records_of_nothing, first_record_shorter}
+use Rattle.flush_journal.proofs.RecordLemmas.{records_of_first, records_of_none, records_of_nothing}
 
 pub put_empty : (key body : List ℕ) (m : Held) → length body ≡ 0 → put_record (key, body) m ≡ map.remove m key
 put_empty key [] m e = refl
@@ -30,9 +30,9 @@ none_behind : (rest : List ℕ) → length rest ≢ 0 → first_record rest ≡ 
 none_behind [] some none = absurd (some refl)
 none_behind (b ∷ rest) some none = records_of_none b rest none
 
-pub not_read : (payload rest : List ℕ) (m0 m : Held) → SoFar payload rest m0 m → length rest ≢ 0 → first_record rest ≡ None → MatchOption (records_of payload) (false ≡ false) (λ rs. (false ≡ true) × (m ≡ put_all rs m0))
-not_read payload rest m0 m so_far some none =
-    nothing_of (records_of payload) m0 m (so_far ∙ ap (option_map (λ rs. put_all rs m)) (none_behind rest some none))
+pub not_read : (payload rest : List ℕ) (m0 m m' : Held) → SoFar payload rest m0 m → length rest ≢ 0 → first_record rest ≡ None → MatchOption (records_of payload) (false ≡ false) (λ rs. (false ≡ true) × (m' ≡ put_all rs m0))
+not_read payload rest m0 m m' so_far some none =
+    nothing_of (records_of payload) m0 m' (so_far ∙ ap (option_map (λ rs. put_all rs m)) (none_behind rest some none))
 
 pub all_read : (payload rest : List ℕ) (m0 m : Held) → SoFar payload rest m0 m → length rest ≡ 0 → MatchOption (records_of payload) (true ≡ false) (λ rs. (true ≡ true) × (m ≡ put_all rs m0))
 all_read payload rest m0 m so_far none =
@@ -45,6 +45,3 @@ record_read payload rest after r m0 m m' so_far is put =
     moved : (o : Option (List Record)) → option_map (λ rs. put_all rs m) (option_map (λ rs. r ∷ rs) o) ≡ option_map (λ rs. put_all rs (put_record r m)) o
     moved None = refl
     moved (Some rs) = refl
-
-pub rest_shorter : (rest after : List ℕ) (r : Record) → Some (r, after) ≡ first_record rest → length after < length rest
-rest_shorter rest after r is = omega (arith, first_record_shorter rest (r, after) (sym is))

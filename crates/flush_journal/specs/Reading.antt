@@ -1,7 +1,7 @@
 -- What a reading of a file shows, and why it may be refused.
-use Rattle.std.specs.Prelude.{◌≡◌, ◌≢◌, ℕ, ◌+◌, ◌<◌, ◌≤◌, List, length, take, drop, slice_index, Result, Ok, Err, Option, Some, None}
+use Rattle.std.specs.Prelude.{◌≡◌, ◌≢◌, ℕ, ◌+◌, ◌-◌, ◌<◌, ◌≤◌, Bool, true, false, List, length, take, drop, slice_index, Result, Ok, Err, Option, Some, None, MatchOption}
 use Rattle.edge_traits.specs.Causes.{Rose}
-use Rattle.flush_journal.specs.Records.{Record, Held, put_all}
+use Rattle.flush_journal.specs.Records.{Record, Held, first_record, put_all, put_record, records_of}
 use Rattle.flush_journal.specs.Files.{Content, content, first_batch, read_on}
 use Rattle.flush_journal.specs.declared.read.Marker.{Marker}
 use Rattle.flush_journal.specs.declared.read.Marker.TheVariants.{Missing, Closed, Open}
@@ -45,3 +45,23 @@ abbrev pub PayloadIs : List ℕ → ℕ → Held → Held → Option ℕ → Typ
 PayloadIs file at old new None = first_batch (drop (at + 1) file) ≡ None
 PayloadIs file at old new (Some size) = (rs : List Record)
     × (first_batch (drop (at + 1) file) ≡ Some (record { size = size; records = rs; rest = drop (at + 9 + size) file })) × (new ≡ put_all rs old)
+
+-- so many bytes of a file at a place
+abbrev pub window : List ℕ → (at size : ℕ) → List ℕ
+window file at size = take size (drop at file)
+
+-- the lengths of the key and the body of the record at the front
+abbrev pub LengthsAre : List ℕ → Option (ℕ × ℕ) → Type 0
+LengthsAre bytes None = first_record bytes ≡ None
+LengthsAre bytes (Some n) = first_record bytes
+    ≡ Some ((take n.0 (drop 4 bytes), take n.1 (drop (8 + n.0) bytes)), drop (8 + n.0 + n.1) bytes)
+
+-- the record at a place, where so many bytes of its payload are left, its size, and what a map was and is
+abbrev pub RecordIs : List ℕ → (at left : ℕ) → Held → Held → Option ℕ → Type 0
+RecordIs file at left old new None = first_record (window file at left) ≡ None
+RecordIs file at left old new (Some size) = (r : Record)
+    × (first_record (window file at left) ≡ Some (r, window file (at + size) (left - size))) × (new ≡ put_record r old)
+
+-- the records of a payload, where it is a list of records, and what a map was and is
+abbrev pub RecordsAre : List ℕ → Held → Held → Bool → Type 0
+RecordsAre payload old new whole = MatchOption (records_of payload) (whole ≡ false) (λ rs. (whole ≡ true) × (new ≡ put_all rs old))

@@ -11,6 +11,7 @@ mod header;
 mod journal;
 mod laws;
 mod markers;
+mod payload;
 mod read;
 mod reader;
 mod records;

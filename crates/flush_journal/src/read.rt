@@ -9,6 +9,7 @@ ghost use Rattle.flush_journal.specs.Reading.{MarkerIs, PayloadIs, IsRead};
 
 use crate::header::{HEADER_SIZE, VERSION, outside};
 use crate::markers::OPEN;
+use crate::payload::read_records;
 use crate::reader::Reader;
 use crate::records::number_8;
 use crate::{Recovered, Report, Why};
@@ -81,10 +82,10 @@ fn read_payload<D: Disk>(
     let Some((size, _)) = number_8(reader.slice(at + 1, 8)) else {
         return Ok(None);
     };
-    if !reader.fill(at + 9, size)? {
+    if !reader.reaches(at + 9, size) {
         return Ok(None);
     }
-    let whole = recovered.put_payload(reader.slice(at + 9, size as usize))?;
+    let whole = read_records(reader, at + 9, size, recovered)?;
     Ok(whole.then_some(size))
 }
 

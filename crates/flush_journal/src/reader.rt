@@ -1,5 +1,5 @@
 // A disk that is read.
-ghost use Rattle.std.specs.Prelude.{◌≡◌, ◌+◌, ◌<◌, ◌≤◌, length, take, drop, IfOk, IfErr, OnOk, MatchResult, true, false};
+ghost use Rattle.std.specs.Prelude.{◌≡◌, ◌+◌, ◌<◌, ◌≤◌, length, take, drop, IfOk, IfErr, OnOk, IsTrue, MatchResult, true, false};
 ghost use Rattle.edge_traits.specs.Causes.{HasCause, Rose};
 ghost use Rattle.edge_traits.specs.Disks.{Only};
 ghost use Rattle.flush_journal.specs.Reading.{Shows};
@@ -64,6 +64,14 @@ impl<D: Disk> Reader<D> {
         self.disk
     }
 
+    // Whether the file has so many bytes at this place.
+    pub fn reaches(&self, at: u64, size: u64) -> bool
+        ensures inside { IsTrue result → at + size ≤ end_of_file self.now }
+        ensures beyond { D.honest → result ≡ false → length (file_of self.now) < at + size }
+    {
+        at <= self.end && size <= self.end - at
+    }
+
     // Has so many bytes at this place, or says that the file ends before.
     pub fn fill(&mut self, at: u64, size: u64) -> Result<bool, Why>
         ensures on { GoesOn self.old self.new }
@@ -73,7 +81,7 @@ impl<D: Disk> Reader<D> {
             → length (file_of self.old) < at + size) }
         ensures why { IfErr result (MayFail self.old self.new) }
     {
-        if at > self.end || self.end - at < size {
+        if !self.reaches(at, size) {
             return Ok(false);
         }
         if self.from <= at {

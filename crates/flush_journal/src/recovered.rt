@@ -1,13 +1,11 @@
 // What a journal held when it was opened.
-ghost use Rattle.std.specs.Prelude.{◌≡◌, OnOk, option_map, MatchOption, IfOk, true, false, vec_items};
+ghost use Rattle.std.specs.Prelude.{◌≡◌, OnOk, option_map, vec_items};
 ghost use Rattle.std.specs.FinMap as map;
 ghost use Rattle.std.specs.Option.{option_copied};
 ghost use Rattle.containers.specs.TextMaps.Keyed.{keyed};
 ghost use Rattle.containers.specs.TextMaps.Nexts.{IsNext, IsKeyStep};
-ghost use Rattle.flush_journal.specs.Records.{IsRecord, IsRecordMap, put_record, put_all};
-ghost use Rattle.flush_journal.specs.Records.{records_of};
+ghost use Rattle.flush_journal.specs.Records.{IsRecord, IsRecordMap, put_record};
 
-use crate::records::first_record;
 use containers::text_maps::ByteMap;
 use std::alloc::{AllocError, Global};
 use std::collections::BTreeMap;
@@ -123,7 +121,7 @@ impl Recovered {
     }
 
     // Puts a body at a key, or takes the key out for an empty one.
-    fn put_record(&mut self, key: &[u8], body: &[u8]) -> Result<(), AllocError>
+    pub(crate) fn put_record(&mut self, key: &[u8], body: &[u8]) -> Result<(), AllocError>
         requires { IsRecord (key.now, body.now) }
         ensures { OnOk result (self.new ≡ put_record (key.now, body.now) self.old) }
     {
@@ -133,21 +131,5 @@ impl Recovered {
         }
         let body = Body::new(body.to_vec(self.alloc)?);
         self.records.put_copy(key, body)
-    }
-
-    // Puts in the records of a payload, or says that it is no list of records.
-    pub(crate) fn put_payload(&mut self, payload: &[u8]) -> Result<bool, AllocError>
-        ensures { IfOk result (λ whole. MatchOption (records_of payload.now) (whole ≡ false)
-            (λ rs. (whole ≡ true) × (self.new ≡ put_all rs self.old))) }
-    {
-        let mut rest = payload;
-        while !rest.is_empty() {
-            let Some((key, body, after)) = first_record(rest) else {
-                return Ok(false);
-            };
-            self.put_record(key, body)?;
-            rest = after;
-        }
-        Ok(true)
     }
 }

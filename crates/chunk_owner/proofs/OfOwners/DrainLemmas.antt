@@ -7,11 +7,11 @@ use Rattle.containers.specs.TextMaps.Keyed.{text_order}
 use Rattle.containers.specs.TextMaps.Nexts.{IsKeyStep, IsNext, first, is_behind, left}
 use Rattle.containers.proofs.Plain.{less}
 use Rattle.containers.proofs.TextMaps.KeyedMaps.{exact_texts}
-use Rattle.containers.proofs.TextMaps.TextOrders.{not_itself, unlike}
+use Rattle.containers.proofs.TextMaps.TextOrders.{itself, not_itself, turned, unlike}
 use Rattle.containers.proofs.TextMaps.Walks.{found_key}
 use Rattle.flush_journal.specs.Records.{Held, Record}
 use Rattle.chunk_owner.specs.Installs.Records.{IsOther}
-use Rattle.chunk_owner.specs.Owners.Records.{KeepsOthers}
+use Rattle.chunk_owner.specs.Owners.Records.{HasOthersAlone, KeepsOthers}
 use Rattle.chunk_owner.specs.Owners.Walks.{TakesOut}
 
 -- ---- the step of a walk
@@ -95,7 +95,7 @@ behind_less : (k q : List ℕ) → is_behind text_order (Some k) q ≡ true → 
 behind_less k q behind = less (text_order k q) (subst T (sym behind) tt)
 
 taken_else : (k : List ℕ) (m n : Held) → TakesOut k m n → (q : List ℕ) → q ≢ k → get n q ≡ get m q
-taken_else k m n (inl same) q other = ap (λ (x : Held). get x q) same
+taken_else k m n (inl same) q other = ap (λ (x : Held). get x q) same.1
 taken_else k m n (inr gone) q other = ap (λ (x : Held). get x q) gone.1 ∙ get-remove nat_list_cmp_total m k q ∙ ap (λ b. cond b None (get m q)) (unlike q k other)
 
 pub agrees_more : (held m n : Held) (k : List ℕ) (o : Option (List ℕ)) → AgreesFrom held m (Some k) → IsNext m (Some k) o → TakesOut k m n → AgreesFrom held n o
@@ -109,5 +109,33 @@ agrees_more held m n k (Some a) agree next taken =
     )
 
 pub keeps_more : (held m n : Held) (k : List ℕ) → KeepsOthers held m → TakesOut k m n → KeepsOthers held n
-keeps_more held m n k keeps (inl same) q other = ap (λ (x : Held). get x q) same ∙ keeps q other
+keeps_more held m n k keeps (inl same) q other = ap (λ (x : Held). get x q) same.1 ∙ keeps q other
 keeps_more held m n k keeps (inr gone) q other = taken_else k m n (inr gone) q (λ same. gone.0 (subst IsOther same other)) ∙ keeps q other
+
+-- ---- what was taken out
+
+-- of the records in front of a key none of a lane is left
+abbrev pub IsDrainedTo : Held → Option (List ℕ) → Type 0
+IsDrainedTo m None = HasOthersAlone m
+IsDrainedTo m (Some k) = (q : List ℕ) → (IsOther q → ⊥) → text_order q k ≡ Less → get m q ≡ None
+
+pub drained_begin : (held : Held) (o : Option (List ℕ)) → IsNext held None o → IsDrainedTo held o
+drained_begin held None next = λ q lane. next q refl
+drained_begin held (Some k) next = λ q lane low. next.2 q refl low
+
+taken_itself : (k : List ℕ) (m n : Held) → TakesOut k m n → (IsOther k → ⊥) → get n k ≡ None
+taken_itself k m n (inl same) lane = absurd (lane same.0)
+taken_itself k m n (inr gone) lane =
+    ap (λ (x : Held). get x k) gone.1 ∙ get-remove nat_list_cmp_total m k k ∙ ap (λ b. cond b None (get m k)) (itself k)
+
+module _ (m n : Held) (k : List ℕ) (taken : TakesOut k m n) (before : IsDrainedTo m (Some k)) where
+  drained_at : (q : List ℕ) → (IsOther q → ⊥) → (text_order k q ≡ Less → get m q ≡ None) → get n q ≡ None
+  drained_at q lane behind = same_or (text_order q k) (get n q ≡ None)
+      (λ low. taken_else k m n taken q (λ same. not_itself q k low (sym same)) ∙ before q lane low)
+      (λ same. let is = exact_texts q k same in
+      ap (get n) is ∙ taken_itself k m n taken (λ other. lane (subst IsOther (sym is) other)))
+      (λ high. let low : text_order k q ≡ Less = turned q k high in taken_else k m n taken q (not_itself k q low) ∙ behind low)
+
+  pub drained_more : (o : Option (List ℕ)) → IsNext m (Some k) o → IsDrainedTo n o
+  drained_more None next = λ q lane. drained_at q lane (λ low. next q (ap is_lt low))
+  drained_more (Some a) next = λ q lane under. drained_at q lane (λ low. next.2 q (ap is_lt low) under)

@@ -26,7 +26,7 @@ use Rattle.chunk_owner.proofs.InstallLemmas.{described_at, given_at}
 use Rattle.chunk_owner.proofs.OfSlots.Standing.{get-objects_of}
 use Rattle.chunk_owner.proofs.OfInstalls.Records.{IsElsewhere, elsewhere, one_lane, other_elsewhere, walk_elsewhere, walk_installed, walk_refused}
 use Rattle.chunk_owner.proofs.OfInstalls.Walking.{end_described, end_faultless, end_rules, end_says, end_still, end_whole, walk_begin}
-use Rattle.chunk_owner.proofs.OfOwners.DrainLemmas.{AgreesFrom, IsAt, agrees_begin, agrees_more, at_begin, at_more, keeps_more, next_held}
+use Rattle.chunk_owner.proofs.OfOwners.DrainLemmas.{AgreesFrom, IsAt, IsDrainedTo, agrees_begin, agrees_more, at_begin, at_more, drained_begin, drained_more, keeps_more, next_held}
 use Rattle.chunk_owner.proofs.OfOwners.InstallLemmas.{AreMade, IsMade, made_more, made_none}
 
 -- what is written over the front is the front
@@ -148,6 +148,7 @@ module _ (many run next : ℕ) (held : Held) where
     pub here : IsAt held at rest
     pub agrees : AgreesFrom held m at
     pub keeps : KeepsOthers held m
+    pub drained : IsDrainedTo m at
     pub numbered : AreNumbered many 0 ls
     pub walks : AreWalks many run next held rest 0 ls
     pub cut : IsCutOff many run next held (length ls) bad
@@ -158,6 +159,7 @@ module _ (many run next : ℕ) (held : Held) where
     here = at_begin held at first;
     agrees = agrees_begin held at;
     keeps = λ q other. refl;
+    drained = drained_begin held at first;
     numbered = new_numbered many 0 ls new;
     walks = walks_begin 0 ls new;
     cut = count;
@@ -186,6 +188,7 @@ module _ (many run next : ℕ) (held : Held) where
       here = at_more held k at (next_held held m k at w.agrees after);
       agrees = agrees_more held m n k at w.agrees after taken;
       keeps = keeps_more held m n k w.keeps taken;
+      drained = drained_more m n k taken w.drained at after;
       numbered = numbered;
       walks = walks;
       cut = cut;

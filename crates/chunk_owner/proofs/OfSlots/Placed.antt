@@ -6,6 +6,7 @@ use Rattle.std.proofs.lemmas.Cmp.{tied_itself}
 use Rattle.std.proofs.lemmas.Option.{same_Some}
 use Rattle.object_ids.specs.IdOrder.{id_order}
 use Rattle.object_ids.specs.IdValues.{Id}
+use Rattle.object_ids.specs.declared.ids.Kind.TheVariants.{Dataset}
 use Rattle.object_ids.proofs.IdOrders.{id_order_once, id_order_total}
 use Rattle.chunk_store.specs.Marks.{IsTracked, Stands, Stored, is_known, state}
 use Rattle.object_acts.specs.declared.objects.Object.{Object}
@@ -29,8 +30,12 @@ fresh_chunks id (body.Group links) held kind tracked none = tt
 fresh_chunks id (body.Dataset array) held kind tracked none = subst (λ (f : List ℕ → List ℕ). IsTracked f array) (λ k i. sym (none (sym kind) i) k) tracked
 fresh_chunks id (body.Datatype type) held kind tracked none = tt
 
-new_said : (id : Id) (o : Object) (held : Held) → IsOfKind id.kind o → IsTrackedBody (λ _. []) o.body → Says None id held → Says (Some (record { object = o; mark = Changed })) id held
-new_said id o held kind tracked said = (tt, fresh_chunks id o.body held kind.kind tracked said.1)
+-- no chunk of a dataset's id that has no slot has a record
+no_chunks : (id : Id) (old : Option Slot) (held : Held) → (id.kind ≡ Dataset → old ≡ None) → Says old id held → HasNoChunks held id
+no_chunks id old held free said = λ dataset. (subst (λ (w : Option Slot). Says w id held) (free dataset) said).1 dataset
+
+new_said : (id : Id) (o : Object) (held : Held) → IsOfKind id.kind o → IsTrackedBody (λ _. []) o.body → HasNoChunks held id → Says (Some (record { object = o; mark = Changed })) id held
+new_said id o held kind tracked none = (tt, fresh_chunks id o.body held kind.kind tracked none)
 
 -- ---- a removed object
 
@@ -81,20 +86,16 @@ kind_there q s is t e = subst (λ (x : Slot). IsOfKind q.kind x.object) (same_So
 
 -- ---- an object is put
 
-pub nothing_there : (o : Option Slot) → is_some o ≡ false → o ≡ None
-nothing_there None e = refl
-nothing_there (Some s) e = contrary true (Some s ≡ None) refl e
-
 abbrev new_slot : Object → Slot
 new_slot o = record { object = o; mark = Changed }
 
-module _ (m : Slots) (id : Id) (o : Object) (absent : get m id ≡ None) (kind : IsOfKind id.kind o) (tracked : IsTrackedBody (λ _. []) o.body) where
+module _ (m : Slots) (id : Id) (o : Object) (free : id.kind ≡ Dataset → get m id ≡ None) (kind : IsOfKind id.kind o) (tracked : IsTrackedBody (λ _. []) o.body) where
   now_there : get (insert m id (new_slot o)) id ≡ Some (new_slot o)
   now_there = put_here m id (new_slot o)
 
   put_said : (q : Id) → StillSaid q (get m q) (get (insert m id (new_slot o)) q)
   put_said = everywhere StillSaid m (insert m id (new_slot o)) id (put_others m id (new_slot o))
-      (λ held said. subst (λ (w : Option Slot). Says w id held) (sym now_there) (new_said id o held kind tracked (subst (λ (w : Option Slot). Says w id held) absent said)))
+      (λ held said. subst (λ (w : Option Slot). Says w id held) (sym now_there) (new_said id o held kind tracked (no_chunks id (get m id) held free said)))
       (λ q w held said. said)
 
   put_kind : AreOfKind m → (q : Id) (s : Slot) → get (insert m id (new_slot o)) q ≡ Some s → IsOfKind q.kind s.object
@@ -117,6 +118,11 @@ module _ (m : Slots) (id : Id) (o : Object) (absent : get m id ≡ None) (kind :
     pub put_kinds : (r : Result A E) → OnOk r (n ≡ insert m id (new_slot o)) → OnErr r (n ≡ m) → AreOfKind m → AreOfKind n
     put_kinds (Ok a) ok err kinds = subst AreOfKind (sym ok) (put_kind kinds)
     put_kinds (Err e) ok err kinds = subst AreOfKind (sym err) kinds
+
+-- no object of another kind stands in the way
+pub free_there : {A E : Type 0} (m : Slots) (id : Id) (r : Result A E) → OnErr r (get m id ≡ None) → OnErr r (id.kind ≢ Dataset → get m id ≡ None)
+free_there m id (Ok a) none = tt
+free_there m id (Err e) none = λ other. none
 
 -- ---- none was removed
 

@@ -1,5 +1,5 @@
 -- What records say of the objects of all lanes.
-use Rattle.std.specs.Prelude.{◌≡◌, ℕ, ◌<◌, ◌≤◌, ◌⊎◌, List, [], ◌∷◌, Some}
+use Rattle.std.specs.Prelude.{◌≡◌, ℕ, ◌<◌, ◌≤◌, ◌⊎◌, List, [], ◌∷◌, Some, None}
 use Rattle.std.specs.FinMap.{get}
 use Rattle.std.specs.List.{AllByRecursion}
 use Rattle.object_ids.specs.IdValues.{Id}
@@ -62,6 +62,10 @@ AreGivenUpTo run next m = (id : Id) (o : Object) → get m id ≡ Some o → (id
 -- each record of no object and no chunk is held as before
 abbrev pub KeepsOthers : Held → Held → Type 0
 KeepsOthers old new = (key : List ℕ) → IsOther key → get new key ≡ get old key
+
+-- no record of an object or of a chunk is left
+abbrev pub HasOthersAlone : Held → Type 0
+HasOthersAlone held = (key : List ℕ) → (IsOther key → ⊥) → get held key ≡ None
 
 -- ---- records that can't stand
 

@@ -43,7 +43,7 @@ pub record IsRefusedIn (run next : ℕ) (s : Subject) (body : List ℕ) (i : ℕ
 
 -- the record of a key is taken out, where it is one of a lane
 abbrev pub TakesOut : List ℕ → Held → Held → Type 0
-TakesOut key old new = (new ≡ old) ⊎ ((IsOther key → ⊥) × (new ≡ remove old key))
+TakesOut key old new = (IsOther key × (new ≡ old)) ⊎ ((IsOther key → ⊥) × (new ≡ remove old key))
 
 -- ---- a walk
 

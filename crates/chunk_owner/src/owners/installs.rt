@@ -12,7 +12,7 @@ ghost use Rattle.chunk_owner.specs.Installs.Walks.{Blames, subject_of};
 ghost use Rattle.chunk_owner.specs.Lanes.{AreWholeObjects};
 ghost use Rattle.chunk_owner.specs.Owners.Joined.{AreLanes, whole};
 ghost use Rattle.chunk_owner.specs.Owners.Records.{AreFaultless, AreGivenUpTo, AreSoundIn, AreStillIn};
-ghost use Rattle.chunk_owner.specs.Owners.Records.{DescribesObjects, IsFirstFault, KeepsOthers, LanesSay};
+ghost use Rattle.chunk_owner.specs.Owners.Records.{DescribesObjects, HasOthersAlone, IsFirstFault, KeepsOthers, LanesSay};
 ghost use Rattle.chunk_owner.specs.Owners.Walks.{AreNew, AreNumbered, AreWalks, HasLane, InstallsIn};
 ghost use Rattle.chunk_owner.specs.Owners.Walks.{IsJudged, IsRefusedIn, IsWalked, TakesOut};
 
@@ -48,6 +48,7 @@ pub fn install_lanes(
     ensures rules { IfOk result (λ _. AreSoundIn lanes run next kept.old) }
     ensures faultless { IfOk result (λ _. AreFaultless lanes run next kept.old) }
     ensures others { IfOk result (λ _. KeepsOthers kept.old kept.new) }
+    ensures taken { IfOk result (λ _. HasOthersAlone kept.new) }
     ensures fault { IfErr result (λ e. MatchFault e (IsFirstFault lanes run next kept.old)) }
 {
     records_describe();
@@ -73,6 +74,7 @@ fn walk_records(
     ensures walked { IfOk result (λ w.
         IsWalked lanes run next kept.old w.0.items (option_map (λ k. k.items) w.1)) }
     ensures others { IfOk result (λ _. KeepsOthers kept.old kept.new) }
+    ensures taken { IfOk result (λ _. HasOthersAlone kept.new) }
 {
     let mut owners = new_owners(alloc, lanes)?;
     let mut bad = None;

@@ -1,23 +1,26 @@
 //! Objects that come and go.
 
-ghost use Rattle.std.specs.Prelude.{◌≡◌, ◌≢◌, [], is_some, Some, None, OnOk, OnErr};
+ghost use Rattle.std.specs.Prelude.{◌≡◌, ◌≢◌, [], false, IsTrue, Some, None, OnOk, OnErr};
 ghost use Rattle.std.specs.FinMap.{get};
 ghost use Rattle.object_acts.specs.Objects.{IsOfKind, IsTrackedBody, unmarked};
 ghost use Rattle.object_ids.specs.IdValues.{Id};
+ghost use Rattle.object_ids.specs.declared.ids.Kind.TheVariants.{Dataset};
 ghost use Rattle.chunk_owner.specs.Slots.Marking.{AddsMarks, IsToDrop};
 ghost use Rattle.chunk_owner.specs.Slots.Slots.{AreOfKind, HasSameIds, IsMarkedIn, StillSays, object_of};
 ghost use Rattle.chunk_owner.specs.declared.slots.slot.Mark.TheVariants.{Changed};
 
 use crate::slots::slot::{Mark, Slot};
 use object_acts::Object;
-use object_ids::{IdMap, ObjectId};
+use object_ids::{IdMap, Kind, ObjectId};
 use std::alloc::AllocError;
 
-/// Puts an object, of whose chunks nothing is known, at an id that has none. The next cut writes it.
+/// Puts an object, of whose chunks nothing is known, at an id that has none. The next cut writes it. It takes the place of
+/// a group or a datatype that was removed since the last cut.
 ///
 /// # Errors
 ///
-/// Only where memory runs out, or where the object of this id was removed since the last cut. All stays then.
+/// Only where memory runs out, or where a dataset of this id was removed since the last cut, of whose chunks records may
+/// stand. All stays then.
 pub fn put(slots: &mut IdMap<Slot>, id: ObjectId, object: Object) -> Result<(), AllocError>
     requires new { object_of (get slots.old id) ≡ None }
     requires kind { IsOfKind id.kind object }
@@ -26,11 +29,12 @@ pub fn put(slots: &mut IdMap<Slot>, id: ObjectId, object: Object) -> Result<(), 
     ensures there { OnOk result (object_of (get slots.new id) ≡ Some (unmarked object)) }
     ensures others { (other : Id) → other ≢ id → get slots.new other ≡ get slots.old other }
     ensures err { OnErr result (slots.new ≡ slots.old) }
+    ensures free { OnErr result (id.kind ≢ Dataset → get slots.old id ≡ None) }
     ensures says { StillSays slots.old slots.new }
     ensures alone { AddsMarks (IsMarkedIn id Changed object.body) slots.old slots.new }
     ensures kinds { AreOfKind slots.new }
 {
-    if is_there(slots, &id) {
+    if has_chunks(slots, &id) {
         return Err(AllocError);
     }
     let slot = Slot {
@@ -40,11 +44,15 @@ pub fn put(slots: &mut IdMap<Slot>, id: ObjectId, object: Object) -> Result<(), 
     slots.put(id, slot)
 }
 
-// Whether an id has a slot, be it that of a removed object.
-fn is_there(slots: &IdMap<Slot>, id: &ObjectId) -> bool
-    ensures { result ≡ is_some (get slots.now id.now) }
+// Whether an id has the slot of a dataset, be it that of a removed one.
+fn has_chunks(slots: &IdMap<Slot>, id: &ObjectId) -> bool
+    ensures dataset { IsTrue result → id.now.kind ≡ Dataset }
+    ensures free { result ≡ false → id.now.kind ≡ Dataset → get slots.now id.now ≡ None }
 {
-    slots.get(id).is_some()
+    match id.kind {
+        Kind::Dataset => slots.get(id).is_some(),
+        Kind::Group | Kind::Datatype => false,
+    }
 }
 
 /// Removes the object of an id, where it has one. The next cut says that its records are gone. It takes no memory.

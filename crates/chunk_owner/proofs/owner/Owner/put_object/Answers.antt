@@ -1,6 +1,7 @@
-use Rattle.std.proofs.Common.{◌≡◌, None, OnErr, OnOk, sym, subst, ◌∙◌}
+use Rattle.std.proofs.Common.{◌≡◌, ◌≢◌, None, OnErr, OnOk, sym, subst, ◌∙◌}
 use Rattle.std.specs.FinMap.{get, insert}
 use Rattle.object_ids.specs.Ids.{lane_of}
+use Rattle.object_ids.specs.declared.ids.Kind.TheVariants.{Dataset}
 use Rattle.object_acts.specs.Objects.{unmarked}
 use Rattle.chunk_owner.specs.Slots.Bodies.{IsUndropped}
 use Rattle.chunk_owner.specs.Slots.Slots.{StillSays, objects_of}
@@ -34,6 +35,10 @@ pub returns-clause-err : goal.returns-clause-err
 returns-clause-err c =
     subst (λ (l : Lane). OnErr c.put-done.result (lane_with c.self.inside.lane c.self.inside.lanes c.put-done.new.slots ≡ l)) c.self.view_is
     (lane_stays c.put-done.result c.self.inside.lane c.self.inside.lanes c.self.inside.slots c.put-done.new.slots c.put-done.ensures.err)
+
+pub returns-clause-free : goal.returns-clause-free
+returns-clause-free c =
+    subst (λ (l : Lane). OnErr c.put-done.result (c.args.id.kind ≢ Dataset → get l.slots c.args.id ≡ None)) c.self.view_is c.put-done.ensures.free
 
 pub returns-clause-says : goal.returns-clause-says
 returns-clause-says c = subst (λ (l : Lane). StillSays l.slots c.put-done.new.slots) c.self.view_is c.put-done.ensures.says

@@ -1,7 +1,7 @@
 use Rattle.std.proofs.Common.{◌≡◌, ◌<◌, Bool, List, ℕ, Option, Some, option_map, vec_items, sym, ap, subst}
 use Rattle.containers.specs.TextMaps.Nexts.{IsNext}
 use Rattle.chunk_owner.specs.Owners.Walks.{TakesOut}
-use Rattle.chunk_owner.proofs.OfOwners.DrainLemmas.{next_held, size_at, smaller}
+use Rattle.chunk_owner.proofs.OfOwners.DrainLemmas.{IsDrainedTo, next_held, size_at, smaller}
 use Rattle.chunk_owner.proofs.OfOwners.WalkLemmas.{IsWalkedTo, Judges, walked_bad, walked_begin, walked_more}
 use Rattle.chunk_owner.proofs.owners.installs.walk_records.Goals as goal
 
@@ -58,3 +58,7 @@ loop-at-preserved c =
     walked_more c.args.lanes c.args.run c.args.next held c.loop-at.kept c.take_record.new.kept key c.loop-at.owners.items c.take_record.new.owners.items (option_map vec_items c.loop-at.bad) w at after
     c.in_ok-take_record.ensures.numbered taken
     (subst (λ (b : Bool). Judges c.args.lanes c.args.run c.args.next held key c.loop-at.kept c.loop-at.owners.items b c.take_record.new.owners.items) c.if-not-branch.false judges)
+
+pub returns-clause-taken : goal.returns-clause-taken
+returns-clause-taken c =
+    subst (λ (o : Option (List ℕ)). IsDrainedTo c.loop-at.kept o) (ap (option_map vec_items) c.in_default.is) c.loop-at.invariant.drained
