@@ -5,7 +5,12 @@ use Rattle.flush_journal.specs.Records.{Record}
 use Rattle.flush_journal.specs.Cuts.Cuts.{AddsRecord, AreOnce}
 use Rattle.flush_journal.proofs.OfCuts.CutLemmas.{all_append, all_more}
 use Rattle.containers.proofs.Passing.{contrary}
-use Rattle.register.specs.Cutting.{Adds, AddsOne, IsAmong, OfEither}
+use Rattle.domains.specs.Contents.{Contents}
+use Rattle.object_records.specs.Keys.Keys.{next_key, run_key}
+use Rattle.object_records.specs.Keys.Numbers.{next_bytes, run_bytes}
+use Rattle.register.specs.Cutting.{Adds, AddsAllNodes, AddsOne, AreAdded, IsAmong, IsDueOne, IsRightNode, IsRightOne, OfEither, is_of_all, is_of_paths}
+use Rattle.register.specs.Kept.{AddsInTurn, IsOfNode, numbers_marked, one_where}
+use Rattle.register.specs.Marks.{Marked}
 
 among_front : (key : List ℕ) (xs ys : List Record) → IsAmong key xs → IsAmong key (xs ++ ys)
 among_front key [] ys h = absurd h
@@ -75,3 +80,34 @@ module _ (due : Bool) (key body : List ℕ) (old new : List Record) where
 pub one_as : {due is : Bool} {key k body b : List ℕ} (whole : Bool) (old new : List Record) → due ≡ is → key ≡ k → body ≡ b → AddsOne due key body whole old new → AddsOne is k b whole old new
 one_as whole old new e f g h =
     subst (λ (x : Bool × (List ℕ × List ℕ)). AddsOne x.0 x.1.0 x.1.1 whole old new) (λ i. (e i, (f i, g i))) h
+
+-- ---- in order
+
+-- a whole part of one record has just it, where it is due
+one_exactly : (due : Bool) (key body : List ℕ) (added : List Record) → AreAdded (IsRightOne due key body) (IsDueOne due key) true added
+    → added ≡ one_where due (key, body)
+one_exactly true key body [] a = absurd (a.all refl key (refl, refl))
+one_exactly false key body [] a = refl
+one_exactly true key body (r ∷ []) a = ap (λ (x : Record). x ∷ []) a.right.0.1
+one_exactly false key body (r ∷ []) a = contrary false (r ∷ [] ≡ []) a.right.0.0 refl
+one_exactly due key body (r ∷ q ∷ rs) a =
+    absurd (a.once.0.0 (ap (λ (x : Record). x.0) (a.right.1.0.1 ∙ sym a.right.0.1)))
+
+module _ (run : ℕ) (c : Contents) (m : Marked) (old mid new : List Record) where
+  pub numbers_in_turn : AddsOne m.run run_key (run_bytes run) true old mid → AddsOne m.next next_key (next_bytes c.next) true mid new
+      → new ≡ old ++ numbers_marked run c m
+  numbers_in_turn a b =
+      let one = one_exactly m.run run_key (run_bytes run) a.0 a.1 in
+      let two = one_exactly m.next next_key (next_bytes c.next) b.0 b.1 in
+      b.2 ∙ ap (λ (rs : List Record). rs ++ b.0) a.2 ∙ append_assoc old a.0 b.0 ∙ (λ i. old ++ (one i ++ two i))
+
+  of_node : (r : Record) → OfEither (IsRightNode c (is_of_all c m)) (IsRightNode c (is_of_paths c m)) r → IsOfNode r
+  of_node r (inl h) = (h.0, h.2)
+  of_node r (inr h) = (h.0, h.2)
+
+  pub records_in_turn : mid ≡ old ++ numbers_marked run c m → AddsAllNodes c m true mid new → AddsInTurn run c m old new
+  records_in_turn first b = record {
+    nodes = b.0;
+    added = b.2 ∙ ap (λ (rs : List Record). rs ++ b.0) first ∙ append_assoc old (numbers_marked run c m) b.0;
+    of_nodes = all_more (OfEither (IsRightNode c (is_of_all c m)) (IsRightNode c (is_of_paths c m))) IsOfNode b.0 of_node b.1.right;
+  }

@@ -4,10 +4,12 @@
 --     IsRegisterRecord d r      a record is of what stands
 --     RegisterSays d held      what is held tells the register, but for what is marked
 --     all_kept d      the same register once all is held
+--     AddsInTurn run c m old new      the records of numbers come before those of nodes
 --     AreTexts c      each path of a catalogue is UTF-8
 --     installed, IsInstalled      a register that was made from records
 --     IsUsedUp held      no run is left
-use Rattle.std.specs.Prelude.{◌≡◌, ℕ, ◌+◌, ◌-◌, ◌^◌, List, [], Bool, true, false, ◌&&◌, ◌||◌, Option, Some, None, IsSome, Result, Ok, Err, option_and_then, replicate}
+use Rattle.std.specs.Prelude.{◌≡◌, ℕ, ◌+◌, ◌-◌, ◌^◌, List, [], ◌∷◌, ◌++◌, Bool, true, false, ◌&&◌, ◌||◌, Option, Some, None, IsSome, Result, Ok, Err, option_and_then, replicate, if◌then◌else◌}
+use Rattle.std.specs.List.{AllByRecursion}
 use Rattle.std.specs.Str.{IsUtf8}
 use Rattle.std.specs.FinMap.{contains_key, get}
 use Rattle.flush_journal.specs.Records.{Held, Record}
@@ -45,6 +47,24 @@ pub data IsRegisterRecord (d : RegisterState) (r : Record) : Type 0 where
   of_node : (path : List ℕ) (node : Node) → get d.catalogue.nodes path ≡ Some node
       → r ≡ (node_key path, node_body node) → IsRegisterRecord d r
   of_none : (path : List ℕ) → get d.catalogue.nodes path ≡ None → r ≡ (node_key path, []) → IsRegisterRecord d r
+
+-- ---- the order of records
+
+abbrev pub one_where : Bool → Record → List Record
+one_where due r = if due then r ∷ [] else []
+
+-- the record of the run, and then that of the next domain's number, each where it is marked
+abbrev pub numbers_marked : ℕ → Contents → Marked → List Record
+numbers_marked run c m = one_where m.run (run_key, run_bytes run) ++ one_where m.next (next_key, next_bytes c.next)
+
+abbrev pub IsOfNode : Record → Type 0
+IsOfNode r = (path : List ℕ) × (r.0 ≡ node_key path)
+
+-- those were added, and behind them records of nodes
+pub record AddsInTurn (run : ℕ) (c : Contents) (m : Marked) (old new : List Record) : Type 0 where
+  pub nodes : List Record
+  pub added : new ≡ old ++ (numbers_marked run c m ++ nodes)
+  pub of_nodes : AllByRecursion IsOfNode nodes
 
 -- ---- what is held
 

@@ -1,12 +1,13 @@
 //! The records that a cut of a register appends.
 
-ghost use Rattle.std.specs.Prelude.{◌≡◌, ◌<◌, ℕ, List, Some, IsSome, true, false, length, string_bytes, IfOk, OnOk, OnErr};
+ghost use Rattle.std.specs.Prelude.{◌≡◌, ◌<◌, ◌++◌, ℕ, List, Some, IsSome, true, false, length, string_bytes, IfOk, OnOk, OnErr};
 ghost use Rattle.std.specs.FinMap.{get};
 ghost use Rattle.flush_journal.specs.Batches.{records};
 ghost use Rattle.object_ids.specs.Paths.{path_of};
 ghost use Rattle.register.specs.Cutting.{AddsAllNodes, AddsNode, AddsNodes, AddsNumbers, AddsOne};
 ghost use Rattle.register.specs.Cutting.{AddsRegister, AddsWanted, IsNodeBody};
 ghost use Rattle.register.specs.Cutting.{is_key_wanted, is_of_all, is_of_paths, is_wanted};
+ghost use Rattle.register.specs.Kept.{AddsInTurn, numbers_marked};
 ghost use Rattle.object_records.specs.Keys.Keys.{next_key, node_key, run_key};
 ghost use Rattle.object_records.specs.Keys.Numbers.{next_bytes, run_bytes};
 
@@ -30,6 +31,8 @@ pub(crate) fn append_whole(
 ) -> Result<(), AllocError>
     ensures ok { OnOk result (AddsRegister run catalogue.now marks.now true
         (records into.old) (records into.new)) }
+    ensures order { OnOk result (AddsInTurn run catalogue.now marks.now
+        (records into.old) (records into.new)) }
     ensures err { OnErr result (records into.new ≡ records into.old) }
 {
     let size = into.size();
@@ -52,6 +55,8 @@ fn append_records(
 ) -> Result<(), AllocError>
     ensures ok { OnOk result (AddsRegister run catalogue.now marks.now true
         (records into.old) (records into.new)) }
+    ensures order { OnOk result (AddsInTurn run catalogue.now marks.now
+        (records into.old) (records into.new)) }
     ensures err { OnErr result (AddsRegister run catalogue.now marks.now false
         (records into.old) (records into.new)) }
 {
@@ -68,6 +73,8 @@ fn append_numbers(
 ) -> Result<(), AllocError>
     ensures ok { OnOk result (AddsNumbers run catalogue.now marks.now true
         (records into.old) (records into.new)) }
+    ensures order { OnOk result (records into.new
+        ≡ records into.old ++ numbers_marked run catalogue.now marks.now) }
     ensures err { OnErr result (AddsNumbers run catalogue.now marks.now false
         (records into.old) (records into.new)) }
 {

@@ -22,7 +22,7 @@ ghost use Rattle.register.specs.Decided.{drawn, forgotten, grant_of, granted, in
 ghost use Rattle.register.specs.Decided.{node_made, node_removed, object_granted, one_step};
 ghost use Rattle.register.specs.Decided.{opened, serial_limit};
 ghost use Rattle.register.specs.Grants.{IfGranted, IsGrantOf, IsIssueOf, turns_of};
-ghost use Rattle.register.specs.Kept.{AreTexts, IsInstalled, IsRegisterMarked, IsRegisterRecord, IsUsedUp};
+ghost use Rattle.register.specs.Kept.{AddsInTurn, AreTexts, IsInstalled, IsRegisterMarked, IsRegisterRecord, IsUsedUp};
 ghost use Rattle.register.specs.Kept.{MatchFault, MatchUsed, RegisterSays, TellsUsed, all_kept, installed, run_kept};
 ghost use Rattle.register.specs.Looks.{DecidesUncounted, MaySettle, Settles, SettlesOp};
 ghost use Rattle.register.specs.Looks.{VerdictAnswers, VerdictAnswersEntry};
@@ -190,8 +190,7 @@ impl Register {
     }
 
     /// Appends the records of what changed since the last cut, and takes it as kept: what is held then tells the whole
-    /// register. The record of the run comes first, then that of the next domain's number, then those of nodes; of a register
-    /// that was made, and not changed since, in the order of their paths' bytes.
+    /// register. The record of the run comes first, then that of the next domain's number, then those of nodes.
     ///
     /// # Errors
     ///
@@ -202,6 +201,8 @@ impl Register {
             (λ held. RegisterSays self.old base → RegisterSays self.new held) }
         ensures bodies { AppendsEach (λ r. IsRegisterMarked self.old r.0 × IsRegisterRecord self.old r)
             (records into.old) (records into.new) }
+        ensures order { OnOk result (AddsInTurn self.old.run self.old.catalogue self.old.marks
+            (records into.old) (records into.new)) }
         ensures still { OnOk result (self.new ≡ all_kept self.old) }
         ensures err { OnErr result (self.new ≡ self.old) }
         ensures back { OnErr result (records into.new ≡ records into.old) }

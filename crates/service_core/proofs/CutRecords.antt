@@ -1,5 +1,5 @@
 -- Once all is kept, the next cut writes nothing; and a cut that found no memory stops so.
-use Rattle.std.proofs.Common.{◌≡◌, inl, inr, ℕ, false, is_some, ◌||◌, ◌&&◌, Result, Ok, Err, OnErr, List, [], ◌∷◌, sym, ap, subst, ◌∙◌, true≢false}
+use Rattle.std.proofs.Common.{◌≡◌, inl, inr, ℕ, false, is_some, ◌||◌, ◌&&◌, Result, Ok, Err, OnErr, OnOk, List, [], ◌∷◌, sym, ap, subst, ◌∙◌, true≢false}
 use Rattle.std.specs.FinMap.{contains_key, get-empty}
 use Rattle.containers.specs.TextMaps.Keyed.{text_order}
 use Rattle.object_ids.specs.IdValues.{Id}
@@ -53,6 +53,10 @@ nothing_to_cut s kept r cut = unmarked s r.0 kept cut.marked
 pub err_stops : {A E : Type 0} {P : Type 0} (r : Result A E) → P → OnErr r P
 err_stops (Ok x) p = tt
 err_stops (Err e) p = p
+
+pub ok_always : {A E : Type 0} {P : Type 0} (r : Result A E) → P → OnOk r P
+ok_always (Ok x) p = p
+ok_always (Err e) p = tt
 
 -- in a lane
 pub lanes_stop : {E : Type 0} (r : Result (Unit {0}) E) (d new : RegisterState) (ls left : List Lane) (first mid last : List Record) → IsCutRegister d new first mid → OnErr r (CutsFront ls left mid last)

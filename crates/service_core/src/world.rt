@@ -23,7 +23,7 @@ ghost use Rattle.chunk_owner.specs.Owners.Joined.{AreLanes, whole};
 ghost use Rattle.chunk_owner.specs.Owners.Records.{AreStillIn, AreUndropped, LanesStillSay};
 ghost use Rattle.chunk_owner.specs.Slots.Slots.{IsMarkedIn};
 ghost use Rattle.chunk_owner.specs.declared.slots.slot.Mark.TheVariants.{Changed};
-ghost use Rattle.service_core.specs.Cutting.{StopsCut};
+ghost use Rattle.service_core.specs.Cutting.{CutsInTurn, StopsCut};
 ghost use Rattle.service_core.specs.Described.Told.{AreWhole};
 ghost use Rattle.service_core.specs.Marking.{AddsLaneMarks, AddsRequestMarks, AddsWorldMarks};
 ghost use Rattle.service_core.specs.Marking.{MarksVerdict};
@@ -302,6 +302,7 @@ impl World {
             (records into.old) (records into.new)
             (λ held. WorldSays self.old base → WorldSays self.new held) }
         ensures bodies { AppendsOnce (IsCutRecord self.old) (records into.old) (records into.new) }
+        ensures order { OnOk result (CutsInTurn self.old (records into.old) (records into.new)) }
         ensures kept { OnOk result (IsKept self.new) }
         ensures same { IsSameWorld self.old self.new }
         ensures stops { OnErr result (StopsCut self.old self.new

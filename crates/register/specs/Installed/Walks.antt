@@ -1,5 +1,5 @@
 -- What is installed while records are walked over; for private clauses.
-use Rattle.std.specs.Prelude.{◌≡◌, ◌≢◌, ◌⊎◌, ℕ, ◌+◌, ◌&&◌, nat_lt, nat_le, not, Bool, true, false, List, ◌++◌, Option, Some, None, IsSome, is_some}
+use Rattle.std.specs.Prelude.{◌≡◌, ◌≢◌, ◌⊎◌, ℕ, ◌+◌, ◌&&◌, nat_lt, nat_le, not, Bool, true, false, List, [], ◌∷◌, ◌++◌, Option, Some, None, IsSome, is_some}
 use Rattle.std.specs.FinMap.{FinMap, entries, get, insert, len}
 use Rattle.std.specs.declared.cmp.Ordering.TheVariants.{Less}
 use Rattle.containers.specs.TextMaps.Keyed.{text_order}
@@ -86,6 +86,11 @@ pub data NoPut (run : ℕ) (next : Option ℕ) (path body : List ℕ) (c : Conte
 abbrev pub one_without : Option (List ℕ) → ℕ
 one_without None = 1
 one_without (Some body) = 0
+
+-- no key behind it is a node's
+abbrev pub is_past_nodes : List ℕ → Bool
+is_past_nodes [] = false
+is_past_nodes (byte ∷ rest) = nat_lt 2 byte
 
 -- the nodes before the rest are installed, and keep to the rules; the root is there from the first
 pub record IsNodeWalk (held : Held) (rest : List Record) (c : Contents) (roots : Roots) : Type 0 where

@@ -11,7 +11,7 @@ ghost use Rattle.object_records.specs.InstallFaults.{MatchFault};
 ghost use Rattle.containers.specs.TextMaps.Fronts.{IsLeast};
 ghost use Rattle.register.specs.Installed.Registers.{DescribesRegister, IsNodeRecord, IsRegisterFault, IsRun};
 ghost use Rattle.register.specs.Installed.Registers.{class_at, node_at};
-ghost use Rattle.register.specs.Installed.Walks.{Blames, IsFirst, IsNextOf};
+ghost use Rattle.register.specs.Installed.Walks.{Blames, IsFirst, IsNextOf, is_past_nodes};
 
 use crate::installed::faults::fault_at;
 use crate::installed::nodes::{begin, install_record, read_root};
@@ -79,6 +79,9 @@ fn install_nodes(
     let records = kept.as_tree();
     for (key, body) in records {
         let key = key.as_slice();
+        if is_past_nodes(key) {
+            return Ok(catalogue);
+        }
         let installed = install_record(
             alloc,
             run,
@@ -93,6 +96,16 @@ fn install_nodes(
         }
     }
     Ok(catalogue)
+}
+
+// Whether no key behind it is a node's: so the walk ends at the first object, and passes by no chunk.
+fn is_past_nodes(key: &[u8]) -> bool
+    ensures { result ≡ is_past_nodes key.now }
+{
+    match key {
+        [byte, ..] => *byte > 2,
+        [] => false,
+    }
 }
 
 // The least key at fault where no folder stands at `/`: one before its key that is no path's, or its own.

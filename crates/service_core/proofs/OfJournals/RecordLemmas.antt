@@ -26,7 +26,9 @@ use Rattle.chunk_owner.specs.Lanes.{Lane}
 use Rattle.chunk_owner.specs.Owners.Records.{AreUndropped, IsMarkedIn}
 use Rattle.register.specs.Decided.{RegisterState, opened}
 use Rattle.register.specs.Kept.{IsRegisterRecord, a_node, all_kept, is_marked, of_next, of_node, of_run, the_next, the_run}
+use Rattle.register.specs.Kept.{numbers_marked}
 use Rattle.register.specs.Kept.{of_none as of_no_node}
+use Rattle.service_core.specs.Cutting.{CutsInTurn}
 use Rattle.service_core.specs.Records.{DescribesWorld, IsCutRecord, IsKept, IsSameWorld, IsWorldMarked, IsWorldRecord, WorldSays, as_kept}
 use Rattle.service_core.specs.Steps.{World}
 use Rattle.service_core.specs.Worlds.{State, seen}
@@ -116,16 +118,32 @@ pub first_records : (c : Contents) (lanes : ℕ) (old new : State) (before after
     → AppendsOnce (IsCutRecord old) before after
     → IsSameWorld old new → IsKept new
     → ((held : Held) → WorldSays new held → DescribesWorld held new.register.run (seen new))
+    → CutsInTurn old before after
     → AreFirstRecords c after
-first_records c lanes old new before after is says undropped none cut bodies same kept described = record {
+first_records c lanes old new before after is says undropped none cut bodies same kept described turn = record {
   some = some;
   holds = record { world = as_kept old; nodes = ap (λ (w : World). w.register.catalogue) is; groups = groups; described = told };
   once = once;
   each = all_more (IsCutRecord old) (IsWorldRecord (as_kept old)) after (λ r h. h.stands) each;
   bodies = all_both (IsCutRecord old) (λ r. get (put_all after empty) r.0 ≡ kept_body r.1) (λ r. r.1 ≢ [])
       (has_body c lanes old (ap (λ (w : World). w.register) is) groups undropped (put_all after empty) 0 told) after each (each_is_held empty after once);
+  order = record {
+    nodes = turn.register.nodes;
+    groups = turn.objects.added;
+    are = turn.objects.appended ∙ ap (λ (rs : List Record). rs ++ turn.objects.added) (turn.register.added ∙ numbers);
+    of_nodes = turn.register.of_nodes;
+    of_groups = turn.objects.each;
+  };
 }
   where
+    opens : old.register ≡ opened c lanes 0
+    opens = ap (λ (w : World). w.register) is
+
+    -- in front of the records of nodes
+    numbers : before ++ (numbers_marked old.register.run old.register.catalogue old.register.marks ++ turn.register.nodes)
+        ≡ (run_key, run_bytes 0) ∷ (next_key, next_bytes c.next) ∷ turn.register.nodes
+    numbers = λ i. none i ++ (numbers_marked (opens i).run (opens i).catalogue (opens i).marks ++ turn.register.nodes)
+
     -- nothing stood in the batch before
     whole : (added : List Record) → after ≡ before ++ added → added ≡ after
     whole added appended = sym (appended ∙ ap (λ (rs : List Record). rs ++ added) none)

@@ -1,9 +1,10 @@
 -- What a new journal holds, and why none is made.
 --     HoldsFirstWorld catalogue held      what is held describes the catalogue's world in run 0, with an empty group at each root
---     AreFirstRecords catalogue rs      the records that make such a map, in whatever order
+--     AreFirstRecords catalogue rs      the records that make such a map
+--     ComeInTurn catalogue objects rs   those of the run and of the next number, of nodes, and of objects, in this order
 --     IsFirstJournal catalogue lanes file      a journal for so many lanes of one batch, which is such records
 --     MayRefuseMaking      why no journal is made
-use Rattle.std.specs.Prelude.{◌≡◌, ◌≢◌, ℕ, List, [], Ok}
+use Rattle.std.specs.Prelude.{◌≡◌, ◌≢◌, ℕ, List, [], ◌∷◌, ◌++◌, Ok}
 use Rattle.std.specs.FinMap.{empty}
 use Rattle.std.specs.List.{AllByRecursion}
 use Rattle.flush_journal.specs.Files.{content, fresh}
@@ -13,6 +14,11 @@ use Rattle.flush_journal.specs.Standing.{with_batch}
 use Rattle.flush_journal.specs.declared.why.Why.{Why}
 use Rattle.flush_journal.specs.declared.why.Why.TheVariants.{NoMemory}
 use Rattle.flush_journal.specs.Cuts.Cuts.{AreOnce}
+use Rattle.object_acts.specs.Objects.{Objects}
+use Rattle.object_records.specs.Keys.Keys.{next_key, run_key}
+use Rattle.object_records.specs.Keys.Numbers.{next_bytes, run_bytes}
+use Rattle.chunk_owner.specs.Slots.Bodies.{IsObjectRecord}
+use Rattle.register.specs.Kept.{IsOfNode}
 use Rattle.domains.specs.Contents.{Contents}
 use Rattle.service_core.specs.Records.{DescribesWorld, IsWorldRecord}
 use Rattle.service_core.specs.Steps.{World}
@@ -25,6 +31,14 @@ pub record HoldsFirstWorld (catalogue : Contents) (held : Held) : Type 0 where
   pub groups : HasFirstGroups catalogue world.objects
   pub described : DescribesWorld held 0 world
 
+-- first those of the run and of the next domain's number, then those of nodes, then those of objects
+pub record ComeInTurn (catalogue : Contents) (objects : Objects) (records : List Record) : Type 0 where
+  pub nodes : List Record
+  pub groups : List Record
+  pub are : records ≡ (run_key, run_bytes 0) ∷ (next_key, next_bytes catalogue.next) ∷ (nodes ++ groups)
+  pub of_nodes : AllByRecursion IsOfNode nodes
+  pub of_groups : AllByRecursion (IsObjectRecord objects) groups
+
 -- records that make such a map: one for each key that is held, with the body of what stands there, and no other
 pub record AreFirstRecords (catalogue : Contents) (records : List Record) : Type 0 where
   pub some : records ≢ []
@@ -32,6 +46,7 @@ pub record AreFirstRecords (catalogue : Contents) (records : List Record) : Type
   pub once : AreOnce records
   pub each : AllByRecursion (IsWorldRecord holds.world) records
   pub bodies : AllByRecursion (λ r. r.1 ≢ []) records
+  pub order : ComeInTurn catalogue holds.world.objects records
 
 -- a journal for so many lanes that holds one batch, of such records
 pub record IsFirstJournal (catalogue : Contents) (lanes : ℕ) (file : List ℕ) : Type 0 where

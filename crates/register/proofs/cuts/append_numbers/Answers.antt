@@ -4,7 +4,7 @@ use Rattle.object_records.specs.Keys.Keys.{next_key, run_key}
 use Rattle.object_records.specs.Keys.Numbers.{next_bytes, run_bytes}
 use Rattle.register.specs.Cutting.{IsDueOne, IsRightOne}
 use Rattle.register.proofs.Keeping.{numbers_apart}
-use Rattle.register.proofs.Parts.{in_turn, one_as}
+use Rattle.register.proofs.Parts.{in_turn, numbers_in_turn, one_as}
 use Rattle.register.proofs.cuts.append_numbers.Goals as goal
 
 pub returns-clause-ok : goal.returns-clause-ok
@@ -20,3 +20,9 @@ returns-clause-err c =
     (IsDueOne c.args.marks.now.run run_key) (IsDueOne c.args.marks.now.next next_key) (numbers_apart c.args.catalogue.now c.args.marks.now c.args.run) false _ _ _
     (one_as true _ _ c.has_run.ensures c.run_key.ensures c.run_body.ensures c.in_ok-append_one.ensures.ok)
     (one_as false _ _ c.has_next.ensures c.next_key.ensures (c.next_body.ensures ∙ ap next_bytes c.next_number.ensures.value) second)) c.append_one-2.ensures.err
+
+pub returns-clause-order : goal.returns-clause-order
+returns-clause-order c =
+    on_ok_weaker c.append_one-2.result (λ second. numbers_in_turn c.args.run c.args.catalogue.now c.args.marks.now _ _ _
+    (one_as true _ _ c.has_run.ensures c.run_key.ensures c.run_body.ensures c.in_ok-append_one.ensures.ok)
+    (one_as true _ _ c.has_next.ensures c.next_key.ensures (c.next_body.ensures ∙ ap next_bytes c.next_number.ensures.value) second)) c.append_one-2.ensures.ok

@@ -3,7 +3,7 @@ use Rattle.flush_journal.specs.Batches.{records}
 use Rattle.flush_journal.specs.Records.{Held}
 use Rattle.flush_journal.specs.Cuts.Cuts.{AppendsEach, IsCut}
 use Rattle.register.specs.Decided.{RegisterState}
-use Rattle.register.specs.Kept.{IsRegisterMarked, IsRegisterRecord, RegisterSays}
+use Rattle.register.specs.Kept.{AddsInTurn, IsRegisterMarked, IsRegisterRecord, RegisterSays}
 use Rattle.register.specs.Marks.{Marked}
 use Rattle.register.proofs.Keeping.{appends_right, front_cut, whole_cut}
 use Rattle.register.proofs.Parts.{no_more}
@@ -34,3 +34,8 @@ returns-clause-bodies c =
     let d : RegisterState = record { catalogue = c.self.inside.catalogue; run = c.self.inside.run; serial = c.self.inside.serial; places = c.self.inside.places; issued = c.self.inside.issued; marks = c.self.inside.marks } in
     subst (λ (x : RegisterState). AppendsEach (λ r. IsRegisterMarked x r.0 × IsRegisterRecord x r) (records c.args.into.now) (records c.append_whole.new.into)) c.self.view_is
     (appends_right d true (records c.args.into.now) (records c.append_whole.new.into) c.in_ok-append_whole.ensures.ok)
+
+pub returns-clause-order : goal.returns-clause-order
+returns-clause-order c =
+    subst (λ (x : RegisterState). AddsInTurn x.run x.catalogue x.marks (records c.args.into.now) (records c.append_whole.new.into)) c.self.view_is
+    c.in_ok-append_whole.ensures.order

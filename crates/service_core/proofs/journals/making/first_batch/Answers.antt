@@ -8,4 +8,4 @@ returns c =
     (records c.new-batch.result) (records c.cut.new.into)
     c.in_ok-world.ensures.world c.in_ok-world.ensures.says c.in_ok-world.ensures.undropped c.new-batch.ensures
     c.in_ok-cut.ensures.cut c.in_ok-cut.ensures.bodies c.in_ok-cut.ensures.same c.in_ok-cut.ensures.kept
-    (c.is_described.ensures.described c.in_ok-cut.ensures.kept)
+    (c.is_described.ensures.described c.in_ok-cut.ensures.kept) c.in_ok-cut.ensures.order

@@ -1,4 +1,4 @@
-use Rattle.std.proofs.Common.{List, OnErr, sym, ap, subst, ◌∙◌}
+use Rattle.std.proofs.Common.{List, OnErr, OnOk, sym, ap, subst, ◌∙◌}
 use Rattle.std.specs.FinMap.{empty}
 use Rattle.std.specs.List.{AllByRecursion}
 use Rattle.flush_journal.specs.Batches.{records}
@@ -10,11 +10,11 @@ use Rattle.chunk_owner.specs.Owners.Cutting.{CutsFront}
 use Rattle.chunk_owner.specs.Owners.Joined.{whole}
 use Rattle.chunk_owner.specs.Owners.Records.{IsMarkedIn, IsStandingIn, LanesSay}
 use Rattle.register.specs.Decided.{RegisterState}
-use Rattle.service_core.specs.Cutting.{StopsCut, in_register}
+use Rattle.service_core.specs.Cutting.{CutsInTurn, StopsCut, in_register}
 use Rattle.service_core.specs.Records.{IsCutRecord, IsWorldMarked, WorldSays}
 use Rattle.service_core.specs.Worlds.{State}
 use Rattle.service_core.proofs.RecordLemmas.{both_cut, both_records, register_alone, register_records}
-use Rattle.service_core.proofs.CutRecords.{err_stops, lanes_stop}
+use Rattle.service_core.proofs.CutRecords.{err_stops, lanes_stop, ok_always}
 use Rattle.service_core.proofs.WorldLemmas.{written}
 use Rattle.service_core.proofs.world.World.cut.Goals as goal
 
@@ -73,3 +73,13 @@ returns-clause-stops c =
     (subst (λ (s : State). OnErr c.cut_lanes.result (StopsCut s (record { register = c.cut.new.self; lanes = left }) first last)) c.self.view_is
     (lanes_stop c.cut_lanes.result c.self.inside.register c.cut.new.self c.self.inside.owners.items left first mid last
     (record { cut = c.in_ok-cut.ensures.cut; bodies = c.in_ok-cut.ensures.bodies; kept = c.in_ok-cut.ensures.still }) front))
+
+pub returns-clause-order : goal.returns-clause-order
+returns-clause-order c =
+    let first = records c.args.into.now in
+    let mid = records c.cut.new.into in
+    let last = records c.cut_lanes.new.into in
+    let objects = subst (λ (ls : List Lane). AppendsEach (IsObjectRecord (whole ls)) mid last) c.as_mut_slice.ensures.value c.cut_lanes.ensures.bodies in
+    let s : State = record { register = c.self.inside.register; lanes = c.self.inside.owners.items } in
+    let turn : CutsInTurn s first last = record { mid = mid; register = c.in_ok-cut.ensures.order; objects = objects } in
+    subst (λ (x : State). OnOk c.cut_lanes.result (CutsInTurn x first last)) c.self.view_is (ok_always c.cut_lanes.result turn)
