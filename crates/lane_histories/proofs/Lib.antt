@@ -15,7 +15,9 @@ pub mod RegisterEvents
 pub mod LaneEvents
 pub mod Batches
 pub mod CutLemmas
+pub mod LastCuts
 pub mod ToldCuts
+pub mod SaidCuts
 pub mod DeskEvents
 pub mod OwnLemmas
 pub mod CoreLemmas
@@ -27,3 +29,4 @@ pub mod SinceLemmas
 pub mod ReadyLemmas
 pub mod BackLemmas
 pub mod OwnEntries
+pub mod ShortLemmas

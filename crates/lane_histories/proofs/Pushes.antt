@@ -1,7 +1,7 @@
 -- One item more keeps a history legal.
 use Rattle.std.proofs.Common.{◌≡◌, ◌≢◌, ◌⊎◌, inl, inr, ⊎_elim, ℕ, ◌<◌, not, [], ◌∷◌, ◌++◌, refl, ap, sym, ◌∙◌, subst, arith, append_assoc}
 use Rattle.lane_histories.specs.Services.{Service, World}
-use Rattle.lane_histories.specs.Histories.{RegisterItem, Keeping, First, Second, part_of, Outcome, LaneItem, Passed, WasCut, ticket_of, History, IsIn, StartsWith, changed_at, tickets, tickets_of, issued, places, drawn, register_after, objects_after, LaneList}
+use Rattle.lane_histories.specs.Histories.{RegisterItem, Keeping, First, Second, part_of, Outcome, LaneItem, Passed, ticket_of, History, IsIn, StartsWith, changed_at, tickets, tickets_of, issued, places, drawn, register_after, objects_after, LaneList}
 use Rattle.lane_histories.specs.TicketOrder.{Precedes}
 use Rattle.lane_histories.specs.Legal.{IsLegalRegisterItem, IsNext, IsPrefix, IsReached, IsReachedBy, IsLegalLaneItem, IsLegalLane, IsLegal, PairsAgree, SecondsFollow, is_skipped, is_well, with_register_item, with_keeping, with_lane_item}
 use Rattle.lane_histories.proofs.Lists.{in_front, in_last, starts_itself}

@@ -12,29 +12,21 @@ use Rattle.lane_histories.proofs.Growth.{below_cut}
 use Rattle.lane_histories.proofs.Orders.{in_tickets}
 use Rattle.lane_histories.proofs.Lists.{all_at, all_both, all_in, in_either, in_front, take_all, take_front}
 use Rattle.lane_histories.proofs.Orders.{InOrder, behind, lane_ordered}
-use Rattle.lane_histories.proofs.Growth.{at_longer}
-use Rattle.lane_histories.proofs.RegisterLists.{at_end, cut_was_drawn}
+use Rattle.lane_histories.proofs.RegisterLists.{cut_was_drawn}
 use Rattle.lane_histories.proofs.LaneLists.{at_each, objects_push}
 use Rattle.lane_histories.proofs.Sound.{Backing, BuiltLane}
 use Rattle.lane_histories.proofs.Batches.{built_tells}
-use Rattle.lane_histories.proofs.CutLemmas.{last_is_register, objects_cut_now, objects_cut_stays, register_cut_few, register_cut_push, register_cut_stays}
+use Rattle.lane_histories.proofs.CutLemmas.{last_is_register, objects_cut_now, objects_cut_stays}
+use Rattle.lane_histories.proofs.LastCuts.{catalogue_at_item, catalogue_goes_on, catalogue_now, objects_go_on}
 
 module _ (s : Service) (j : JournalContents s) (start : World s) where
   -- ---- as the history grows
 
   pub told_goes_on : (h g : History s) (x : j.Content) → IsLegal s start h → GoesOn h g → TellsCuts s j start h x → TellsCuts s j start g x
-  told_goes_on h g x legal on b =
-      let register = on.longer.register in
-      let same : register_cut g.register ≡ register_cut h.register = ap register_cut register.1 ∙ register_cut_stays s 0 h.register register.0 on.entries in
-      let there : s.catalogue (register_at s (register_cut g.register) start.register g.register) ≡ s.catalogue (register_at s (register_cut h.register) start.register h.register) =
-      ap (λ (q : ℕ). s.catalogue (register_at s q start.register g.register)) same ∙ ap (λ (items : RegisterList s). s.catalogue (register_at s (register_cut h.register) start.register items)) register.1
-      ∙ at_longer s (register_cut h.register) start.register h.register register.0 (register_cut_few s start.register h.register legal.register) in
-      record {
-        lanes = λ l few.
-            let more = on.longer.lane l in
-            subst (j.TellsLane x l) (sym (ap (objects_at_cut s (start.objects l)) more.1 ∙ objects_cut_stays s (start.objects l) (start.objects l) (h.lane l) more.0 (on.turns l))) (b.lanes l few);
-        catalogue = subst (j.TellsCatalogue x) (sym there) b.catalogue;
-      }
+  told_goes_on h g x legal on b = record {
+    lanes = λ l few. subst (j.TellsLane x l) (sym (objects_go_on s start h g l on)) (b.lanes l few);
+    catalogue = subst (j.TellsCatalogue x) (sym (catalogue_goes_on s start h g legal.register on)) b.catalogue;
+  }
 
   module _ (h : History s) (legal : IsLegal s start h) where
     -- an item of the register that isn't a register cut with memory
@@ -42,20 +34,13 @@ module _ (s : Service) (j : JournalContents s) (start : World s) where
         → register_cut_from (register_cut h.register) (i ∷ []) ≡ register_cut h.register → TellsCuts s j start h x
         → TellsCuts s j start (with_register_item h i) x
     told_at_register i x same b =
-        let stays : register_cut (h.register ++ i ∷ []) ≡ register_cut h.register = register_cut_push s 0 h.register i ∙ same in
-        let there : s.catalogue (register_at s (register_cut (h.register ++ i ∷ [])) start.register (h.register ++ i ∷ [])) ≡ s.catalogue (register_at s (register_cut h.register) start.register h.register) =
-        ap (λ (q : ℕ). s.catalogue (register_at s q start.register (h.register ++ i ∷ []))) stays ∙ at_longer s (register_cut h.register) start.register h.register (i ∷ []) (register_cut_few s start.register h.register legal.register) in
-        record { lanes = b.lanes; catalogue = subst (j.TellsCatalogue x) (sym there) b.catalogue }
+        record { lanes = b.lanes; catalogue = subst (j.TellsCatalogue x) (sym (catalogue_at_item s start h.register i legal.register same)) b.catalogue }
 
     pub told_with_register : (x y : j.Content) → ((l : ℕ) → KeepsLane j l x y)
         → j.TellsCatalogue y (s.catalogue (register_after s start.register h.register)) → TellsCuts s j start h x
         → TellsCuts s j start (with_register_item h (RegisterCut (places h.register) true)) y
     told_with_register x y keeps own b =
-        let i : RegisterItem s.Asked s.Verdict = RegisterCut (places h.register) true in
-        let now : register_cut (h.register ++ i ∷ []) ≡ places h.register = register_cut_push s 0 h.register i in
-        let there : s.catalogue (register_at s (register_cut (h.register ++ i ∷ [])) start.register (h.register ++ i ∷ [])) ≡ s.catalogue (register_after s start.register h.register) =
-        ap (λ (q : ℕ). s.catalogue (register_at s q start.register (h.register ++ i ∷ []))) now ∙ at_longer s (places h.register) start.register h.register (i ∷ []) (omega arith) ∙ ap s.catalogue (at_end s start.register h.register) in
-        record { lanes = λ l few. keeps l _ (b.lanes l few); catalogue = subst (j.TellsCatalogue y) (sym there) own }
+        record { lanes = λ l few. keeps l _ (b.lanes l few); catalogue = subst (j.TellsCatalogue y) (sym (catalogue_now s start h.register)) own }
 
     pub told_with_lane : (l number c : ℕ) (x y : j.Content)
         → (l < s.lanes → j.TellsLane y l (objects_after s (start.objects l) (h.lane l))) → ((m : ℕ) → m ≢ l → KeepsLane j m x y)

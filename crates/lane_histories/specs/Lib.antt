@@ -15,3 +15,4 @@ pub mod Ready
 pub mod Since
 pub mod Counting
 pub mod Laws
+pub mod Shorts

@@ -2,9 +2,13 @@
 --     Marking                  a lane's objects with marks on what a journal may not hold yet
 --     IsSince m l last marked  every content that says the lane as it was at its last cut says it now, but for what is marked
 --     CutsTell m               so a cut, which writes what is marked, makes a content tell the lane as it stands
-use Rattle.std.specs.Prelude.{◌≡◌, ℕ}
-use Rattle.lane_histories.specs.Services.{Service}
-use Rattle.lane_histories.specs.JournalContents.{JournalContents}
+--     SaysCuts m .. x was      a content says each lane, and tells the catalogue, as they were at their last cuts
+use Rattle.std.specs.Prelude.{◌≡◌, ℕ, ◌<◌}
+use Rattle.lane_histories.specs.Services.{Service, World}
+use Rattle.lane_histories.specs.Histories.{History, register_at}
+use Rattle.lane_histories.specs.Legal.{IsLegal}
+use Rattle.lane_histories.specs.Cuts.{GoesOn, objects_at_cut, register_cut}
+use Rattle.lane_histories.specs.JournalContents.{JournalContents, TellsCuts}
 
 pub record Marking (s : Service) (j : JournalContents s) : Type 1 where
   -- the objects, with marks, and with whatever else a lane knows of its records
@@ -40,6 +44,17 @@ module _ {s : Service} {j : JournalContents s} (marking : Marking s j) where
     pub says : marking.Says after l new
     pub since : IsSince l new new
 
+  -- a content says a lane of which nothing is marked as another one did
+  abbrev pub KeepsSaid : ℕ → j.Content → j.Content → Type 0
+  KeepsSaid l old new = (marked : marking.Marked) → marking.IsStill marked → marking.Says old l marked → marking.Says new l marked
+
+  -- the lanes as they were at their last cuts that found memory, when nothing was marked; the catalogue as it was at its own
+  pub record SaysCuts (start : World s) (h : History s) (x : j.Content) (was : ℕ → marking.Marked) : Type 0 where
+    pub says : (l : ℕ) → l < s.lanes → marking.Says x l (was l)
+    pub still : (l : ℕ) → l < s.lanes → marking.IsStill (was l)
+    pub objects : (l : ℕ) → l < s.lanes → marking.objects (was l) ≡ objects_at_cut s (start.objects l) (h.lane l)
+    pub catalogue : j.TellsCatalogue x (s.catalogue (register_at s (register_cut h.register) start.register h.register))
+
 -- a lane is since itself
 abbrev pub LanesAreSinceThemselves : {s : Service} {j : JournalContents s} → Marking s j → Type 0
 LanesAreSinceThemselves m = (l : ℕ) (marked : m.Marked) → IsSince m l marked marked
@@ -53,3 +68,15 @@ abbrev pub CutsTell : {s : Service} {j : JournalContents s} → Marking s j → 
 CutsTell {s} {j} m =
     SaysAll m → (l : ℕ) (last old new : m.Marked) (before after : j.Content)
     → IsSince m l last old → m.Says before l last → CutsMarked m l old new before after → IsCutTold m l old new after
+
+-- what says all cuts tells them
+abbrev pub SaidCutsTell : {s : Service} {j : JournalContents s} → Marking s j → Type 0
+SaidCutsTell {s} {j} m =
+    SaysAll m → (start : World s) (h : History s) (x : j.Content) (was : ℕ → m.Marked)
+    → SaysCuts m start h x was → TellsCuts s j start h x
+
+-- it says them still as requests and turns come, and no cut
+abbrev pub CutsStaySaid : {s : Service} {j : JournalContents s} → Marking s j → Type 0
+CutsStaySaid {s} {j} m =
+    (start : World s) (h g : History s) (x : j.Content) (was : ℕ → m.Marked) → IsLegal s start h → GoesOn h g
+    → SaysCuts m start h x was → SaysCuts m start g x was

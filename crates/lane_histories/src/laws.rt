@@ -16,8 +16,9 @@ ghost use Rattle.lane_histories.specs.Laws.{VerdictsAreOfTheirPlaces};
 ghost use Rattle.lane_histories.specs.Laws.{WholeAnswersArePlain, WholeIsPlain};
 ghost use Rattle.lane_histories.specs.Ready.{KeptIsGiven, Readiness, TurnsAreReady};
 ghost use Rattle.lane_histories.specs.Services.{Service};
-ghost use Rattle.lane_histories.specs.Since.{CutsTell, LanesAreSinceThemselves, Marking};
-ghost use Rattle.lane_histories.specs.Since.{TurnsStaySince};
+ghost use Rattle.lane_histories.specs.Shorts.{ShortsAreTold};
+ghost use Rattle.lane_histories.specs.Since.{CutsStaySaid, CutsTell, LanesAreSinceThemselves};
+ghost use Rattle.lane_histories.specs.Since.{Marking, SaidCutsTell, TurnsStaySince};
 
 /// A service with a register and some number of lanes, whose world a journal keeps. No value of it
 /// is made.
@@ -100,6 +101,12 @@ pub fn replies_are_replays<S: Lanes>()
     ensures outcome { (lanes : ℕ) → OutcomesAreFound (S.service lanes) }
 {}
 
+/// A place is answered by the verdict of its entry, or by its turns: that memory was wanting exactly
+/// where one of them found none, but for those in each lane, which the register answers.
+pub fn wants_of_memory_are_told<S: Lanes>()
+    ensures { (lanes : ℕ) → ShortsAreTold (S.service lanes) }
+{}
+
 /// What is kept from a history is kept, with the same numbers, from each longer one.
 pub fn what_is_kept_stays_kept<S: Lanes>()
     ensures { (lanes : ℕ) → StaysKept (S.service lanes) }
@@ -125,11 +132,14 @@ pub fn events_keep<S: Lanes>()
 {}
 
 /// From its marks alone a lane knows that a cut makes what was cut tell the lane as it stands,
-/// where that said it as it was at its last cut.
+/// where that said it as it was at its last cut. What says each lane so, and tells the catalogue,
+/// tells all cuts; and it says them still as requests and turns come.
 pub fn cuts_tell_the_lane<S: MarkedLanes>()
     ensures itself { (lanes : ℕ) → LanesAreSinceThemselves (S.marking lanes) }
     ensures turn { (lanes : ℕ) → TurnsStaySince (S.marking lanes) }
     ensures cut { (lanes : ℕ) → CutsTell (S.marking lanes) }
+    ensures all { (lanes : ℕ) → SaidCutsTell (S.marking lanes) }
+    ensures stay { (lanes : ℕ) → CutsStaySaid (S.marking lanes) }
 {}
 
 /// In a legal history the next turn of a lane finds its objects as it needs them; and what is kept

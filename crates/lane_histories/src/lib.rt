@@ -14,5 +14,5 @@ pub use laws::{
     Lanes, MarkedLanes, ReadyLanes, cut_pairs_are_kept, cuts_tell_the_lane, events_keep,
     own_entries_are_in_order, prefixes_are_legal, registers_count, replays_are_products,
     replies_are_replays, turns_are_ready, turns_come_in_order, verdicts_are_of_their_places,
-    what_is_kept_stays_kept, whole_histories_are_plain,
+    wants_of_memory_are_told, what_is_kept_stays_kept, whole_histories_are_plain,
 };

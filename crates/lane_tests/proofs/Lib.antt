@@ -1,1 +1,2 @@
 mod LastLemmas
+pub mod OfExamples

@@ -2,11 +2,12 @@
 //! the answers of one world in order of places, and after each event what every crash leaves.
 //!
 //! Where a cut finds no memory in one lane, and where a link does, no list here can say: the laws over lists of
-//! `lane_examples` show it, `tears` and `turns` there.
+//! `examples` show it, `tears` and `turns` there.
 #![tactic(auto)]
 
 #[cfg(test)]
 mod events;
+pub mod examples;
 #[cfg(test)]
 mod kept;
 #[cfg(test)]

@@ -7,7 +7,6 @@ use access_lists::{Caller, Names, Right};
 use object_ids::Name;
 use object_ops::{Refusal, Reply, Request, refusal_json};
 use rest_requests::{RequestParts, Tokens, read_request};
-use serde_json::Value;
 use std::alloc::Global;
 use std::test::Fail;
 
@@ -95,14 +94,13 @@ pub(crate) fn read_row(alloc: Global, tokens: &Tokens, row: &str) -> Result<(Cal
 
 // ---- answers
 
-fn with_status(alloc: Global, status: u16, body: &Value) -> Result<String, Fail> {
-    let text = body.to_string(alloc)?;
-    Ok(format!(in alloc; "{status} {text}")?)
+fn with_status(alloc: Global, status: u16, body: &str) -> Result<String, Fail> {
+    Ok(format!(in alloc; "{status} {body}")?)
 }
 
 pub(crate) fn refusal_text(alloc: Global, path: &str, refusal: &Refusal) -> Result<String, Fail> {
     let tree = refusal_json(alloc, path, refusal)?;
-    with_status(alloc, refusal.status(), &tree)
+    with_status(alloc, refusal.status(), tree.to_string(alloc)?.as_str())
 }
 
 pub(crate) fn denial_text(alloc: Global, path: &str, right: Right) -> Result<String, Fail> {
@@ -112,7 +110,7 @@ pub(crate) fn denial_text(alloc: Global, path: &str, right: Right) -> Result<Str
 /// The status and the body of an answer.
 pub(crate) fn reply_text(alloc: Global, path: &str, reply: &Reply) -> Result<String, Fail> {
     match reply {
-        Reply::Done { status, body } => with_status(alloc, *status, body.value()),
+        Reply::Done { status, body } => with_status(alloc, *status, body.text(alloc)?.as_str()),
         Reply::Refused(refusal) => refusal_text(alloc, path, refusal),
     }
 }

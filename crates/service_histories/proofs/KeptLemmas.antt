@@ -1,5 +1,5 @@
 -- What is kept of the objects of a lane.
-use Rattle.std.proofs.Common.{◌≡◌, ℕ, Some, sym, ◌∙◌}
+use Rattle.std.proofs.Common.{ℕ, sym, ◌∙◌}
 use Rattle.std.proofs.lemmas.Option.{none-some}
 use Rattle.domains.specs.Contents.{Contents}
 use Rattle.object_acts.specs.Objects.{Objects}

@@ -14,7 +14,9 @@ use Rattle.object_acts.specs.declared.objects.Object.{Object}
 use Rattle.object_acts.specs.Objects.{kind_of_body}
 use Rattle.object_records.specs.Keys.Keys.{IsChunk, IsSubject, Subject, chunk, chunk_key, key_of, next_key, node_key, next_number, object, object_key, run_key, the_run}
 use Rattle.chunk_owner.proofs.OfSlots.KeyFacts.{index_numbers}
-use Rattle.chunk_owner.specs.Slots.Slots.{Describes, HasCells, IsMarked, IsRecordOf, Slots, chunks_at, is_index}
+use Rattle.chunk_owner.specs.Slots.Slots.{AreChunksIn, Describes, HasCells, HasRecord, IsMarked, IsRecordOf, Says, Slots, chunks_at, is_index}
+use Rattle.chunk_owner.specs.declared.slots.slot.Mark.{Mark}
+use Rattle.chunk_owner.specs.declared.slots.slot.Slot.{Slot}
 use Rattle.register.specs.Decided.{RegisterState}
 use Rattle.register.specs.Installed.Registers.{is_node_key}
 use Rattle.register.specs.Kept.{IsRegisterMarked, a_node, the_next}
@@ -120,6 +122,15 @@ module _ (others : OthersStay) where
     described_on None h = (record_is ∙ h.0, λ dataset i. ap (λ (f : List ℕ → List ℕ). f i) (all_chunks dataset) ∙ h.1 dataset i)
     described_on (Some o) h = (h.0, subst (IsRecordOf (Some o)) (sym record_is) h.1, cells o.body h.0 h.2)
 
+    chunks_in : (mark : Mark) (b : Body) → kind_of_body b ≡ id.kind → AreChunksIn mark (chunks_at old id) b → AreChunksIn mark (chunks_at new id) b
+    chunks_in mark (body.Group links) kind h = tt
+    chunks_in mark (body.Dataset array) kind h = subst (λ (f : List ℕ → List ℕ). AreChunksIn mark f (body.Dataset array)) (sym (all_chunks (sym kind))) h
+    chunks_in mark (body.Datatype type) kind h = tt
+
+    pub said_on : (o : Option Slot) → ((s : Slot) → o ≡ Some s → kind_of_body s.object.body ≡ id.kind) → Says o id old → Says o id new
+    said_on None kinds h = described_on None h
+    said_on (Some s) kinds h = (subst (HasRecord s.mark s.object) (sym record_is) h.0, chunks_in s.mark s.object.body (kinds s refl) h.1)
+
   -- records of the register
   module _ (added : List Record) (base : Held) (low : AllByRecursion (λ r. IsLowKey r.0) added) where
     pub high_stays : (lanes l : ℕ) (key : List ℕ) → IsKeyIn lanes l key → get (put_all added base) key ≡ get base key
@@ -128,12 +139,19 @@ module _ (others : OthersStay) where
     pub low_strays : HasNoStrays base → HasNoStrays (put_all added base)
     low_strays = strays_stay IsLowKey added base low low_no_stray
 
-    pub low_describes : (id : Id) → InRange id → (o : Option Object) → Describes base id o → Describes (put_all added base) id o
-    low_describes id range =
-        described_on base (put_all added base) id
-        (high_stays 1 (lane_of 1 id) (object_key id) (record { id = id; range = range; home = refl; of = inl refl }))
-        (λ dataset i index. high_stays 1 (lane_of 1 id) (chunk_key id i)
-        (record { id = id; range = range; home = refl; of = inr (i, record { kind = dataset; id = range; numbers = index_numbers i index }, refl) }))
+    module _ (id : Id) (range : InRange id) where
+      same_record : get (put_all added base) (object_key id) ≡ get base (object_key id)
+      same_record = high_stays 1 (lane_of 1 id) (object_key id) (record { id = id; range = range; home = refl; of = inl refl })
+
+      same_chunks : id.kind ≡ Dataset → (i : List ℕ) → is_index i ≡ true → get (put_all added base) (chunk_key id i) ≡ get base (chunk_key id i)
+      same_chunks dataset i index = high_stays 1 (lane_of 1 id) (chunk_key id i)
+          (record { id = id; range = range; home = refl; of = inr (i, record { kind = dataset; id = range; numbers = index_numbers i index }, refl) })
+
+      pub low_describes : (o : Option Object) → Describes base id o → Describes (put_all added base) id o
+      low_describes = described_on base (put_all added base) id same_record same_chunks
+
+      pub low_says : (o : Option Slot) → ((s : Slot) → o ≡ Some s → kind_of_body s.object.body ≡ id.kind) → Says o id base → Says o id (put_all added base)
+      low_says = said_on base (put_all added base) id same_record same_chunks
 
   -- records of a lane
   module _ (differ : KeysDiffer) (lanes l : ℕ) (added : List Record) (base : Held) (high : AllByRecursion (λ r. IsKeyIn lanes l r.0) added) where
@@ -159,9 +177,15 @@ module _ (others : OthersStay) where
           (λ of. let s = differ (chunk k.id of.0) (chunk q i) of.1 is (sym of.2 ∙ e) in other_id k.id k.home (let same : k.id ≡ q = cc in same))
           k.of
 
+      record_stays : get (put_all added base) (object_key q) ≡ get base (object_key q)
+      record_stays = stays (IsKeyIn lanes l) added base (object_key q) high no_object
+
+      chunks_stay : q.kind ≡ Dataset → (i : List ℕ) → is_index i ≡ true → get (put_all added base) (chunk_key q i) ≡ get base (chunk_key q i)
+      chunks_stay dataset i index = stays (IsKeyIn lanes l) added base (chunk_key q i) high
+          (no_chunk i (record { kind = dataset; id = range; numbers = index_numbers i index }))
+
       pub far_describes : (o : Option Object) → Describes base q o → Describes (put_all added base) q o
-      far_describes =
-          described_on base (put_all added base) q
-          (stays (IsKeyIn lanes l) added base (object_key q) high no_object)
-          (λ dataset i index. stays (IsKeyIn lanes l) added base (chunk_key q i) high
-          (no_chunk i (record { kind = dataset; id = range; numbers = index_numbers i index })))
+      far_describes = described_on base (put_all added base) q record_stays chunks_stay
+
+      pub far_says : (o : Option Slot) → ((s : Slot) → o ≡ Some s → kind_of_body s.object.body ≡ q.kind) → Says o q base → Says o q (put_all added base)
+      far_says = said_on base (put_all added base) q record_stays chunks_stay

@@ -14,3 +14,4 @@ pub mod ImageLemmas
 pub mod CountLemmas
 pub mod ClosingLemmas
 pub mod KeptLemmas
+pub mod WantLemmas

@@ -3,7 +3,7 @@
 --     OwnerCutsTell        a cut of an owner makes what was cut tell its lane as it stands, and leaves all else
 --     RegisterCutsTell     so does one of the register
 --     SaidCutsAreTold      what says each owner as it was at its last cut tells all cuts
-use Rattle.std.specs.Prelude.{◌≡◌, ℕ, ◌<◌, List}
+use Rattle.std.specs.Prelude.{◌≡◌, ◌≢◌, ℕ, List}
 use Rattle.std.specs.FinMap.{get}
 use Rattle.flush_journal.specs.Cuts.Cuts.{IsCut}
 use Rattle.flush_journal.specs.Records.{Held, Record, put_all}
@@ -15,11 +15,10 @@ use Rattle.register.specs.Decided.{RegisterState}
 use Rattle.register.specs.Installed.Registers.{DescribesRegister}
 use Rattle.register.specs.Kept.{IsRegisterMarked, RegisterSays, all_kept}
 use Rattle.register.specs.Marks.{no_marks}
-use Rattle.lane_histories.specs.Cuts.{objects_at_cut, register_cut}
-use Rattle.lane_histories.specs.Histories.{History, register_at}
+use Rattle.lane_histories.specs.Histories.{History}
 use Rattle.lane_histories.specs.Services.{World}
 use Rattle.lane_histories.specs.JournalContents.{CutsCatalogue, CutsLane, TellsCuts}
-use Rattle.lane_histories.specs.Since.{IsSince, Marks}
+use Rattle.lane_histories.specs.Since.{IsSince, KeepsSaid, Marks, SaysCuts}
 use Rattle.service_histories.specs.ArrayServices.{KeptPart, array_service, kept_part}
 use Rattle.service_histories.specs.JournalParts.{IsKeptPart, TellsRegister, array_contents, kept_register}
 use Rattle.service_histories.specs.Markings.{IsOwner, IsStillOwner, SaysOwner, array_marking}
@@ -39,10 +38,11 @@ pub record CutsOwner (old new : Lane) (base : Held) (first last : List Record) :
   pub objects : new.objects ≡ old.objects
   pub same : IsSameLane old new
 
--- with its records, what was cut tells the lane, and the owner is since this cut
+-- with its records, what was cut tells the lane, the owner is since this cut, and each other owner is said as before
 pub record IsOwnerCut (lanes l : ℕ) (old new : Lane) (base held : Held) : Type 0 where
   pub cuts : CutsLane (array_contents lanes) l old.objects base held
   pub says : SaysOwner lanes l held new
+  pub others : (m : ℕ) → m ≢ l → KeepsSaid (array_marking lanes) m base held
 
 abbrev pub OwnerCutsTell : ℕ → Type 0
 OwnerCutsTell lanes =
@@ -65,6 +65,7 @@ pub record CutsRegister (old new : RegisterState) (base : Held) (first last : Li
 pub record IsRegisterCut (lanes : ℕ) (old new : RegisterState) (base held : Held) : Type 0 where
   pub cuts : CutsCatalogue (array_contents lanes) (kept_part old) base held
   pub since : IsRegisterSince (kept_part old) new
+  pub owners : (m : ℕ) → KeepsSaid (array_marking lanes) m base held
 
 abbrev pub RegisterCutsTell : ℕ → Type 0
 RegisterCutsTell lanes =
@@ -80,14 +81,8 @@ KeptRegistersAreParts =
 
 -- ---- all that was cut
 
--- what was cut says each owner as it was at its last cut that found memory, and tells the register as it was at its last one
-pub record SaysCuts (lanes : ℕ) (start : World (array_service lanes)) (h : History (array_service lanes)) (held : Held) (was : ℕ → Lane) : Type 0 where
-  pub says : (l : ℕ) → l < lanes → SaysOwner lanes l held (was l)
-  pub still : (l : ℕ) → l < lanes → IsStillOwner (was l)
-  pub objects : (l : ℕ) → l < lanes → (was l).objects ≡ objects_at_cut (array_service lanes) (start.objects l) (h.lane l)
-  pub register : TellsRegister held (kept_part (register_at (array_service lanes) (register_cut h.register) start.register h.register))
-
+-- what says each owner, and tells the register, as they were at their last cuts
 abbrev pub SaidCutsAreTold : ℕ → Type 0
 SaidCutsAreTold lanes =
     (start : World (array_service lanes)) (h : History (array_service lanes)) (held : Held) (was : ℕ → Lane)
-    → SaysCuts lanes start h held was → TellsCuts (array_service lanes) (array_contents lanes) start h held
+    → SaysCuts (array_marking lanes) start h held was → TellsCuts (array_service lanes) (array_contents lanes) start h held

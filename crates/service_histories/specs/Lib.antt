@@ -3,7 +3,9 @@ pub mod JournalParts
 pub mod Markings
 pub mod Readies
 pub mod PlainSteps
+pub mod Wants
 pub mod Cuttings
+pub mod KeptArrays
 pub mod Tellings
 pub mod Calls
 pub mod Images

@@ -25,6 +25,7 @@ ghost use Rattle.service_histories.specs.Cuttings.{KeptRegistersAreParts, OwnerC
 ghost use Rattle.service_histories.specs.Cuttings.{OwnersMark, RegisterCutsTell, SaidCutsAreTold};
 ghost use Rattle.service_histories.specs.Images.{ImagesOpen};
 ghost use Rattle.service_histories.specs.JournalParts.{array_contents};
+ghost use Rattle.service_histories.specs.KeptArrays.{OwnerCutsWrite, RegisterCutsWrite};
 ghost use Rattle.service_histories.specs.KeptObjects.{KeptObjectsStand};
 ghost use Rattle.service_histories.specs.Markings.{array_marking};
 ghost use Rattle.service_histories.specs.PlainSteps.{EntriesAreSteps, HistoriesAreReplays};
@@ -33,6 +34,7 @@ ghost use Rattle.service_histories.specs.Readies.{TurnsFindWhatTheyNeed, array_r
 ghost use Rattle.service_histories.specs.Tellings.{InstallsAreTold, KeptRegistersAreSince};
 ghost use Rattle.service_histories.specs.Tellings.{KeptWorldsAreDescribed, KeptWorldsAreTold};
 ghost use Rattle.service_histories.specs.Tellings.{OwnersAreSaid, WorldsOpen};
+ghost use Rattle.service_histories.specs.Wants.{WantsAreTold};
 
 use crate::service::ArrayService;
 use chunk_owner::installs::records_tell_one;
@@ -69,6 +71,14 @@ pub fn replies_are_replays()
 {
     lane_histories::replays_are_products::<ArrayService>();
     lane_histories::replies_are_replays::<ArrayService>();
+}
+
+/// A place is told that memory was wanting exactly where its verdict says so, or one of its turns
+/// found none.
+pub fn wants_of_memory_are_told()
+    ensures { (lanes : ℕ) → WantsAreTold lanes }
+{
+    lane_histories::wants_of_memory_are_told::<ArrayService>();
 }
 
 /// Where each ticket was passed and each turn found memory, the world and the answers are those of
@@ -172,23 +182,27 @@ pub fn turns_are_ready()
 
 /// By its marks alone an owner knows that its cut makes what was cut tell its lane as it stands,
 /// where that said the lane as it was at its last cut; and its records leave what is told of each
-/// other lane, and of the register. What says each owner so tells all cuts.
+/// other lane, and of the register. What says each owner so tells all cuts. Such a cut is one that
+/// a desk asks for.
 pub fn cuts_tell_the_lane()
     ensures says { (lanes : ℕ) → SaysAll (array_marking lanes) }
     ensures marks { (lanes : ℕ) → OwnersMark lanes }
     ensures turn { (lanes : ℕ) → TurnsStaySince (array_marking lanes) }
     ensures cut { (lanes : ℕ) → OwnerCutsTell lanes }
     ensures all { (lanes : ℕ) → SaidCutsAreTold lanes }
+    ensures write { (lanes : ℕ) → OwnerCutsWrite lanes }
 {
     lane_histories::cuts_tell_the_lane::<ArrayService>();
     last_record_wins();
     record_keys_differ();
 }
 
-/// So does the register's cut, and its records leave what is told of each lane. Where nothing of a
-/// register is marked, what `is_described` says of it is what the cut needs.
+/// So does the register's cut, and its records leave what is told of each lane; a desk asks for such
+/// a one too. Where nothing of a register is marked, what `is_described` says of it is what the cut
+/// needs.
 pub fn cuts_tell_the_register()
     ensures cut { (lanes : ℕ) → RegisterCutsTell lanes }
+    ensures write { (lanes : ℕ) → RegisterCutsWrite lanes }
     ensures part { KeptRegistersAreParts }
 {
     last_record_wins();

@@ -1,0 +1,31 @@
+use Rattle.std.proofs.Common.{◌≡◌, false, true, Result, subst}
+use Rattle.std.specs.Prelude.{IsErr}
+use Rattle.flush_journal.specs.declared.why.Why.{Why}
+use Rattle.journal_desk.proofs.ContinueLemmas.{continues_both}
+use Rattle.journal_desk.proofs.desk.Desk.flush.Goals as goal
+
+pub returns-in_err-places-clause-continues : goal.returns-in_err-places-clause-continues
+returns-in_err-places-clause-continues g c =
+    continues_both g.D.Disk g.N.Note _ _ _ c.settle.ensures.continues c.cut_lanes.ensures.continues
+
+pub returns-in_err-cut_register-clause-continues : goal.returns-in_err-cut_register-clause-continues
+returns-in_err-cut_register-clause-continues g c =
+    continues_both g.D.Disk g.N.Note _ _ _ c.settle.ensures.continues
+    (continues_both g.D.Disk g.N.Note _ _ _ c.cut_lanes.ensures.continues c.cut_register.ensures.continues)
+
+pub returns-in_err-append-clause-continues : goal.returns-in_err-append-clause-continues
+returns-in_err-append-clause-continues g c =
+    continues_both g.D.Disk g.N.Note _ _ _ c.settle.ensures.continues
+    (continues_both g.D.Disk g.N.Note _ _ _ c.cut_lanes.ensures.continues
+    (continues_both g.D.Disk g.N.Note _ _ _ c.cut_register.ensures.continues c.append.ensures.continues))
+
+pub returns-clause-continues : goal.returns-clause-continues
+returns-clause-continues g c =
+    continues_both g.D.Disk g.N.Note _ _ _ c.settle.ensures.continues
+    (continues_both g.D.Disk g.N.Note _ _ _ c.cut_lanes.ensures.continues
+    (continues_both g.D.Disk g.N.Note _ _ _ c.cut_register.ensures.continues c.append.ensures.continues))
+
+pub returns-clause-stopped : goal.returns-clause-stopped
+returns-clause-stopped g c some off =
+    let err = subst (λ (r : Result (Unit {0}) Why). IsErr r) c.in_ok-settle.was (c.settle.ensures.stopped some off) in
+    absurd (let never : false ≡ true = err in cc)

@@ -1,0 +1,81 @@
+use Rattle.std.proofs.Common.{Err, ap, sym, ◌∙◌}
+use Rattle.std.proofs.lemmas.Result.{err_from_is_err_and}
+use Rattle.flush_journal.specs.Standing.{disk_of}
+use Rattle.flush_journal.specs.Batches.{records}
+use Rattle.journal_desk.specs.Standing.{Standing}
+use Rattle.journal_desk.proofs.ImageLemmas.{as_far}
+use Rattle.journal_desk.proofs.AnsweredLemmas.{answered_call, answered_ok}
+use Rattle.journal_desk.proofs.ImageLemmas.{image_kept}
+use Rattle.journal_desk.proofs.ContinueLemmas.{continues_here}
+use Rattle.journal_desk.proofs.DeskLemmas.{settle_err, settle_leaves, settle_ok, is_pending}
+use Rattle.journal_desk.proofs.RefusalLemmas.{refused, refused_full}
+use Rattle.journal_desk.proofs.desk.Desk.settle.Goals as goal
+
+pub invariant_of-self : goal.invariant_of-self
+invariant_of-self g c =
+    let d = c.self.inside in
+    let p = is_pending d.journal (c.pending.ensures.0 c.if-pending.true) in
+    record {
+      desk = settle_err _ _ _ _ d.journal c.settle.new.self (records d.building) d.cut d.kept c.self.invariant.desk p.0 p.1 _ c.in_err-settle.ensures.writes;
+      answered = answered_call _ _ g.D.Disk _ c.self.invariant.desk.legal (disk_of d.journal) (disk_of c.settle.new.self) (disk_of d.at.value) d.kept
+          c.self.invariant.desk.keepings
+          (settle_leaves _ _ _ _ d.journal c.settle.new.self (records d.building) d.cut d.kept c.self.invariant.desk p.0 p.1 _ c.settle.ensures.writes)
+          c.self.invariant.answered;
+    }
+
+pub returns-in_err-settle-clause-continues : goal.returns-in_err-settle-clause-continues
+returns-in_err-settle-clause-continues g c =
+    let d = c.self.inside in
+    let p = is_pending d.journal (c.pending.ensures.0 c.if-pending.true) in
+    continues_here g.D.Disk g.N.Note d.journal c.settle.new.self _ _ d.cut d.cut d.kept d.kept (disk_of d.at.value) (disk_of d.at.value) d.note _ c.self.view_is
+    c.self.invariant.desk.legal c.settle.ensures.same (as_far _)
+    (settle_leaves _ _ _ _ d.journal c.settle.new.self (records d.building) d.cut d.kept c.self.invariant.desk p.0 p.1 _ c.settle.ensures.writes)
+
+pub returns-in_err-settle-clause-err : goal.returns-in_err-settle-clause-err
+returns-in_err-settle-clause-err g c =
+    let d = c.self.inside in
+    let p = is_pending d.journal (c.pending.ensures.0 c.if-pending.true) in
+    let found = err_from_is_err_and c.from_residual.result c.from_residual.ensures.1 in
+    rw found.1 (
+      (c.in_err-settle.ensures.tries p.0 p.1).pending ∙ sym p.1 ∙ ap (λ (v : Standing g.row.D.Denot g.row.N.Denot). v.pending) c.self.view_is,
+      ap (λ (v : Standing g.row.D.Denot g.row.N.Denot). v.kept) c.self.view_is,
+      ap (λ (v : Standing g.row.D.Denot g.row.N.Denot). v.at) c.self.view_is,
+    )
+
+pub returns-in_err-settle-clause-cause : goal.returns-in_err-settle-clause-cause
+returns-in_err-settle-clause-cause g c =
+    let d = c.self.inside in
+    let p = is_pending d.journal (c.pending.ensures.0 c.if-pending.true) in
+    let found = err_from_is_err_and c.from_residual.result c.from_residual.ensures.1 in
+    refused g.D.Disk g.N.Note d.journal c.settle.new.self p.0 c.settle.ensures.same
+    (records d.building) (records d.building) d.cut d.kept (disk_of d.at.value) d.note _ _ _ c.self.view_is (found.1 ∙ ap Err found.2) (c.in_err-settle.ensures.tries p.0 p.1)
+
+pub returns-in_err-settle-clause-full : goal.returns-in_err-settle-clause-full
+returns-in_err-settle-clause-full g c =
+    let d = c.self.inside in
+    let p = is_pending d.journal (c.pending.ensures.0 c.if-pending.true) in
+    let found = err_from_is_err_and c.from_residual.result c.from_residual.ensures.1 in
+    refused_full g.D.Disk g.N.Note d.journal c.settle.new.self p.0 c.settle.ensures.same
+    (records d.building) (records d.building) d.cut d.kept (disk_of d.at.value) d.note _ _ (found.1 ∙ ap Err found.2) (c.in_err-settle.ensures.tries p.0 p.1)
+
+pub invariant_of-self-then-pending : goal.invariant_of-self-then-pending
+invariant_of-self-then-pending g c =
+    let d = c.self.inside in
+    let p = is_pending d.journal (c.pending.ensures.0 c.if-pending.true) in
+    let desk = settle_ok _ _ _ _ d.journal c.settle.new.self (records d.building) d.cut d.kept c.self.invariant.desk p.0 p.1 c.in_ok-settle.ensures.writes in
+    rw c.of.ensures (record {
+      desk = desk;
+      answered = answered_ok _ _ g.D.Disk _ c.self.invariant.desk.legal (disk_of d.journal) (disk_of c.settle.new.self) (disk_of d.at.value) d.kept
+          c.self.invariant.desk.keepings
+          (settle_leaves _ _ _ _ d.journal c.settle.new.self (records d.building) d.cut d.kept c.self.invariant.desk p.0 p.1 _ c.settle.ensures.writes)
+          c.self.invariant.answered d.cut
+          (λ honest image left. image_kept _ _ _ _ c.settle.new.self _ d.cut d.cut (desk.on_disk honest) image (g.met.D.Disk.only_now _ image honest left));
+    })
+
+pub returns-in_ok-settle-clause-continues : goal.returns-in_ok-settle-clause-continues
+returns-in_ok-settle-clause-continues g c =
+    let d = c.self.inside in
+    let p = is_pending d.journal (c.pending.ensures.0 c.if-pending.true) in
+    continues_here g.D.Disk g.N.Note d.journal c.settle.new.self _ _ d.cut d.cut d.kept d.cut (disk_of d.at.value) _ d.note _ c.self.view_is
+    c.self.invariant.desk.legal c.settle.ensures.same c.self.invariant.desk.far
+    (settle_leaves _ _ _ _ d.journal c.settle.new.self (records d.building) d.cut d.kept c.self.invariant.desk p.0 p.1 _ c.settle.ensures.writes)

@@ -1,0 +1,14 @@
+use Rattle.std.proofs.Common.{refl}
+use Rattle.std.specs.FinMap.{empty}
+use Rattle.journal_desk.proofs.laws.marked_cuts_write.Goals as goal
+
+pub returns : goal.returns
+returns g c l was old now first added since cuts others catalogue = record {
+  now = now;
+  later_is = refl;
+  still = (cuts empty).still;
+  objects_are = (cuts empty).objects;
+  added = added;
+  appended = refl;
+  writes = record { own = λ x says. (cuts x).says (since x says); others = others; catalogue = catalogue };
+}

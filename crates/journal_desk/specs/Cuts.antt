@@ -1,0 +1,114 @@
+-- What the callers' side does in a turn of its desk.
+--     Resumes h g kept     since the desk's last turn others asked and took turns, and none of them cut
+--     Adds ..              others went on, and then an item was added
+--     DrawsCut ..          a cut was drawn at the register
+--     TakesCut ..          a lane was cut in its turn
+--     TakesRegisterCut ..  the register was cut
+--     Advances ..          from a history to a longer one, and what is building still says all cuts
+--     CutsEach ..          so after the lanes' cuts
+use Rattle.std.specs.Prelude.{◌≡◌, ◌≢◌, ◌⊎◌, ℕ, ◌<◌, Bool, true, false, List, ◌++◌}
+use Rattle.std.specs.List.{AllByRecursion}
+use Rattle.flush_journal.specs.Records.{Held, Record, put_all}
+use Rattle.lane_histories.specs.Services.{Service, World}
+use Rattle.lane_histories.specs.Histories.{History, IsIn, changed_at, drawn, objects_after, places, register_after, register_at}
+use Rattle.lane_histories.specs.declared.items.LaneItem.TheVariants.{WasCut}
+use Rattle.lane_histories.specs.declared.items.RegisterItem.TheVariants.{DrawnCut, RegisterCut}
+use Rattle.lane_histories.specs.declared.items.Reach.{Reach}
+use Rattle.lane_histories.specs.Legal.{IsLegal, IsPrefix, with_lane_item, with_register_item}
+use Rattle.lane_histories.specs.Cuts.{GoesOn, register_cut}
+use Rattle.lane_histories.specs.JournalContents.{KeepsCatalogue}
+use Rattle.lane_histories.specs.KeptContents.{IsAsFar}
+use Rattle.lane_histories.specs.Since.{KeepsSaid, SaysCuts}
+use Rattle.journal_desk.specs.KeptServices.{KeptService, contents}
+
+-- ---- between two steps of the desk's turn
+
+-- and its keepings reach no farther than the desk
+pub record Resumes {s : Service} (h g : History s) (kept : Reach) : Type 0 where
+  pub others : GoesOn h g
+  pub keepings : AllByRecursion (λ i. IsAsFar i.own kept) g.keepings
+
+pub record Adds (s : Service) (start : World s) (h g : History s) (add : History s → History s) : Type 0 where
+  pub mid : History s
+  pub others : GoesOn h mid
+  pub keepings : mid.keepings ≡ h.keepings
+  pub before : IsLegal s start mid
+  pub after : IsLegal s start g
+  pub added : g ≡ add mid
+
+-- ---- cuts
+
+pub record DrawsCut (s : Service) (start : World s) (h g : History s) (number c : ℕ) : Type 0 where
+  pub step : Adds s start h g (λ m. with_register_item m (DrawnCut number c))
+  pub number_is : number ≡ drawn step.mid.register
+  pub c_is : c ≡ places step.mid.register
+
+-- the records of what changed in a lane: with them what said it as it was says it as it is, and each other lane and the catalogue stay
+pub record WritesLane (k : KeptService) (l : ℕ) (before now : k.marking.Marked) (added : List Record) : Type 0 where
+  pub own : (x : Held) → k.marking.Says x l before → k.marking.Says (put_all added x) l now
+  pub others : (x : Held) (m : ℕ) → m ≢ l → KeepsSaid k.marking m x (put_all added x)
+  pub catalogue : (x : Held) → KeepsCatalogue (contents k) x (put_all added x)
+
+-- the records of what changed of the catalogue: with them what told it as it was tells it as it is, and each lane stays
+pub record WritesCatalogue (k : KeptService) (before now : k.service.Catalogue) (added : List Record) : Type 0 where
+  pub own : (x : Held) → k.TellsCatalogue x before → k.TellsCatalogue (put_all added x) now
+  pub lanes : (x : Held) (l : ℕ) → KeepsSaid k.marking l x (put_all added x)
+
+-- a lane's cut that found memory: the lane has these objects, nothing of it is marked now, and its records were added
+pub record CutsLaneWell (k : KeptService) (l : ℕ) (objects : k.service.Objects) (was later : ℕ → k.marking.Marked)
+    (old new : List Record) : Type 0 where
+  pub now : k.marking.Marked
+  pub later_is : later ≡ changed_at l now was
+  pub still : k.marking.IsStill now
+  pub objects_are : k.marking.objects now ≡ objects
+  pub added : List Record
+  pub appended : new ≡ old ++ added
+  pub writes : WritesLane k l (was l) now added
+
+-- one that didn't: all is as it was
+pub record CutsLaneShort (k : KeptService) (was later : ℕ → k.marking.Marked) (old new : List Record) : Type 0 where
+  pub later_is : later ≡ was
+  pub appended : new ≡ old
+
+abbrev pub CutsInLane : (k : KeptService) → Bool → ℕ → k.service.Objects → (was later : ℕ → k.marking.Marked)
+    → List Record → List Record → Type 0
+CutsInLane k true l objects was later old new = CutsLaneWell k l objects was later old new
+CutsInLane k false l objects was later old new = CutsLaneShort k was later old new
+
+pub record TakesCut (k : KeptService) (start : World k.service) (h g : History k.service) (was later : ℕ → k.marking.Marked)
+    (l number c : ℕ) (found : Bool) (old new : List Record) : Type 0 where
+  pub step : Adds k.service start h g (λ m. with_lane_item m l (WasCut number c found))
+  pub cut : CutsInLane k found l (objects_after k.service (start.objects l) (step.mid.lane l)) was later old new
+
+-- the records of a cut are added where there is memory for all of them; else none is
+abbrev pub AddsRecords : Bool → (List Record → Type 0) → List Record → List Record → Type 0
+AddsRecords true P old new = (added : List Record) × (new ≡ old ++ added) × P added
+AddsRecords false P old new = new ≡ old
+
+pub record TakesRegisterCut (k : KeptService) (start : World k.service) (h g : History k.service) (p : ℕ) (found : Bool)
+    (old new : List Record) : Type 0 where
+  pub step : Adds k.service start h g (λ m. with_register_item m (RegisterCut p found))
+  pub p_is : p ≡ places step.mid.register
+  pub cut : AddsRecords found (WritesCatalogue k
+      (k.service.catalogue (register_at k.service (register_cut step.mid.register) start.register step.mid.register))
+      (k.service.catalogue (register_after k.service start.register step.mid.register))) old new
+
+-- ---- any of these
+
+pub record Advances (k : KeptService) (start : World k.service) (h g : History k.service) (was later : ℕ → k.marking.Marked)
+    (old new : List Record) : Type 0 where
+  pub longer : IsPrefix h g
+  pub legal : IsLegal k.service start g
+  pub keepings : g.keepings ≡ h.keepings
+  pub built : (x : Held) → SaysCuts k.marking start h (put_all old x) was → SaysCuts k.marking start g (put_all new x) later
+
+-- the first lanes were cut, and each found memory if `whole`
+pub record CutsEach (k : KeptService) (start : World k.service) (h g : History k.service) (was later : ℕ → k.marking.Marked)
+    (number c lanes : ℕ) (whole : Bool) (old new : List Record) : Type 0 where
+  pub advances : Advances k start h g was later old new
+  pub drawn : (n e : ℕ) → IsIn g.register (DrawnCut n e) → IsIn h.register (DrawnCut n e)
+  pub cut : whole ≡ true → (l : ℕ) → l < lanes → IsIn (g.lane l) (WasCut number c true)
+  pub short : whole ≡ false → (l : ℕ) × (l < lanes) × IsIn (g.lane l) (WasCut number c false)
+  -- and nothing else was cut
+  pub before : (l n e : ℕ) → IsIn (g.lane l) (WasCut n e true) → IsIn (h.lane l) (WasCut n e true) ⊎ (n ≡ number)
+  pub register : register_cut g.register ≡ register_cut h.register

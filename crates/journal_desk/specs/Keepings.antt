@@ -1,0 +1,97 @@
+-- How a desk goes on.
+--     Continues ..          from a desk to the same desk later: what was kept stays kept
+--     IsUpTo ..             the note is what the callers' side has seen
+--     MayRefuseTurn ..      why a turn may be refused
+--     AreItsKeepings ..     the keepings of a history are the desk's
+--     keeping_of ..         the item of a turn
+use Rattle.std.specs.Prelude.{◌≡◌, ◌⊎◌, ℕ, ◌+◌, ◌<◌, ◌≤◌, List, [], Some, None, Result, Ok, Err}
+use Rattle.edge_traits.specs.Causes.{Rose}
+use Rattle.edge_traits.specs.declared.disk.Disk.{Ghosts}
+use Rattle.flush_journal.specs.Frames.{need_of}
+use Rattle.flush_journal.specs.Records.{Record}
+use Rattle.flush_journal.specs.Unchanged.{SameDisk}
+use Rattle.flush_journal.specs.declared.why.Why.{Why}
+use Rattle.flush_journal.specs.declared.why.Why.TheVariants.{DiskFault, NotAJournal, JournalFull, Exists, NoMemory}
+use Rattle.lane_histories.specs.Histories.{History, IsIn}
+use Rattle.lane_histories.specs.declared.items.Reach.{Reach}
+use Rattle.lane_histories.specs.declared.items.Answer.{Answer}
+use Rattle.lane_histories.specs.declared.items.Answer.TheVariants.{Kept, Refused}
+use Rattle.lane_histories.specs.declared.items.Keeping.{Keeping}
+use Rattle.lane_histories.specs.Legal.{IsPrefix}
+use Rattle.lane_histories.specs.KeptContents.{IsAsFar}
+use Rattle.journal_desk.specs.Standing.{Standing}
+use Rattle.journal_desk.specs.Notes.{AreAlike}
+use Rattle.journal_desk.specs.Desks.{HoldSince}
+use Rattle.journal_desk.specs.declared.note.Note.{Ghosts as Notes}
+
+-- nothing is pending or building, and what is kept reaches as far as the cuts, since now
+pub record IsAllKept {D N : Type 0} (d : Standing D N) : Type 0 where
+  pub settled : d.pending ≡ None
+  pub built : d.building ≡ []
+  pub kept : d.kept ≡ d.cut
+  pub at : d.at ≡ d.disk
+
+module _ {D N : Type 0} (met : Ghosts D) (notes : Notes N) where
+  -- the note's lists
+  abbrev pub lists : Standing D N → History notes.kept.service
+  lists d = notes.history d.note
+
+  -- what a crash since a moment leaves is kept from them, at least as far as these numbers
+  abbrev pub HasKept : Standing D N → ℕ → Reach → Type 0
+  HasKept d moment own = HoldSince met notes.kept (notes.start d.note) (lists d) d.disk moment own
+
+  pub record Continues (old new : Standing D N) : Type 0 where
+    pub start : notes.start new.note ≡ notes.start old.note
+    pub longer : IsPrefix (lists old) (lists new)
+    pub disk : SameDisk met old.disk new.disk
+    pub own : IsAsFar old.kept new.kept
+    -- what was kept since an earlier moment still is
+    pub lasts : met.honest → (moment : ℕ) (own : Reach) → moment ≤ met.moment old.disk → IsAsFar own old.kept
+        → HasKept old moment own → HasKept new moment own
+
+  abbrev pub IsUpTo : Standing D N → N → Type 0
+  IsUpTo d seen = AreAlike notes d.note seen
+
+  -- the journal stayed
+  pub record SameJournal (old new : Standing D N) : Type 0 where
+    pub disk : new.disk ≡ old.disk
+    pub end : new.end ≡ old.end
+    pub pending : new.pending ≡ old.pending
+    pub kept : new.kept ≡ old.kept
+    pub at : new.at ≡ old.at
+
+  -- by a fault only where the disk's count rose, and for want of room only where what is pending then doesn't fit
+  abbrev pub MayRefuseTurn : Standing D N → Standing D N → Why → Type 0
+  MayRefuseTurn old new DiskFault = Rose (met.faults old.disk) (met.faults new.disk)
+  MayRefuseTurn old new (JournalFull end need room) =
+      (rs : List Record) × (new.pending ≡ Some rs) × (end ≡ new.end) × (need ≡ need_of rs) × (room ≡ met.most new.disk)
+      × (room < end + need)
+  MayRefuseTurn old new NoMemory = Unit {0}
+  MayRefuseTurn old new (NotAJournal at) = ⊥
+  MayRefuseTurn old new Exists = ⊥
+
+  -- and where what is pending then doesn't fit, it is refused so
+  abbrev pub IsFullWhere : {T : Type 0} → Standing D N → Result T Why → Type 0
+  IsFullWhere new result = (rs : List Record) → new.pending ≡ Some rs → met.most new.disk < new.end + need_of rs
+      → result ≡ Err (JournalFull new.end (need_of rs) (met.most new.disk))
+
+  -- of the keepings in these lists that were answered Ok each is in the note, or is the desk's last
+  abbrev pub AreItsKeepings : Standing D N → History notes.kept.service → Type 0
+  AreItsKeepings d h = (i : Keeping) → IsIn h.keepings i → i.answer ≡ Kept
+      → IsIn (lists d).keepings i ⊎ ((i.own ≡ d.kept) × (i.moment ≡ met.moment d.at))
+
+  -- ---- the item of the keepings' list
+
+  abbrev pub answer_of : {T : Type 0} → Result T Why → Answer
+  answer_of (Ok x) = Kept
+  answer_of (Err why) = Refused
+
+  abbrev pub keeping_of : {T : Type 0} → Standing D N → Standing D N → Result T Why → Keeping
+  keeping_of old new result = record {
+    cut = new.cut;
+    own = new.kept;
+    answer = answer_of result;
+    faults_before = met.faults old.disk;
+    faults_after = met.faults new.disk;
+    moment = met.moment new.disk;
+  }

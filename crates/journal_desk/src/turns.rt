@@ -1,0 +1,75 @@
+//! What the callers' side does in a turn of the desk.
+ghost use Rattle.std.specs.Prelude.{◌≡◌, ℕ, suc, ◌<◌, IfOk};
+ghost use Rattle.std.specs.Result.{is_ok};
+ghost use Rattle.flush_journal.specs.Batches.{records};
+ghost use Rattle.journal_desk.specs.Cuts.{DrawsCut, TakesCut, TakesRegisterCut};
+
+use crate::note::Note;
+use flush_journal::Batch;
+use std::alloc::AllocError;
+
+/// What the callers' side does in a turn of its desk. Between two calls others ask and take turns
+/// of lanes; none of them cuts.
+pub trait Turns<N: Note> {
+    /// A note of the lists as they were seen last, and of the lanes as they were cut last.
+    ghost seen: { Self → N };
+
+    /// The number of the cut that was drawn last, and how many places had been given.
+    ghost drawn: { Self → ℕ × ℕ };
+
+    /// The lanes from this one on haven't passed that cut's ticket yet.
+    ghost next_lane: { Self → ℕ };
+
+    /// How many lanes there are.
+    fn lanes(&self) -> u32
+        ensures { result ≡ N.kept.service.lanes };
+
+    /// A note of what was seen last.
+    fn note(&mut self) -> N
+        ensures start { N.start result ≡ N.start (seen self.old) }
+        ensures history { N.history result ≡ N.history (seen self.old) }
+        ensures was { N.was result ≡ N.was (seen self.old) }
+        ensures seen { seen self.new ≡ seen self.old }
+        ensures cut { (drawn self.new ≡ drawn self.old)
+            × (next_lane self.new ≡ next_lane self.old) };
+
+    /// Draws a cut at the register, with a ticket in each lane, and answers how many places had
+    /// been given.
+    fn draw_cut(&mut self) -> u64
+        requires passed { next_lane self.old ≡ N.kept.service.lanes }
+        ensures cut { DrawsCut N.kept.service (N.start (seen self.old)) (N.history (seen self.old))
+            (N.history (seen self.new)) (drawn self.new).0 (drawn self.new).1 }
+        ensures places { result ≡ (drawn self.new).1 }
+        ensures lanes { next_lane self.new ≡ 0 }
+        ensures start { N.start (seen self.new) ≡ N.start (seen self.old) }
+        ensures was { N.was (seen self.new) ≡ N.was (seen self.old) };
+
+    /// Cuts the next lane in its turn.
+    ///
+    /// # Errors
+    ///
+    /// Only where memory runs out. Then no record is added, and the lane is marked as it was.
+    fn cut_lane(&mut self, into: &mut Batch) -> Result<(), AllocError>
+        requires left { next_lane self.old < N.kept.service.lanes }
+        ensures cut { TakesCut N.kept (N.start (seen self.old)) (N.history (seen self.old))
+            (N.history (seen self.new)) (N.was (seen self.old)) (N.was (seen self.new))
+            (next_lane self.old) (drawn self.old).0 (drawn self.old).1 (is_ok result)
+            (records into.old) (records into.new) }
+        ensures lanes { next_lane self.new ≡ suc (next_lane self.old) }
+        ensures start { N.start (seen self.new) ≡ N.start (seen self.old) }
+        ensures drawn { drawn self.new ≡ drawn self.old };
+
+    /// Cuts the register, and answers how many places had been given.
+    ///
+    /// # Errors
+    ///
+    /// Only where memory runs out. Then no record is added.
+    fn cut_register(&mut self, into: &mut Batch) -> Result<u64, AllocError>
+        requires passed { next_lane self.old ≡ N.kept.service.lanes }
+        ensures cut { (p : ℕ) × TakesRegisterCut N.kept (N.start (seen self.old))
+            (N.history (seen self.old)) (N.history (seen self.new)) p (is_ok result)
+            (records into.old) (records into.new) × IfOk result (λ n. n ≡ p) }
+        ensures lanes { next_lane self.new ≡ next_lane self.old }
+        ensures start { N.start (seen self.new) ≡ N.start (seen self.old) }
+        ensures was { N.was (seen self.new) ≡ N.was (seen self.old) };
+}

@@ -1,6 +1,0 @@
-use Rattle.std.proofs.Common.{refl}
-use Rattle.lane_examples.proofs.RefutedLemmas.{revoked_legal}
-use Rattle.lane_examples.proofs.verdicts.verdict_behind_the_revocation.Goals as goal
-
-pub returns : goal.returns
-returns c = revoked_legal _ refl
