@@ -116,7 +116,7 @@ in_front : {X : Type 0} (front more : List X) (x : X) → IsIn ((front ++ x ∷ 
 in_front [] more x = inl refl
 in_front (y ∷ ys) more x = inr (in_front ys more x)
 
-is_in_list : {X : Type 0} (xs front : List X) (x : X) → StartsWith xs (front ++ x ∷ []) → IsIn xs x
+pub is_in_list : {X : Type 0} (xs front : List X) (x : X) → StartsWith xs (front ++ x ∷ []) → IsIn xs x
 is_in_list xs front x begins = subst (λ l. IsIn l x) (sym begins.1) (in_front front begins.0 x)
 
 module _ {D : Type 0} (start : ArrayStart D) (verdicts : VerdictsAreOfTheirPlaces (array_service (lanes_in start)))

@@ -4,5 +4,7 @@ pub mod ActLemmas
 pub mod TicketLemmas
 pub mod AskLemmas
 pub mod DenialLemmas
+pub mod MemoryLemmas
+pub mod FrontLemmas
 pub mod SharingLemmas
 pub mod Sent

@@ -72,6 +72,7 @@ module _ {D : Type 0} (s : State) (new : IsNewWorld s) (built : IsBuilt s.regist
           register = since s.register new.kept.register;
           owners = λ lane o at. subst (λ (j : ℕ). IsOwnerSince n j o.objects o) (let e : 0 + lane ≡ lane = omega arith in e)
               (owner_since n 0 lane s.lanes o built.lanes new.kept.lanes at);
+          desk = refl;
           note = ap (λ (os : List Lane). nothing (length os)) same_owners;
           world = λ i. record {
             register = same_register i;
@@ -117,11 +118,18 @@ module _ {D : Type 0} (start : ArrayStart D) (opened : IsOpened start) (v : Arra
       (closes (world_of (machines {D = D} (lanes_in start)) start) (history_of (array_service (lanes_in start)) closed.seen) owners
       closed.grown.legal given after)
 
+  pub same_desk : desk.desk ≡ start.desk.desk
+  unfolding machines
+  same_desk = closed.desk_is.since
+
   pub ended : HasEnded start v (record { register = register; lanes = owners })
   unfolding machines
   ended = record {
     seen = closed.seen;
     grown = closed.grown;
+    all_seen = closed.all_seen;
+    named = closed.named;
+    all_passed = closed.all_passed;
     register = closed.register_is.now;
     count = closed.count;
     owners = λ l few.

@@ -23,7 +23,7 @@ use Rattle.register.specs.declared.verdicts.Verdict.{Verdict}
 use Rattle.register.specs.declared.verdicts.Verdict.TheVariants as verdict
 use Rattle.service_core.specs.declared.answers.What.{What}
 use Rattle.service_core.specs.declared.answers.What.TheVariants as what
-use Rattle.lane_histories.specs.Histories.{part_of, register_after}
+use Rattle.lane_histories.specs.Histories.{IsIn, part_of, register_after}
 use Rattle.lane_histories.specs.Legal.{is_well}
 use Rattle.lane_histories.specs.Replies.{by_register, by_turn, no_memory, two_what, what_of}
 use Rattle.lane_histories.specs.Replies.{What as LaneWhat}
@@ -40,7 +40,7 @@ use Rattle.hall_rule.specs.Asks.{MayServe}
 use Rattle.hall_rule.specs.Claims.{bumped, count_of}
 use Rattle.hall_rule.specs.LaneTickets.{IsServingLanes}
 use Rattle.hall_rule.specs.Machines.{Machines}
-use Rattle.hall_rule.specs.Seen.{at_lane}
+use Rattle.hall_rule.specs.Seen.{at_lane, lane_of}
 use Rattle.hall_rule.specs.Steps.{others_of}
 use Rattle.hall_rule.specs.WholeTurns.{HasActed, HasTurned, MayAct}
 use Rattle.service_histories.specs.ArrayServices.{Asked, MayDecide, array_service, listed, task_of, turns_for, turns_of}
@@ -355,6 +355,8 @@ module _ {D : Type 0} {start : ArrayStart D} {before : List (RegisterItem Asked 
             let did = acted Only may_drop in record {
               lane = taking.lane + 1;
               serving = lane_laws.go_on u (Passed place Only (task_of grant op t.step) y) now.3
+                  (λ i. part_of (sym k.place_is i) Only (task_of grant op (now.2 i)))
+                  (subst (λ (l : ℕ). IsIn (lane_of u.seen.lanes l) (Passed place Only (task_of grant op t.step) y)) now.0 did.here)
                   (subst (λ (l : ℕ). HasTurned m start (at_lane l (Passed place Only (task_of grant op t.step) y)) (others_of w.claims) w u)
                   now.0 did.turned)
                   did.longer;

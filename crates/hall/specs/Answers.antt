@@ -4,7 +4,9 @@
 --     IsServed ..                all its tickets were passed, and this is what it is answered
 --     HasAnswered ..             one entry more is the pass's own, and the answer is its place's reply
 --     IsDeniedWhere ..           it is denied exactly where the list in force doesn't give the right
-use Rattle.std.specs.Prelude.{◌≡◌, ◌↔◌, ℕ, List}
+--     IsWantingWhere ..          memory was wanting exactly where it was for the verdict or a turn
+--     HasGoneThrough ..          each turn went through the caller's gate
+use Rattle.std.specs.Prelude.{◌≡◌, ◌↔◌, ◌⊎◌, ℕ, List, [], ◌∷◌}
 use Rattle.access_lists.specs.declared.people.Caller.{Caller}
 use Rattle.access_lists.specs.declared.right.Right.{Right}
 use Rattle.chunk_owner.specs.Lanes.{Lane}
@@ -14,23 +16,31 @@ use Rattle.object_ops.specs.declared.ops.Op.{Op}
 use Rattle.object_ops.specs.declared.ops.Request.{Request}
 use Rattle.object_ops.specs.declared.replies.Reply.{Reply}
 use Rattle.register.specs.Decided.{RegisterState}
+use Rattle.register.specs.Grants.{turns_of}
 use Rattle.register.specs.Laws.{IsDenied}
 use Rattle.register.specs.Tickets.{Issue}
+use Rattle.register.specs.declared.tickets.Turn.{Turn}
 use Rattle.register.specs.declared.verdicts.Verdict.{Verdict}
 use Rattle.register.specs.declared.verdicts.Verdict.TheVariants as verdict
 use Rattle.service_core.specs.declared.answers.Answer.{Answer}
 use Rattle.service_core.specs.declared.answers.What.{What}
 use Rattle.service_core.specs.declared.answers.What.TheVariants as what
-use Rattle.lane_histories.specs.Histories.{register_after, register_at}
+use Rattle.lane_histories.specs.Histories.{IsIn, register_after, register_at}
 use Rattle.lane_histories.specs.Legal.{IsLegalRegister}
 use Rattle.lane_histories.specs.Replies.{What as LaneWhat}
 use Rattle.lane_histories.specs.declared.items.Entry.{Entry}
+use Rattle.lane_histories.specs.declared.items.LaneItem.TheVariants.{Passed}
+use Rattle.lane_histories.specs.declared.items.Outcome.TheVariants.{Short}
+use Rattle.lane_histories.specs.declared.items.Part.{Part}
 use Rattle.lane_histories.specs.declared.items.RegisterItem.{RegisterItem}
+use Rattle.lane_histories.specs.declared.items.RegisterItem.TheVariants.{Entered}
 use Rattle.hall_rule.specs.Asks.{HasAsked, HasServed, MayServe}
 use Rattle.hall_rule.specs.Rule.{HallView}
+use Rattle.hall_rule.specs.Seen.{lane_of}
 use Rattle.hall_rule.specs.declared.view.Start.{Start}
 use Rattle.service_histories.specs.ArrayServices.{Asked, MayDecide, array_service}
 use Rattle.service_histories.specs.PlainSteps.{answer_of}
+use Rattle.service_histories.specs.declared.tasks.Task.{Task}
 use Rattle.hall.specs.declared.desk.NotedDesk.{NotedDesk}
 use Rattle.hall.specs.ArrayMachines.{lanes_in, machines}
 
@@ -99,3 +109,34 @@ IsDeniedWhere start v caller request answer =
     (right : Right) → (answer.what ≡ what.Denied right)
     ↔ ((right ≡ right_for request.op)
     × IsDenied (register_then start v answer.place) caller request)
+
+-- ---- want of memory
+
+-- the entry of the place has this verdict
+abbrev pub HasVerdict : {D : Type 0} → ArrayView D → ℕ → Verdict → Type 0
+HasVerdict v place told = (e : Entry Asked Verdict) × IsIn v.seen.register (Entered e)
+    × (e.place ≡ place) × (e.verdict ≡ told)
+
+-- one of the place's turns found no memory
+abbrev pub HasShortTurn : {D : Type 0} → ArrayView D → ℕ → Type 0
+HasShortTurn v place = (lane : ℕ) × (part : Part) × (task : Task)
+    × IsIn (lane_of v.seen.lanes lane) (Passed place part task Short)
+
+abbrev pub IsWantingWhere : {D : Type 0} → ArrayView D → Answer → Type 0
+IsWantingWhere v answer = (answer.what ≡ what.NoMemory)
+    ↔ (HasVerdict v answer.place verdict.NoMemory ⊎ HasShortTurn v answer.place)
+
+-- ---- the gate
+
+-- one after another, in this order, with the lane of each turn and the place
+abbrev pub GoesThrough : {G : Type 0} → (G → ℕ → ℕ → G → Type 0) → ℕ → List Turn → G → G → Type 0
+GoesThrough goes place [] old new = new ≡ old
+GoesThrough {G} goes place (t ∷ ts) old new =
+    (mid : G) × goes old t.lane place mid × GoesThrough goes place ts mid new
+
+-- the turns that the place's verdict gave
+pub record HasGoneThrough {D G : Type 0} (goes : G → ℕ → ℕ → G → Type 0) (v : ArrayView D)
+    (place : ℕ) (old new : G) : Type 0 where
+  pub decided_as : Verdict
+  pub verdict_is : HasVerdict v place decided_as
+  pub gates : GoesThrough goes place (turns_of decided_as) old new

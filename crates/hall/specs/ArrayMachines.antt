@@ -35,7 +35,7 @@ pub record IsOwnerSince (lanes lane : ℕ) (objects : Objects) (o : Lane) : Type
   pub still : AreStill was.slots
   pub since : IsSince (array_marking lanes) lane was o
 
--- nothing was kept yet, so the desk's note is empty
+-- no call takes the desk's turn: the desk stays as it was, and its note is empty
 unfoldable pub machines : {D : Type 0} → (lanes : ℕ)
     → Machines (array_service lanes) RegisterState Lane (NotedDesk D)
 machines lanes = record {
@@ -44,6 +44,7 @@ machines lanes = record {
   no_objects = empty;
   RegisterIsSince = λ d c. IsRegisterSince c d;
   OwnerIsSince = λ o lane objects. IsOwnerSince lanes lane objects o;
+  DeskIsSince = λ desk first. desk.desk ≡ first.desk;
   note = λ d. nothing (length d.owners.value.items);
   noted_world = λ d. record {
     register = d.register.value;

@@ -11,7 +11,7 @@ ghost use Rattle.chunk_owner.specs.Lanes.{IsSameLane};
 ghost use Rattle.chunk_owner.specs.Slots.Slots.{StillSays};
 ghost use Rattle.service_histories.specs.ArrayServices.{array_service, task_of};
 ghost use Rattle.service_histories.specs.PlainSteps.{answer_of};
-ghost use Rattle.hall.specs.Answers.{IsServed, IsServingJob};
+ghost use Rattle.hall.specs.Answers.{GoesThrough, IsServed, IsServingJob};
 ghost use Rattle.hall.specs.ArrayMachines.{IsOpened, lanes_in, machines, start_of};
 ghost use Rattle.hall.specs.Turns.{IsReadyFor, Performs};
 
@@ -142,6 +142,7 @@ impl<D: Drop> Hall<D> {
             → HasActed (machines (lanes_in (start_of self.now.table.shared.key)))
             (start_of self.now.table.shared.key) turn.lane job.now.place part
             (task_of job.now.grant job.now.op.now turn.step) result seat.old.me.0 seat.new.me.0 }
+        ensures gone { G.goes gate.old turn.lane job.now.place gate.new }
     {
         hands_hold_what_was_taken::<ArrayHall<D>>();
         machines_stand_for_their_lists::<ArrayHall<D>>();
@@ -188,6 +189,7 @@ impl<D: Drop> Hall<D> {
             job.now.op.now job.now.grant tickets.old seat.old.me.0
             → IsServed (start_of self.now.table.shared.key) e result seat.old.me.0
             seat.new.me.0 }
+        ensures gates { GoesThrough G.goes job.now.place tickets.old.left gate.old gate.new }
     {
         asks_are_answered::<ArrayHall<D>>();
         decisions_keep();
@@ -229,6 +231,7 @@ impl<D: Drop> Hall<D> {
             job.now.op.now job.now.grant tickets.old seat.old.me.0
             → IsServed (start_of self.now.table.shared.key) e result seat.old.me.0
             seat.new.me.0 }
+        ensures gates { GoesThrough G.goes job.now.place tickets.old.left gate.old gate.new }
     {
         each_lane_is_served::<ArrayHall<D>>();
         decisions_keep();
@@ -263,6 +266,7 @@ impl<D: Drop> Hall<D> {
             job.now.op.now job.now.grant tickets.old seat.old.me.0
             → IsServed (start_of self.now.table.shared.key) e result seat.old.me.0
             seat.new.me.0 }
+        ensures gates { GoesThrough G.goes job.now.place tickets.old.left gate.old gate.new }
     {
         match job.op {
             Op::DropNode => self.take_lanes(rt, seat, gate, job, tickets),

@@ -2,9 +2,11 @@
 ghost use Rattle.std.specs.Prelude.{◌≡◌, ◌<◌, ◌≤◌, ◌+◌, ◌^◌, []};
 ghost use Rattle.hall_rule.specs.WholeTurns.{IsPass};
 ghost use Rattle.object_ops.specs.Conditions.{IsSoundOp};
-ghost use Rattle.hall.specs.Answers.{HasAnswered, IsDeniedWhere, IsServed, IsServingVerdict};
+ghost use Rattle.register.specs.Grants.{turns_of};
+ghost use Rattle.hall.specs.Answers.{GoesThrough, HasAnswered, HasGoneThrough, IsDeniedWhere};
+ghost use Rattle.hall.specs.Answers.{IsServed, IsServingVerdict, IsWantingWhere};
 ghost use Rattle.hall.specs.ArrayMachines.{IsOpened, start_of};
-ghost use Rattle.hall.specs.Passes.{IsPassOf};
+ghost use Rattle.hall.specs.Passes.{IsPassOf, opening, view_of, who};
 
 use crate::acting::Job;
 use crate::gate::Gate;
@@ -43,6 +45,7 @@ impl<D: Drop> Hall<D> {
             seat.old.me.0
             → IsServed (start_of self.now.table.shared.key) e result seat.old.me.0
             seat.new.me.0 }
+        ensures gates { GoesThrough G.goes place (turns_of verdict) gate.old gate.new }
     {
         asks_are_answered::<ArrayHall<D>>();
         match verdict {
@@ -81,6 +84,7 @@ impl<D: Drop> Hall<D> {
         ensures answered { HasAnswered (start_of self.now.table.shared.key) caller.now
             request.now result seat.old.me.0 seat.new.me.0 }
         ensures early { result.place < 2 ^ 61 }
+        ensures gates { HasGoneThrough G.goes seat.new.me.0 result.place gate.old gate.new }
     {
         asks_are_answered::<ArrayHall<D>>();
         let (place, verdict) = self.decide(rt, seat, caller, request);
@@ -102,16 +106,23 @@ impl<D: Drop> Hall<D> {
         requires of_this_hall { IsPassOf self.now pass.old }
         requires op { IsSoundOp request.now.op }
         ensures of_this_hall { IsPassOf self.now pass.new }
+        ensures same { who pass.new ≡ who pass.old }
 
         // One more entry is the pass's own, and the answer is the reply of its place.
-        ensures answered { HasAnswered (start_of self.now.table.shared.key) caller.now
-            request.now result pass.old.seat.me.0 pass.new.seat.me.0 }
+        ensures answered { HasAnswered (opening self.now) caller.now request.now result
+            (view_of pass.old) (view_of pass.new) }
 
         // Denied exactly where the list in force at the place doesn't give the caller the right.
-        ensures denied { IsDeniedWhere (start_of self.now.table.shared.key) pass.new.seat.me.0
-            caller.now request.now result }
+        ensures denied { IsDeniedWhere (opening self.now) (view_of pass.new) caller.now request.now
+            result }
+
+        // Want of memory exactly where the verdict is that, or one of the place's turns found none.
+        ensures wanting { IsWantingWhere (view_of pass.new) result }
         ensures above { pass.old.front ≤ result.place }
         ensures front { pass.new.front ≡ result.place + 1 }
+
+        // Each turn of a lane went through the gate.
+        ensures gates { HasGoneThrough G.goes (view_of pass.new) result.place gate.old gate.new }
     {
         asks_are_answered::<ArrayHall<D>>();
         histories_are_legal();

@@ -1,9 +1,15 @@
 //! A gate, through which each turn of a lane goes.
+ghost use Rattle.std.specs.Prelude.{◌≡◌, ℕ};
 
-/// What a caller does inside a lane's turn, before its part of the request is done.
+/// What a caller does inside a lane's turn, before its part of the request is done. It may wait as
+/// long as it likes, and holds up the lane as long.
 pub trait Gate {
+    /// What the gate may have become, by what it was, the lane and the place.
+    ghost goes: { Self → ℕ → ℕ → Self → Type 0 };
+
     /// `place` is the place of the request, or the number of places at a drawn cut.
-    fn before(&mut self, lane: u32, place: u64);
+    fn before(&mut self, lane: u32, place: u64)
+        ensures { goes self.old lane place self.new };
 }
 
 /// A gate that stands open.
@@ -11,5 +17,7 @@ pub trait Gate {
 pub struct OpenGate;
 
 impl Gate for OpenGate {
+    ghost goes = { λ old lane place new. new ≡ old };
+
     fn before(&mut self, _lane: u32, _place: u64) {}
 }

@@ -21,9 +21,11 @@ mod plays;
 mod sending;
 mod sharing;
 mod turns;
+mod worlds;
 
 pub use desk::NotedDesk;
 pub use gate::{Gate, OpenGate};
 pub use hall::Hall;
 pub use pass::Pass;
 pub use sending::{hall_is_shared, pass_is_sent};
+pub use worlds::installed_worlds_are_new;

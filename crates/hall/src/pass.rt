@@ -1,6 +1,11 @@
 //! A pass, with which a caller asks.
-ghost use Rattle.std.specs.Prelude.{◌≡◌, ◌≤◌, [], true};
-ghost use Rattle.lane_histories.specs.Histories.{places};
+ghost use Rattle.std.specs.Prelude.{◌≡◌, ◌<◌, ◌≤◌, ℕ, [], true};
+ghost use Rattle.lane_histories.specs.Histories.{IsIn, own, places};
+ghost use Rattle.lane_histories.specs.declared.items.Entry.{Entry};
+ghost use Rattle.hall_rule.specs.Rule.{names};
+ghost use Rattle.hall_rule.specs.Sums.{times};
+ghost use Rattle.service_histories.specs.ArrayServices.{Asked};
+ghost use Rattle.register.specs.declared.verdicts.Verdict.{Verdict};
 
 use crate::plays::Chair;
 
@@ -14,14 +19,24 @@ pub struct Pass<D: Drop> {
     ghost live: { seat.me.0.live ≡ true },
     ghost alone: { seat.me.0.guests ≡ [] },
     ghost counted: { front ≤ places seat.me.0.seen.register },
+    ghost below: { (x : ℕ) (e : Entry Asked Verdict) → 0 < times x (names seat.me.0)
+        → IsIn (own x seat.me.0.seen.register) e → e.place < front },
 }
 
 impl<D: Drop> Pass<D> {
-    /// A place below which each request of this pass lies, and at or above which each later one
-    /// will.
+    ghost use Rattle.hall.specs.Passes.{IsFrontOf, IsIdle};
+
+    /// A place below which each request of this pass lies, and of those that were joined into it,
+    /// and at or above which each later one will.
     pub fn front(&self) -> u64
-        ensures { result ≡ self.now.front }
+        ensures front { result ≡ self.now.front }
+        ensures is_front { IsFrontOf result self.now }
     {
         self.front
     }
+
+    /// Between its calls a pass holds no number, no ticket and no turn.
+    pub fn is_idle(&self)
+        ensures { IsIdle self.now }
+    {}
 }

@@ -113,6 +113,15 @@ impl<Z, Q, V, T, R, X> Play<Z, View<Q, V, T, R, X>> for Count {
     ghost then = { HasCounted };
 }
 
+/// A load before a split, which tells that nothing was asked under the spare numbers.
+pub(crate) struct Spare;
+
+impl<Z, Q, V, T, R, X> Play<Z, View<Q, V, T, R, X>> for Spare {
+    ghost use Rattle.hall_rule.specs.Steps.{HasSpared};
+
+    ghost then = { HasSpared };
+}
+
 /// A pass is cut in two, or two are joined.
 pub(crate) struct Share;
 

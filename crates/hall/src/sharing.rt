@@ -1,15 +1,18 @@
 //! How a hall begins and ends, and how passes are cut in two and joined.
-ghost use Rattle.std.specs.Prelude.{◌≡◌, ◌≤◌, [], ◌∷◌, ℕ, length, max, slice_get, true, IfOk, Some};
+ghost use Rattle.std.specs.Prelude.{◌≡◌, ◌+◌, ◌≤◌, [], ◌∷◌, ℕ, length, max, slice_get, true, IfOk};
+ghost use Rattle.std.specs.Prelude.{Some};
 ghost use Rattle.chunk_owner.specs.Lanes.{IsWhole, Lane};
 ghost use Rattle.hall_rule.specs.Joins.{HasJoined};
-ghost use Rattle.hall_rule.specs.Rule.{given_by_split, left_by_split, names};
+ghost use Rattle.hall_rule.specs.Rule.{AreUnused, given_by_split, left_by_split};
+ghost use Rattle.lane_histories.specs.Histories.{places};
 ghost use Rattle.hall.specs.ArrayMachines.{lanes_in, machines, start_of};
-ghost use Rattle.hall.specs.Passes.{HasBegun, HasEnded, IsNewWorld, IsPassOf};
+ghost use Rattle.hall.specs.Passes.{HasBegun, HasEnded, IsNewWorld, IsPassOf, TookIn, desk_of};
+ghost use Rattle.hall.specs.Passes.{names_of, opening, own_entries, passes_of, seen_by, view_of, who};
 
 use crate::desk::NotedDesk;
 use crate::hall::Hall;
 use crate::pass::Pass;
-use crate::plays::{ArrayHall, Chair, Count, Learn, Share};
+use crate::plays::{ArrayHall, Chair, Count, Learn, Share, Spare};
 use atomic_table::Table;
 use chunk_owner::Owner;
 use hall_rule::{
@@ -70,6 +73,7 @@ impl<D: Drop> Hall<D> {
         requires some_pass { 1 ≤ passes }
         requires new { IsNewWorld world }
         ensures begun { IfOk result (λ h. HasBegun h.0 h.1 world passes) }
+        ensures desk { IfOk result (λ h. desk_of h.0 ≡ desk) }
     {
         world.is_whole();
         worlds_open();
@@ -103,19 +107,35 @@ impl<D: Drop> Hall<D> {
         Ok((hall, Pass { seat, front: 0 }))
     }
 
-    /// A new pass, which has seen what the old one has, under the first of the old one's spare
-    /// numbers. Takes no memory.
-    pub fn split(&self, pass: &mut Pass<D>) -> Pass<D>
-        requires of_this_hall { IsPassOf self.now pass.old }
-        requires spare { (y : ℕ) × (ys : _) × (pass.old.seat.me.0.spare ≡ y ∷ ys) }
-        ensures of_this_hall { IsPassOf self.now pass.new }
-        ensures of_this_hall_too { IsPassOf self.now result }
-        ensures kept { pass.new.seat.me.0 ≡ left_by_split pass.old.seat.me.0 }
-        ensures given { result.seat.me.0 ≡ given_by_split pass.old.seat.me.0 }
-        ensures fronts { (pass.new.front ≡ pass.old.front) × (result.front ≡ pass.old.front) }
+    fn split_seat(&self, seat: &mut Chair<D>) -> Chair<D>
+        requires table { seat.old.table_id ≡ self.now.table.shared.table_id }
+        requires live { (seat.old.me.0.live ≡ true) × (seat.old.me.0.guests ≡ []) }
+        requires spare { (y : ℕ) × (ys : _) × (seat.old.me.0.spare ≡ y ∷ ys) }
+        ensures table { (seat.new.table_id ≡ seat.old.table_id)
+            × (result.table_id ≡ seat.old.table_id) }
+        ensures slots { (seat.new.me.1 ≡ seat.old.me.1) × (result.me.1 ≡ []) }
+        ensures kept { seat.new.me.0 ≡ left_by_split seat.old.me.0 }
+        ensures given { result.me.0 ≡ given_by_split seat.old.me.0 }
+        ensures unused { AreUnused seat.old.me.0 }
     {
         steps_keep_the_rule::<ArrayHall<D>>();
-        let seat = self.table.shared.split_seat::<Share>(&mut pass.seat);
+        self.table.shared.load::<Spare>(seat, 0);
+        self.table.shared.split_seat::<Share>(seat)
+    }
+
+    /// A new pass, which has seen what the old one has, under the first of the old one's spare
+    /// numbers, which no entry names. Takes no memory.
+    pub fn split(&self, pass: &mut Pass<D>) -> Pass<D>
+        requires of_this_hall { IsPassOf self.now pass.old }
+        requires spare { (y : ℕ) × (ys : _) × ((view_of pass.old).spare ≡ y ∷ ys) }
+        ensures of_this_hall { IsPassOf self.now pass.new }
+        ensures of_this_hall_too { IsPassOf self.now result }
+        ensures kept { view_of pass.new ≡ left_by_split (view_of pass.old) }
+        ensures given { view_of result ≡ given_by_split (view_of pass.old) }
+        ensures unused { own_entries result ≡ [] }
+        ensures fronts { (pass.new.front ≡ pass.old.front) × (result.front ≡ pass.old.front) }
+    {
+        let seat = self.split_seat(&mut pass.seat);
         Pass {
             seat,
             front: pass.front,
@@ -145,9 +165,12 @@ impl<D: Drop> Hall<D> {
         requires of_this_hall { IsPassOf self.now pass.old }
         requires of_this_hall_too { IsPassOf self.now other }
         ensures of_this_hall { IsPassOf self.now pass.new }
-        ensures joined { HasJoined (machines (lanes_in (start_of self.now.table.shared.key)))
-            (start_of self.now.table.shared.key) pass.old.seat.me.0 other.seat.me.0
-            pass.new.seat.me.0 }
+        ensures joined { HasJoined (machines (lanes_in (opening self.now))) (opening self.now)
+            (view_of pass.old) (view_of other) (view_of pass.new) }
+        ensures mine { TookIn (view_of pass.new) (view_of pass.old) }
+        ensures theirs { TookIn (view_of pass.new) (view_of other) }
+        ensures names { length (names_of pass.new)
+            ≡ length (names_of pass.old) + length (names_of other) }
         ensures front { pass.new.front ≡ max pass.old.front other.front }
     {
         steps_tell_what_was_seen::<ArrayHall<D>>();
@@ -161,19 +184,24 @@ impl<D: Drop> Hall<D> {
     pub fn turns(&self, pass: &mut Pass<D>) -> u64
         requires of_this_hall { IsPassOf self.now pass.old }
         ensures of_this_hall { IsPassOf self.now pass.new }
-        ensures same { (pass.new.seat.me ≡ pass.old.seat.me) × (pass.new.front ≡ pass.old.front) }
-        ensures turns { length pass.old.seat.me.0.seen.register ≤ result }
+        ensures same { (who pass.new ≡ who pass.old) × (view_of pass.new ≡ view_of pass.old)
+            × (pass.new.front ≡ pass.old.front) }
+        ensures turns { length (seen_by pass.old).register ≤ result }
     {
         steps_keep_the_rule::<ArrayHall<D>>();
         self.table.shared.load::<Count>(&mut pass.seat, 2)
     }
 
     /// The world where one legal history has brought it, which begins with all that the pass had
-    /// seen, and the desk. Every other pass was joined.
+    /// seen, and the desk with which the hall began. Every other pass was joined.
     pub fn close(self, pass: Pass<D>) -> (World, D)
         requires of_this_hall { IsPassOf self pass }
-        requires whole { length (names pass.seat.me.0) ≡ self.table.shared.key.passes }
-        ensures { HasEnded (start_of self.table.shared.key) pass.seat.me.0 result.0 }
+        requires whole { length (names_of pass) ≡ passes_of self }
+        ensures ended { HasEnded (opening self) (view_of pass) result.0 }
+        ensures desk { result.1 ≡ desk_of self }
+
+        // The pass's front is the number of all entries.
+        ensures front { pass.front ≡ places (seen_by pass).register }
     {
         halls_begin_and_end::<ArrayHall<D>>();
         worlds_close();

@@ -1,5 +1,5 @@
 //! The steps of a turn: a number is drawn, its turn is waited for, and it is passed on.
-ghost use Rattle.std.specs.Prelude.{◌≡◌, [], ◌∷◌, true, false};
+ghost use Rattle.std.specs.Prelude.{◌≡◌, ◌<◌, [], ◌∷◌, true, false};
 ghost use Rattle.atomic_table.specs.Table.{rest};
 ghost use Rattle.hall_rule.specs.declared.queue.Queue.TheVariants.{OfRegister};
 ghost use Rattle.hall_rule.specs.Claims.{claim, numbers};
@@ -13,7 +13,20 @@ use crate::hall::Hall;
 use crate::plays::{ArrayHall, Chair, DrawRegister, Leave, Look};
 use hall_rule::{Queue, steps_keep_the_rule, steps_tell_what_was_seen};
 use std::sync::Wait;
-use std::thread;
+use std::time::Duration;
+use std::{hint, thread};
+
+/// So many looks are taken one right behind the other.
+const LOOKS: u32 = 300;
+
+/// Behind so many looks there is a sleep between two, and before that a yield.
+const YIELDS: u32 = 400;
+
+/// The first sleep is of a microsecond, and each of so many is twice as long as the one before.
+const DOUBLINGS: u32 = 9;
+
+/// A sleep ends early where the low half of the word has changed.
+const HALF: u64 = 1 << 32;
 
 impl<D: Drop> Hall<D> {
     // Draws the next number of the register.
@@ -46,14 +59,32 @@ impl<D: Drop> Hall<D> {
         steps_keep_the_rule::<ArrayHall<D>>();
         steps_tell_what_was_seen::<ArrayHall<D>>();
         let limit = queue.limit();
+        let word = queue.word();
+        let mut looks = 0;
         for _ in rt.forever() {
-            let now = self.table.shared.load::<Look<D>>(seat, queue.word());
+            let now = self.table.shared.load::<Look<D>>(seat, word);
             if now == mine && mine < limit {
                 return;
             }
-            thread::yield_now();
+            self.pause(rt, word, now, looks);
+            looks = looks.saturating_add(1);
         }
         unreachable!()
+    }
+
+    // Passes the time between two looks at a word, the longer the more looks there were before.
+    fn pause<W: Wait>(&self, rt: &W, word: usize, now: u64, looks: u32)
+        requires { word < self.now.table.shared.table_id.words }
+    {
+        if looks < LOOKS {
+            hint::spin_loop();
+        } else if looks < YIELDS {
+            thread::yield_now();
+        } else {
+            let low = (now % HALF) as u32;
+            let moment = Duration::from_micros(1 << (looks - YIELDS).min(DOUBLINGS));
+            self.table.shared.park_timeout(rt, word, low, moment);
+        }
     }
 
     // Passes on the turn of the newest claim.

@@ -1,9 +1,11 @@
 -- An ask, from its turns.
-use Rattle.std.proofs.Common.{◌≡◌, inl, ℕ, ◌+◌, ◌<◌, ◌≤◌, List, [], ◌∷◌, ◌++◌, length, length-append, cond, Bool, true, false, eqb, eq-eqb}
+use Rattle.std.proofs.Common.{◌≡◌, inl, ⊎_elim, ℕ, ◌+◌, ◌<◌, ◌≤◌, List, [], ◌∷◌, ◌++◌, length, length-append, cond, Bool, true, false, eqb, eq-eqb}
 use Rattle.std.proofs.Common.{ne_eqb, Some, refl, sym, ap, ◌∙◌, subst, arith}
 use Rattle.std.specs.Prelude.{slice_get}
 use Rattle.lane_histories.specs.Services.{Service, World, Turns, no_turn, one_turn, two_turns}
-use Rattle.lane_histories.specs.Histories.{Ticket, part_of, StartsWith, own, places, in_lane, issued}
+use Rattle.lane_histories.specs.Histories.{Ticket, part_of, StartsWith, own, places, in_lane, issued, ticket_of, tickets, tickets_for}
+use Rattle.lane_histories.specs.declared.items.LaneItem.{LaneItem}
+use Rattle.std.proofs.lemmas.Bool.{eqb-true}
 use Rattle.lane_histories.specs.declared.items.RegisterItem.{RegisterItem}
 use Rattle.lane_histories.specs.declared.items.Entry.{Entry}
 use Rattle.lane_histories.specs.declared.items.Part.{Part}
@@ -23,7 +25,7 @@ use Rattle.hall_rule.specs.Rule.{names, HallView, seeing}
 use Rattle.hall_rule.specs.Steps.{others_of}
 use Rattle.lane_histories.proofs.Lists.{nothing_more}
 use Rattle.hall_rule.proofs.SeenLemmas.{starts_same, starts_trans, own_append, own_push_none, begins_refl, begins_trans}
-use Rattle.hall_rule.proofs.SeenLemmas.{begins_pushed}
+use Rattle.hall_rule.proofs.SeenLemmas.{begins_pushed, one_ticket, ticket_in}
 use Rattle.hall_rule.proofs.FitLemmas.{number_named}
 use Rattle.std.specs.Prelude.{not}
 use Rattle.hall_rule.specs.WholeTurns.{IsPass, MayDraw, entry_behind, HasDecided, MayAct, HasActed}
@@ -33,12 +35,18 @@ use Rattle.lane_histories.specs.Histories.{IsIn}
 use Rattle.lane_histories.specs.Legal.{is_well}
 use Rattle.lane_histories.specs.Replies.{What, entry_what, by_register, outcome_of, one_what, two_what, pair_what, turns_what, what_of}
 use Rattle.lane_histories.specs.Replies.{reply}
-use Rattle.lane_histories.proofs.Lists.{in_back, in_longer}
+use Rattle.lane_histories.proofs.Lists.{in_back, in_either, in_longer}
 use Rattle.lane_histories.proofs.FoundLemmas.{outcomes_are_found}
 use Rattle.lane_histories.proofs.PlaceLemmas.{entries_are_found}
 use Rattle.lane_histories.proofs.Tickets.{one_number, first_number, second_number, ticket_stays}
 
 module _ (service : Service) where
+  -- the ticket of an item of this lane was passed
+  passed_at : (h : SeenLists service) (l k : ℕ) (i : LaneItem service.Task service.Reply) (ticket : Ticket service.Task) → eqb l k ≡ true
+      → ticket_of i ≡ ticket → IsIn (lane_of h.lanes l) i → IsIn (tickets (lane_of h.lanes k)) ticket
+  passed_at h l k i ticket same is here = subst (λ (x : ℕ × Ticket service.Task). IsIn (tickets (lane_of h.lanes x.0)) x.1)
+      (λ j. (eqb-true l k same j, is j)) (ticket_in (lane_of h.lanes l) i here)
+
   outcome_here : (world : World service) (h : SeenLists service) (lane place : ℕ) (part : Part) (task : service.Task)
       (y : Outcome service.Reply) → IsLegal service world (history_of service h) → IsIn (lane_of h.lanes lane) (Passed place part task y)
       → outcome_of place part (lane_of h.lanes lane) ≡ Some y
@@ -102,6 +110,7 @@ module _ {service : Service} {M N P : Type 0} (m : Machines service M N P) (star
       longer = begins_refl v.seen;
       own_same = λ x named. refl;
       legal = may.legal;
+      passed = λ l t here. absurd (subst (λ (turns : Turns service.Task). IsIn (tickets_for service l e.place turns) t) is here);
       what_is = ap (turns_what service (history_of service v.seen).lane e) is;
     }
 
@@ -132,6 +141,11 @@ module _ {service : Service} {M N P : Type 0} (m : Machines service M N P) (star
             longer = subst (λ (h : SeenLists service). GrowsFrom h v.seen) seen_is a.longer;
             own_same = λ x named. t.own_after x named ∙ t.own_before x named;
             legal = t.legal;
+            passed = λ k u here.
+                let one = one_ticket (eqb l k) (part_of e.place Only task) u
+                (subst (λ (turns : Turns service.Task). IsIn (tickets_for service k e.place turns) u) is here) in
+                passed_at service t.seen l k (Passed e.place Only task y) u one.0 one.1
+                (subst (λ (h : SeenLists service). IsIn (lane_of h.lanes l) (Passed e.place Only task y)) seen_is a.here);
             what_is = ap (turns_what service (history_of service t.seen).lane e) is
                 ∙ ap one_what (outcome_here service (world_of m start) t.seen l e.place Only task y t.legal
                 (subst (λ (h : SeenLists service). IsIn (lane_of h.lanes l) (Passed e.place Only task y)) seen_is a.here));
@@ -217,6 +231,13 @@ module _ {service : Service} {M N P : Type 0} (m : Machines service M N P) (star
                 ∙ t.own_before k (subst (λ ns. 0 < times k ns) same_names named) ∙ ap (λ (h : SeenLists service). own k h.register) middle
                 ∙ s.own_after k named ∙ s.own_before k named;
             legal = t.legal;
+            passed = λ k ticket here. ⊎_elim
+                (λ one. let it = one_ticket (eqb a k) (part_of e.place First task) ticket one in
+                passed_at service t.seen a k (Passed e.place First task x) ticket it.0 it.1 first_in)
+                (λ two. let it = one_ticket (eqb b k) (part_of e.place (Second a) next) ticket two in
+                passed_at service t.seen b k (Passed e.place (Second a) next y) ticket it.0 it.1 second_in)
+                (in_either (in_lane k a (part_of e.place First task)) (in_lane k b (part_of e.place (Second a) next)) ticket
+                (subst (λ (turns : Turns service.Task). IsIn (tickets_for service k e.place turns) ticket) is here));
             what_is = ap (turns_what service (history_of service t.seen).lane e) is ∙ (λ i. pair_what (found i) (found' i)) ∙ what_is;
           }
 
@@ -258,6 +279,7 @@ module _ {service : Service} {M N P : Type 0} (m : Machines service M N P) (star
         own_others = λ x other named. own_after x named
             ∙ own_push_none x d.before.register (Entered e) (ap (λ (b : Bool). cond b (e ∷ []) []) (ne_eqb v.number x other))
             ∙ own_before x named;
+        passed = s.passed;
         replied = ap (reply service (history_of service s.seen)) d.place_is
             ∙ replied_at service (world_of m start) s.seen d.before.register e what s.legal entered s.what_is;
       }

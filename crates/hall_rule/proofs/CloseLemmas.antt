@@ -6,12 +6,16 @@ use mathlib.Core.Logic.{dite}
 use native.Mathlib.Decide.{ℕ_discrete}
 use lib.ListN.{get_elem?}
 use Rattle.lane_histories.specs.Services.{Service}
+use Rattle.lane_histories.specs.Histories.{IsIn, entries, issued, tickets}
+use Rattle.lane_histories.specs.declared.items.Entry.{Entry}
+use Rattle.lane_histories.specs.declared.items.RegisterItem.TheVariants.{Entered}
 use Rattle.hall_rule.specs.declared.queue.Queue.{Queue}
 use Rattle.hall_rule.specs.declared.queue.Queue.TheVariants.{OfRegister, OfDesk, OfLane}
 use Rattle.hall_rule.specs.declared.view.Start.{Start}
 use Rattle.hall_rule.specs.declared.slot.Slot.TheVariants.{AtRegister, AtDesk, AtLane}
 use Rattle.hall_rule.specs.Queues.{slot_of, IsQueue}
-use Rattle.hall_rule.specs.Seen.{SeenLists}
+use Rattle.hall_rule.specs.Seen.{SeenLists, lane_of}
+use Rattle.hall_rule.specs.Sums.{times}
 use Rattle.hall_rule.specs.Machines.{Machines}
 use Rattle.hall_rule.specs.Standing.{HallSlot, StandsFor}
 use Rattle.hall_rule.specs.Rule.{names, FollowsRule, HallView, HallState}
@@ -52,18 +56,24 @@ module _ {service : Service} {M N P : Type 0} (m : Machines service M N P) (star
   pub record AtEnd (v : HallView service M N P) (xs : List (HallSlot service M N P)) : Type 0 where
     pub seen : SeenLists service
     pub grown : HasGrown m start v seen
+    pub all_seen : entries seen.register ≡ entries v.seen.register
+    pub named : (e : Entry service.Asked service.Verdict) → IsIn seen.register (Entered e) → 0 < times e.by (names v)
+    pub all_passed : (lane : ℕ) → tickets (lane_of seen.lanes lane) ≡ issued service lane seen.register
     pub there : (q : Queue) → IsQueue (length start.owners) q → (s : HallSlot service M N P) × (get_elem? xs (slot_of q) ≡ some s)
         × StandsFor m q s start seen
 
   pub at_end : (passes : ℕ) (s : HallState service M N P) (xs : List (HallSlot service M N P)) (id : ℕ) (v : HallView service M N P)
       → FollowsRule m passes start s → get_elem? s.views id ≡ some v
       → ((k : ℕ) (y : HallSlot service M N P) → get_elem? s.homes k ≡ some (some y) → get_elem? xs k ≡ some y)
-      → v.live ≡ true → v.claims ≡ [] → length (names v) ≡ passes → AtEnd v xs
-  at_end passes s xs id v r at same live idle whole =
-      let e = closes m passes start s r id v at live idle whole in record {
+      → v.live ≡ true → v.claims ≡ [] → v.guests ≡ [] → length (names v) ≡ passes → AtEnd v xs
+  at_end passes s xs id v r at same live idle alone whole =
+      let e = closes m passes start s r id v at whole live idle alone in record {
         seen = e.0;
         grown = e.1;
-        there = λ q is. let h = e.2 q is in (h.0, same (slot_of q) h.0 h.1, h.2);
+        all_seen = e.2;
+        named = e.3;
+        all_passed = e.4;
+        there = λ q is. let h = e.5 q is in (h.0, same (slot_of q) h.0 h.1, h.2);
       }
 
   pub end_register : (v : HallView service M N P) (xs : List (HallSlot service M N P)) → AtEnd v xs
@@ -88,6 +98,9 @@ module _ {service : Service} {M N P : Type 0} (m : Machines service M N P) (star
       let w = e.there OfDesk tt in record {
         seen = e.seen;
         grown = e.grown;
+        all_seen = e.all_seen;
+        named = e.named;
+        all_passed = e.all_passed;
         register_is = (subst (λ s. StandsFor m OfRegister s start e.seen) (slot_is xs 0 r.0 (AtRegister d) r.1 register) r.2);
         desk_is = (subst (λ s. StandsFor m OfDesk s start e.seen) (slot_is xs 1 w.0 (AtDesk k) w.1 desk) w.2);
         count = count;

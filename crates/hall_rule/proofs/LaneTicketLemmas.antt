@@ -1,10 +1,13 @@
 -- One ticket in each lane, turn by turn.
-use Rattle.std.proofs.Common.{◌≡◌, ℕ, zero, suc, ◌+◌, ◌-◌, ◌<◌, ◌≤◌, List, [], ◌∷◌, ◌++◌, length, cond, Bool, false, ne_eqb, Some, refl}
+use Rattle.std.proofs.Common.{◌≡◌, ◌≢◌, ℕ, zero, suc, ◌+◌, ◌-◌, ◌<◌, ◌≤◌, List, [], ◌∷◌, ◌++◌, length, cond, Bool, false, ne_eqb, Some, refl}
 use Rattle.std.proofs.Common.{sym, ap}
 use Rattle.std.proofs.Common.{◌∙◌, subst, arith}
-use Rattle.std.specs.Prelude.{slice_get}
-use Rattle.lane_histories.specs.Services.{Service, each_lane}
-use Rattle.lane_histories.specs.Histories.{Ticket, cut_of, drawn, issued, own, part_of, places}
+use Rattle.std.specs.Prelude.{nat_lt, slice_get}
+use Rattle.std.proofs.lemmas.Bool.{ltb-true}
+use mathlib.Core.Logic.{dite}
+use native.Mathlib.Decide.{ℕ_discrete}
+use Rattle.lane_histories.specs.Services.{Service, Turns, each_lane}
+use Rattle.lane_histories.specs.Histories.{IsIn, Ticket, cut_of, drawn, issued, own, part_of, places, ticket_of, tickets, tickets_for}
 use Rattle.lane_histories.specs.declared.items.Entry.{Entry}
 use Rattle.lane_histories.specs.declared.items.LaneItem.{LaneItem}
 use Rattle.lane_histories.specs.declared.items.Part.TheVariants.{Only}
@@ -19,7 +22,7 @@ use Rattle.hall_rule.specs.declared.queue.Queue.TheVariants.{OfDesk, OfLane}
 use Rattle.hall_rule.specs.declared.view.Start.{Start}
 use Rattle.hall_rule.specs.Sums.{times, total, upward}
 use Rattle.hall_rule.specs.Machines.{Machines, world_of}
-use Rattle.hall_rule.specs.Seen.{GrowsFrom, SameList, SeenLists, at_lane, history_of}
+use Rattle.hall_rule.specs.Seen.{GrowsFrom, SameList, SeenLists, at_lane, history_of, lane_of}
 use Rattle.hall_rule.specs.Claims.{bumped, busy, claim, claims_of, count_of, holds}
 use Rattle.hall_rule.specs.Rule.{HallView, names, seeing}
 use Rattle.hall_rule.specs.Steps.{others_of}
@@ -29,7 +32,7 @@ use Rattle.hall_rule.specs.LaneTickets.{IsServingLanes, claims_from}
 use Rattle.hall_rule.proofs.AskLemmas.{claims_are, ticket_there}
 use Rattle.hall_rule.proofs.Sums.{total_append}
 use Rattle.lane_histories.proofs.Lists.{nothing_more}
-use Rattle.hall_rule.proofs.SeenLemmas.{begins_refl, begins_trans, same_list_refl, same_list_trans}
+use Rattle.hall_rule.proofs.SeenLemmas.{begins_refl, begins_trans, one_ticket, same_list_refl, same_list_trans, ticket_in, tickets_longer}
 
 -- ---- the numbers of the tickets
 
@@ -69,6 +72,7 @@ module _ {service : Service} {M N P : Type 0} (m : Machines service M N P) (star
         few = omega arith;
         tickets = λ l below. ticket_there m start before e v may l (count_of service before l) (part_of e.place Only task)
             (each_number service before e l task below is);
+        passed = λ l under. absurd (omega (arith, under));
         longer = begins_refl v.seen;
         own_same = λ x named. refl;
         legal = may.legal;
@@ -92,6 +96,7 @@ module _ {service : Service} {M N P : Type 0} (m : Machines service M N P) (star
         tickets = λ l below. ap (λ (register : List (RegisterItem service.Asked service.Verdict)). slice_get (issued service l register)
             (count l)) here
             ∙ cut_number service d.before.register l (drawn d.before.register) (places d.before.register) below;
+        passed = λ l under. absurd (omega (arith, under));
         longer = begins_refl w.seen;
         own_same = λ x named. refl;
         legal = subst (λ (h : SeenLists service). IsLegal service (world_of m start) (history_of service h)) (sym seen) t.legal;
@@ -159,15 +164,20 @@ module _ {service : Service} {M N P : Type 0} (m : Machines service M N P) (star
       }
 
     pub lanes_go_on : (u : HallView service M N P) (item : LaneItem service.Task service.Reply) → lane < service.lanes
-        → HasTurned m start (at_lane lane item) (others_of w.claims) w u → GrowsFrom u.seen w.seen
+        → ticket_of item ≡ ticket → IsIn (lane_of u.seen.lanes lane) item → HasTurned m start (at_lane lane item) (others_of w.claims) w u → GrowsFrom u.seen w.seen
         → IsServingLanes m start count ticket (lane + 1) others v u
-    lanes_go_on u item below t longer =
+    lanes_go_on u item below told here t longer =
         let seen : u.seen ≡ t.seen = ap (λ (x : HallView service M N P). x.seen) t.is in
         let same_names : names v ≡ names w = ap (λ (x : HallView service M N P). names x) (sym s.is) in record {
           is = t.is ∙ (λ i. seeing (s.is i) (others_are below i) (sym seen i));
           few = omega arith;
           tickets = λ l under. ap (λ (register : List (RegisterItem service.Asked service.Verdict)). slice_get (issued service l register)
               (count l)) longer.register.1 ∙ ticket_stays service l (count l) ticket w.seen.register longer.register.0 (s.tickets l under);
+          passed = λ l under. dite (ℕ_discrete l lane)
+              (λ same. subst (λ (x : ℕ × Ticket service.Task). IsIn (tickets (lane_of u.seen.lanes x.0)) x.1) (λ i. (sym same i, told i))
+              (ticket_in (lane_of u.seen.lanes lane) item here))
+              (λ other. tickets_longer (lane_of u.seen.lanes l) (lane_of w.seen.lanes l) ticket (longer.lanes l)
+              (s.passed l (let apart : l ≢ lane = other in omega (arith, under, apart))));
           longer = begins_trans u.seen w.seen v.seen longer s.longer;
           own_same = λ x named.
               let here = subst (λ ns. 0 < times x ns) same_names named in
@@ -195,5 +205,9 @@ module _ {service : Service} {M N P : Type 0} (m : Machines service M N P) (star
     longer = s.longer;
     own_same = s.own_same;
     legal = s.legal;
+    passed = λ l ticket here.
+        let one = one_ticket (nat_lt l service.lanes) (part_of e.place Only task) ticket
+        (subst (λ (turns : Turns service.Task). IsIn (tickets_for service l e.place turns) ticket) is here) in
+        subst (λ (t : Ticket service.Task). IsIn (tickets (lane_of w.seen.lanes l)) t) one.1 (s.passed l (ltb-true l service.lanes one.0));
     what_is = ap (turns_what service (history_of service w.seen).lane e) is;
   }

@@ -1,7 +1,7 @@
 -- Turns of a lane: a request's part, and the lane's part of a drawn cut.
 use Rattle.std.proofs.Common.{◌≡◌, inl, ℕ, ◌<◌, List, [], ◌∷◌, ◌++◌, set, length, Bool, true, false}
 use Rattle.std.proofs.Common.{true≢false, Some, refl, sym, ap, ◌∙◌, subst, arith}
-use Rattle.std.specs.Prelude.{slice_get}
+use Rattle.std.specs.Prelude.{Option, slice_get}
 use Rattle.lane_histories.specs.Services.{Service}
 use Rattle.lane_histories.specs.Histories.{Ticket, part_of, issued}
 use Rattle.lane_histories.specs.Histories.{objects_step}
@@ -18,7 +18,7 @@ use Rattle.hall_rule.specs.declared.view.Start.{Start}
 use Rattle.hall_rule.specs.declared.slot.Slot.TheVariants.{AtLane}
 use Rattle.hall_rule.specs.Sums.{total}
 use Rattle.hall_rule.specs.Queues.{slot_of}
-use Rattle.hall_rule.specs.Seen.{GrowsFrom, SeenLists, history_of, lane_of, at_lane}
+use Rattle.hall_rule.specs.Seen.{GrowsFrom, Item, SeenLists, history_of, lane_of, at_lane}
 use Rattle.hall_rule.specs.Seen.{pushed}
 use Rattle.hall_rule.specs.Machines.{Machines}
 use Rattle.hall_rule.specs.Claims.{claim, holds}
@@ -31,7 +31,10 @@ use Rattle.hall_rule.proofs.SeenLemmas.{lane_set_same, begins_trans, begins_push
 use Rattle.std.specs.Prelude.{option_map}
 use Rattle.std.specs.declared.snapshot.Snapshot.{Snapshot}
 use Rattle.hall_rule.specs.declared.slot.LaneSlot.{LaneSlot}
+use Rattle.hall_rule.specs.declared.slot.LaneNews.{LaneNews}
 use Rattle.hall_rule.specs.declared.slot.LaneNews.TheVariants.{Acts}
+use Rattle.hall_rule.specs.TurnLaws.{SlotsTell}
+use Rattle.lane_histories.specs.declared.items.Outcome.TheVariants.{Done, Short, Skipped}
 use Rattle.hall_rule.specs.Steps.{lane_item, plain_outcome, and_then}
 use Rattle.hall_rule.specs.WholeTurns.{HasTurned, IsToSkip, MayAct, HasActed}
 use Rattle.lane_histories.specs.Histories.{IsIn}
@@ -50,6 +53,23 @@ use Rattle.hall_rule.proofs.TurnLemmas.{lane_stands, turned}
 use Rattle.lane_histories.specs.Histories.{LaneList}
 use Rattle.hall_rule.specs.Seen.{is_cut_of_lane}
 use Rattle.hall_rule.specs.WholeTurns.{IsPass}
+
+-- what lies beside an owner is the item of the ticket in hand
+with_ticket : {T R U : Type 0} (f : LaneItem T R → U) (news : LaneNews R) (found : Option (Ticket T)) (ticket : Ticket T) → found ≡ Some ticket
+    → option_map f (lane_item found news) ≡ option_map f (lane_item (Some ticket) news)
+with_ticket f news found ticket is = ap (λ t. option_map f (lane_item t news)) is
+
+pub slots_tell : {service : Service} {M N P : Type 0} (m : Machines service M N P) (seen : SeenLists service) (by lane n : ℕ) (owner : N)
+    → SlotsTell m seen by lane n owner
+slots_tell {service} m seen by lane n owner =
+    let found : Option (Ticket service.Task) = slice_get (issued service lane seen.register) n in
+    let f : LaneItem service.Task service.Reply → Item service.Asked service.Verdict service.Task service.Reply = at_lane lane in
+    record {
+      done = λ place part task reply ticket. with_ticket f (Acts (Done reply)) found (part_of place part task) ticket;
+      short = λ place part task ticket. with_ticket f (Acts Short) found (part_of place part task) ticket;
+      skipped = λ place part task ticket. with_ticket f (Acts Skipped) found (part_of place part task) ticket;
+      cut = λ number place found_some ticket. with_ticket f (CutsLane found_some) found (cut_of number place) ticket;
+    }
 
 module _ {service : Service} {M N P : Type 0} (m : Machines service M N P) (start : Start M N P) where
   -- whether it is to be skipped is known from the lists as they are when the turn comes

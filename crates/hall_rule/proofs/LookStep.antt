@@ -20,12 +20,12 @@ use Rattle.hall_rule.specs.Machines.{Machines}
 use Rattle.hall_rule.specs.Claims.{claim, is_desk, numbers, holds, busy}
 use Rattle.hall_rule.specs.Standing.{HallSlot}
 use Rattle.hall_rule.specs.Rule.{next_of, AreAtHome, IsViewOf, FollowsRule, HallView, HallState, HallHand, seeing}
-use Rattle.hall_rule.specs.Steps.{HasCounted, HasLookedAt, HasLooked, HasLearnt}
+use Rattle.hall_rule.specs.Steps.{HasCounted, HasLookedAt, HasLooked, HasLearnt, HasSpared}
 use Rattle.hall_rule.proofs.QueueLemmas.{Apart, same_self, same_or_apart}
-use Rattle.hall_rule.proofs.SeenLemmas.{starts_length}
+use Rattle.hall_rule.proofs.SeenLemmas.{own_front, starts_length}
 use Rattle.hall_rule.proofs.WordSteps.{same_words}
 use Rattle.hall_rule.proofs.ClaimSteps.{claimed_set, claims_stay, turn_free, claims_look}
-use Rattle.hall_rule.proofs.FitLemmas.{names_stay, views_set, same_views, view_seeing, grown}
+use Rattle.hall_rule.proofs.FitLemmas.{named_once, names_stay, views_set, same_views, view_seeing, grown}
 
 module _ {service : Service} {M N P : Type 0} (m : Machines service M N P) (passes : ℕ) (start : Start M N P) where
   -- a load that changes no view keeps the rule
@@ -145,6 +145,19 @@ module _ {service : Service} {M N P : Type 0} (m : Machines service M N P) (pass
       let shown = r.words_show.shows OfRegister tt in
       (me.0, keeps, tt, stays s 2 id me.0 r at, (refl, omega arith))
 
+  -- a load before a split: what the rule says of spare numbers holds of what was seen
+  pub spares : (slots id : ℕ) (me : HallHand service M N P) → me.0.live ≡ true
+      → Allows (FollowsRule m passes start) slots id me 0 (λ n. n) (HasSpared (step slots 0 0 0 none) me)
+  spares slots id me live s r deep at views_are =
+      let f = r.views_are id me.0 at in
+      let begun = (f.begins live).register in (
+        me.0,
+        keeps,
+        tt,
+        stays s 0 id me.0 r at,
+        (refl, λ x spare. own_front x r.history.register me.0.seen.register begun (f.unused x live spare)),
+      )
+
   -- the load after a join tells what the hall's lists are, and what the guest had seen of them
   pub learns : (slots id : ℕ) (me : HallHand service M N P) → me.0.live ≡ true
       → Allows (FollowsRule m passes start) slots id me 0 (λ n. n) (HasLearnt m (step slots 0 0 0 none) me)
@@ -172,5 +185,5 @@ module _ {service : Service} {M N P : Type 0} (m : Machines service M N P) (pass
               views_are = views_set (IsViewOf m start h) s.views id w (λ j u other there. r.views_are j u there)
                   (view_seeing m start h h me.0 me.0.claims live f r.lists_are.legal f.unused f.one_register f.one_desk f.one_turn);
             },
-        (h, start, refl, grown m start h me.0 live r.lists_are.legal f),
+        (h, start, refl, grown m start h me.0 live r.lists_are.legal f, λ x. named_once passes s.views id me.0 x at r.names_once),
       )

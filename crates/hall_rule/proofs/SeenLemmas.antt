@@ -1,14 +1,15 @@
 -- How the lists grow, the entries of one pass, and what an item adds.
 use Rattle.std.proofs.Common.{◌≡◌, ◌≢◌, ℕ, zero, suc, ◌+◌, ◌<◌, ◌≤◌, List, [], ◌∷◌, ◌++◌, replicate, set, length, length-set, length-append}
 use Rattle.std.proofs.Common.{get_or-set_same, get_or-set_other, cond, Bool, true, false, eqb, refl, sym, ap, ◌∙◌, subst, arith}
-use Rattle.std.proofs.Common.{append_assoc}
+use Rattle.std.proofs.Common.{append_assoc, eq-eqb, inl, inr, ⊎_elim}
 use mathlib.Core.Option.{some, some-ne-none, some-injective}
 use mathlib.Core.Logic.{dite}
 use native.Mathlib.Decide.{ℕ_discrete}
 use lib.ListN.{get_elem?}
 use Rattle.atomic_table.proofs.Lists.{at_longer}
-use Rattle.lane_histories.proofs.Lists.{all_both, nothing_more, starts_itself}
-use Rattle.lane_histories.specs.Histories.{StartsWith, own}
+use Rattle.lane_histories.proofs.Lists.{all_both, in_front, nothing_more, starts_itself}
+use Rattle.lane_histories.specs.Histories.{IsIn, StartsWith, Ticket, entries, own, ticket_of, tickets}
+use Rattle.lane_histories.specs.declared.items.Entry.{Entry}
 use Rattle.lane_histories.specs.declared.items.RegisterItem.{RegisterItem}
 use Rattle.lane_histories.specs.declared.items.LaneItem.{LaneItem}
 use Rattle.lane_histories.specs.declared.items.RegisterItem.TheVariants.{Entered, DrawnCut, RegisterCut}
@@ -55,6 +56,16 @@ module _ {E : Type 0} where
   empty_of_length [] e = refl
   empty_of_length (x ∷ l) e = absurd (omega arith)
 
+  pub front_empty : (a b : List E) → a ++ b ≡ [] → a ≡ []
+  front_empty [] b e = refl
+  front_empty (x ∷ a) b e = let none = ap length e in absurd (omega arith)
+
+  -- a list that is no longer than its beginning is its beginning
+  pub starts_whole : (a b : List E) → StartsWith a b → length a ≡ length b → a ≡ b
+  starts_whole a b s same =
+      let sum = ap length s.1 ∙ length-append b s.0 in
+      s.1 ∙ ap (λ l. b ++ l) (empty_of_length s.0 (omega arith)) ∙ nothing_more b
+
   pub lane_set_same : (lanes : List (List E)) (lane : ℕ) (l : List E) → lane < length lanes → lane_of (set lanes lane l) lane ≡ l
   lane_set_same lanes lane l lt = get_or-set_same lanes lane l [] lt
 
@@ -99,6 +110,76 @@ module _ {Q V : Type 0} where
   pub own_push_none : (by : ℕ) (xs : List (RegisterItem Q V)) (e : RegisterItem Q V) → own by (e ∷ []) ≡ []
       → own by (xs ++ e ∷ []) ≡ own by xs
   own_push_none by xs e no_own = own_append by xs (e ∷ []) ∙ ap (λ l. own by xs ++ l) no_own ∙ nothing_more (own by xs)
+
+  -- where a list has no entry of a pass, no beginning of it has one
+  pub own_front : (by : ℕ) (xs front : List (RegisterItem Q V)) → StartsWith xs front → own by xs ≡ [] → own by front ≡ []
+  own_front by xs front starts no_own =
+      front_empty (own by front) (own by starts.0) (sym (own_append by front starts.0) ∙ sym (ap (own by) starts.1) ∙ no_own)
+
+  entries_append : (xs ys : List (RegisterItem Q V)) → entries (xs ++ ys) ≡ entries xs ++ entries ys
+  entries_append [] ys = refl
+  entries_append (Entered e ∷ xs) ys = ap (λ l. e ∷ l) (entries_append xs ys)
+  entries_append (DrawnCut number at ∷ xs) ys = entries_append xs ys
+  entries_append (RegisterCut at found ∷ xs) ys = entries_append xs ys
+
+  own_entry : (e : Entry Q V) (xs : List (RegisterItem Q V)) → own e.by (Entered e ∷ xs) ≡ e ∷ own e.by xs
+  own_entry e xs = ap (λ (b : Bool). cond b (e ∷ own e.by xs) (own e.by xs)) (eq-eqb e.by e.by refl)
+
+  no_entries : (xs : List (RegisterItem Q V)) → ((by : ℕ) → own by xs ≡ []) → entries xs ≡ []
+  no_entries [] no_own = refl
+  no_entries (Entered e ∷ xs) no_own = let some = ap length (sym (own_entry e xs) ∙ no_own e.by) in absurd (omega arith)
+  no_entries (DrawnCut number at ∷ xs) no_own = no_entries xs no_own
+  no_entries (RegisterCut at found ∷ xs) no_own = no_entries xs no_own
+
+  -- a list that has no more entries of any pass than its beginning has no more entries
+  pub entries_same : (xs front : List (RegisterItem Q V)) → StartsWith xs front → ((by : ℕ) → own by xs ≡ own by front)
+      → entries xs ≡ entries front
+  entries_same xs front starts same =
+      let more = starts.0 in
+      let none : (by : ℕ) → own by more ≡ [] = λ by.
+      let sum = ap length (sym (own_append by front more) ∙ sym (ap (own by) starts.1) ∙ same by) in
+      let both = length-append (own by front) (own by more) in
+      empty_of_length (own by more) (omega arith) in
+      ap entries starts.1 ∙ entries_append front more ∙ ap (λ l. entries front ++ l) (no_entries more none) ∙ nothing_more (entries front)
+
+  -- an entry of the list is one of its pass
+  pub own_here : (xs : List (RegisterItem Q V)) (e : Entry Q V) → IsIn xs (Entered e) → own e.by xs ≡ [] → ⊥
+  own_here [] e here no_own = here
+  own_here (Entered x ∷ xs) e here no_own = ⊎_elim
+      (λ (same : Entered x ≡ Entered e). let is : x ≡ e = cc in
+      let some = ap length (sym (own_entry e xs) ∙ ap (λ (z : Entry Q V). own e.by (Entered z ∷ xs)) (sym is) ∙ no_own) in omega arith)
+      (λ later. own_here xs e later (rest_none (eqb x.by e.by) no_own))
+      here
+    where
+      rest_none : (b : Bool) → cond b (x ∷ own e.by xs) (own e.by xs) ≡ [] → own e.by xs ≡ []
+      rest_none true none = let some = ap length none in absurd (omega arith)
+      rest_none false none = none
+  own_here (DrawnCut number at ∷ xs) e here no_own = ⊎_elim (λ (same : DrawnCut number at ≡ Entered e). cc) (λ later. own_here xs e later no_own) here
+  own_here (RegisterCut at found ∷ xs) e here no_own = ⊎_elim (λ (same : RegisterCut at found ≡ Entered e). cc) (λ later. own_here xs e later no_own) here
+
+-- ---- tickets that were passed
+
+-- there is one at most
+pub one_ticket : {T : Type 0} (here : Bool) (t u : Ticket T) → IsIn {X = Ticket T} (cond here (t ∷ []) []) u → (here ≡ true) × (t ≡ u)
+one_ticket true t u is = ⊎_elim (λ same. (refl, same)) (λ never. absurd never) is
+one_ticket false t u is = absurd is
+
+module _ {T R : Type 0} where
+  pub ticket_in : (items : List (LaneItem T R)) (i : LaneItem T R) → IsIn items i → IsIn (tickets items) (ticket_of i)
+  ticket_in [] i here = here
+  ticket_in (x ∷ items) i here = ⊎_elim
+      (λ same. inl (ap (λ (z : LaneItem T R). ticket_of z) same))
+      (λ later. inr (ticket_in items i later))
+      here
+
+  tickets_append : (xs ys : List (LaneItem T R)) → tickets (xs ++ ys) ≡ tickets xs ++ tickets ys
+  tickets_append [] ys = refl
+  tickets_append (x ∷ xs) ys = ap (λ l. ticket_of x ∷ l) (tickets_append xs ys)
+
+  -- they stay so
+  pub tickets_longer : (xs front : List (LaneItem T R)) (t : Ticket T) → StartsWith xs front → IsIn (tickets front) t → IsIn (tickets xs) t
+  tickets_longer xs front t starts here = subst (λ (ts : List (Ticket T)). IsIn ts t)
+      (sym (ap (λ (l : List (LaneItem T R)). tickets l) starts.1 ∙ tickets_append front starts.0)) (in_front (tickets front) (tickets starts.0) t here)
 
 module _ {Q V T R : Type 0} where
   pub begins_refl : (h : Lists Q V T R) → GrowsFrom h h

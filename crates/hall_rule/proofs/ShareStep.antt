@@ -1,16 +1,18 @@
 -- A pass is cut in two, a note is made, two passes are joined; the first and the last state.
-use Rattle.std.proofs.Common.{◌≡◌, ◌⊎◌, inl, inr, ⊎_elim, ℕ, zero, suc, ◌+◌, ◌-◌, ◌^◌, ◌<◌, ◌≤◌, List, [], ◌∷◌, ◌++◌, map, set, get_or}
+use Rattle.std.proofs.Common.{◌≡◌, ◌≢◌, ◌⊎◌, inl, inr, ⊎_elim, ℕ, zero, suc, ◌+◌, ◌-◌, ◌^◌, ◌<◌, ◌≤◌, List, [], ◌∷◌, ◌++◌, map, set, get_or}
 use Rattle.std.proofs.Common.{length, length-append, cond, Bool, true, false, true≢false, Some, refl, sym, ap, ◌∙◌, subst, arith}
 use mathlib.Core.Option.{some, none, some-ne-none, some-injective}
 use mathlib.Core.Option as maybe
 use mathlib.Core.Logic.{dite}
-use native.Mathlib.Decide.{ℕ_discrete}
+use native.Mathlib.Decide.{ℕ_discrete, dec_le}
 use lib.ListN.{get_elem?}
 use Rattle.atomic_table.specs.Table.{step, Splits, Joins, opening}
 use Rattle.atomic_table.proofs.Lists.{at_snoc, set_else}
 use Rattle.lane_histories.specs.Services.{Service}
-use Rattle.lane_histories.specs.Histories.{own}
+use Rattle.lane_histories.specs.Histories.{IsIn, entries, issued, own, tickets}
+use Rattle.lane_histories.specs.declared.items.Entry.{Entry}
 use Rattle.lane_histories.specs.declared.items.LaneItem.{LaneItem}
+use Rattle.lane_histories.specs.declared.items.RegisterItem.TheVariants.{Entered}
 use Rattle.hall_rule.specs.declared.queue.Queue.{Queue}
 use Rattle.hall_rule.specs.declared.queue.Queue.TheVariants.{OfRegister, OfDesk, OfLane}
 use Rattle.hall_rule.specs.declared.view.Lists.{Lists}
@@ -18,17 +20,19 @@ use Rattle.hall_rule.specs.declared.view.View.{View}
 use Rattle.hall_rule.specs.declared.view.Start.{Start}
 use Rattle.hall_rule.specs.Sums.{total, times, once_below, upward}
 use Rattle.hall_rule.specs.Queues.{word_of, slot_of, IsQueue}
-use Rattle.hall_rule.specs.Seen.{nothing, len_of, SeenLists}
+use Rattle.hall_rule.specs.Seen.{nothing, lane_of, len_of, SeenLists}
 use Rattle.hall_rule.specs.Machines.{Machines, world_of}
-use Rattle.hall_rule.specs.Claims.{holds}
+use Rattle.hall_rule.specs.Claims.{holds, holds_at, waits}
+use Rattle.hall_rule.specs.declared.queue.Claim.{Claim}
 use Rattle.hall_rule.specs.Standing.{HallSlot, StandsFor}
-use Rattle.hall_rule.specs.Rule.{next_of, names, alive, AreAtHome, IsViewOf, FollowsRule, HallView, HallState, HallHand}
+use Rattle.hall_rule.specs.Rule.{next_of, names, alive, claimed, AreAtHome, IsViewOf, FollowsRule, HallView, HallState, HallHand}
 use Rattle.hall_rule.specs.Rule.{first_view, spent_view, head_or_zero, tail_of, left_by_split, given_by_split, note_of, merged}
 use Rattle.hall_rule.specs.Rule.{seeing}
 use Rattle.hall_rule.specs.Steps.{HasGrown, HasLearnt}
 use Rattle.hall_rule.specs.Joins.{HasJoined}
-use Rattle.hall_rule.proofs.Sums.{total_set, total_push, total_two, total_zero, times_append, times_upward, length_upward, once_no}
-use Rattle.hall_rule.proofs.SeenLemmas.{lane_nothing, length_replicate, begins_refl}
+use Rattle.hall_rule.proofs.Sums.{total_set, total_push, total_only, total_two, total_zero, times_append, times_upward, length_upward, once_no}
+use Rattle.hall_rule.proofs.Sums.{once_same, once_yes}
+use Rattle.hall_rule.proofs.SeenLemmas.{lane_nothing, length_replicate, begins_refl, entries_same, own_front, own_here, starts_whole}
 use Rattle.hall_rule.proofs.ClaimSteps.{claims_stay, claims_new_view, claims_same}
 use Rattle.hall_rule.proofs.LegalLemmas.{legal_nothing, seconds_nothing}
 use Rattle.hall_rule.proofs.FitLemmas.{alive_named, names_stay, views_set, grown}
@@ -283,6 +287,10 @@ at_home [] i x e = absurd (some-ne-none x (sym e))
 at_home (y ∷ xs) zero x e = ap (λ z. some (some z)) (some-injective y x e)
 at_home (y ∷ xs) (suc i) x e = at_home xs i x e
 
+length_tickets : {T R : Type 0} (items : List (LaneItem T R)) → length (tickets items) ≡ length items
+length_tickets [] = refl
+length_tickets (i ∷ items) = ap suc (length_tickets items)
+
 length_homes : {X : Type 0} (xs : List X) → length (map (λ x. let o : maybe.Option X = some x in o) xs) ≡ length xs
 length_homes [] = refl
 length_homes (x ∷ xs) = ap suc (length_homes xs)
@@ -360,30 +368,78 @@ module _ {service : Service} {M N P : Type 0} (m : Machines service M N P) (pass
       only F v h zero u e = subst F (some-injective v u e) h
       only F v h (suc j) u e = absurd (some-ne-none u (sym e))
 
-  -- where a pass has every name, each machine is at home, and stands for its list of one history, which goes on from what the pass has seen
-  pub closes : (s : HallState service M N P) (r : FollowsRule m passes start s) (id : ℕ) (v : HallView service M N P)
-      → get_elem? s.views id ≡ some v → v.live ≡ true → v.claims ≡ [] → length (names v) ≡ passes
-      → (h : SeenLists service) × HasGrown m start v h
-      × ((q : Queue) → IsQueue (length start.owners) q → (sl : HallSlot service M N P)
-      × (get_elem? s.homes (slot_of q) ≡ some (some sl)) × StandsFor m q sl start h)
-  closes s r id v at live bare whole = (
-    r.history,
-    grown m start r.history v live r.lists_are.legal (r.views_are id v at),
-    λ q is. r.homes_are.home q is (total_zero (λ (u : HallView service M N P). total (holds q) u.claims) s.views
+  -- ---- where a pass has every name
+
+  module _ (s : HallState service M N P) (r : FollowsRule m passes start s) (id : ℕ) (v : HallView service M N P)
+      (at : get_elem? s.views id ≡ some v) (whole : length (names v) ≡ passes) where
+    abbrev h : SeenLists service
+    h = r.history
+
+    -- the others are spent
+    others_spent : (j : ℕ) (u : HallView service M N P) → j ≢ id → get_elem? s.views j ≡ some u → u.live ≡ false
+    others_spent j u other there =
+        go u.live refl (let a = total_two (λ (z : HallView service M N P). length (names z)) s.views j id u v other there at in
+        let b = r.names_once.all_names in let c = alive_named u in omega arith)
+      where
+        go : (b : Bool) → u.live ≡ b → alive u ≡ 0 → u.live ≡ false
+        go true is dead = let z : alive u ≡ 1 = ap (λ t. cond {A = ℕ} t 1 0) is in absurd (omega arith)
+        go false is dead = is
+
+    -- each number is one of its names
+    all_named : (x : ℕ) → x < passes → 0 < times x (names v)
+    all_named x below =
+        let only = total_only (λ (z : HallView service M N P). times x (names z)) s.views id v at
+        (λ j u other there. ap (λ (b : Bool). times x (cond b (u.number ∷ (u.spare ++ u.joined)) [])) (others_spent j u other there)) in
+        let once = r.names_once.named x in
+        let one = once_yes x passes below in omega arith
+
+    named_by : (e : Entry service.Asked service.Verdict) → IsIn h.register (Entered e) → 0 < times e.by (names v)
+    named_by e here = dite (dec_le passes e.by)
+        (λ above. absurd (own_here h.register e here (r.lists_are.strangers e.by above)))
+        (λ below. all_named e.by (omega arith))
+
+    -- no entry is there that it hasn't seen
+    same_own : v.live ≡ true → v.guests ≡ [] → (x : ℕ) → own x h.register ≡ own x v.seen.register
+    same_own live alone x =
+        let f = r.views_are id v at in dite (dec_le passes x)
+        (λ above. let unknown = r.lists_are.strangers x above in
+        unknown ∙ sym (own_front x h.register v.seen.register (f.begins live).register unknown))
+        (λ below. ⊎_elim (λ guest. absurd (no_guests v x alone guest)) (λ same. same) (f.owns x (all_named x (omega arith))))
+
+    -- nothing is in hand
+    nobody_claims : v.claims ≡ [] → (f : Claim → ℕ) → claimed f s.views ≡ 0
+    nobody_claims bare f = total_zero (λ (u : HallView service M N P). total f u.claims) s.views
         (λ j u there. dite (ℕ_discrete j id)
-        (λ same. ap (total (holds q)) (ap (λ (z : HallView service M N P). z.claims)
+        (λ same. ap (total f) (ap (λ (z : HallView service M N P). z.claims)
         (some-injective u v (sym there ∙ ap (get_elem? s.views) same ∙ at)) ∙ bare))
-        (λ other. ap (total (holds q)) ((r.views_are j u there).idle
-        (dead u (let a = total_two (λ (z : HallView service M N P). length (names z)) s.views j id u v other there at in
-        let b = r.names_once.all_names in let c = alive_named u in omega arith)))))),
-  )
-    where
-      dead : (u : HallView service M N P) → alive u ≡ 0 → u.live ≡ false
-      dead u e = go u.live refl
-        where
-          go : (b : Bool) → u.live ≡ b → u.live ≡ false
-          go true is = let z : alive u ≡ 1 = ap (λ t. cond {A = ℕ} t 1 0) is in absurd (omega arith)
-          go false is = is
+        (λ other. ap (total f) ((r.views_are j u there).idle (others_spent j u other there))))
+
+    -- so each ticket was passed
+    passed_all : v.claims ≡ [] → (l : ℕ) → tickets (lane_of h.lanes l) ≡ issued service l h.register
+    passed_all bare l =
+        let same : length (lane_of h.lanes l) ≡ length (issued service l h.register) = once_same _ _ (λ n.
+        let a = nobody_claims bare (waits (OfLane l) n) in let b = nobody_claims bare (holds_at (OfLane l) n) in
+        let c = r.claims_once.once (OfLane l) n in
+        let d : once_below n (length (lane_of h.lanes l)) ≡ once_below n (length (issued service l h.register)) = omega arith in d) in
+        let many = length_tickets (lane_of h.lanes l) in
+        sym (starts_whole (issued service l h.register) (tickets (lane_of h.lanes l)) (r.lists_are.legal.in_order l) (omega arith))
+
+    -- each machine is at home, and stands for its list of one history, which goes on from what the pass has seen
+    pub closes : v.live ≡ true → v.claims ≡ [] → v.guests ≡ []
+        → (g : SeenLists service) × HasGrown m start v g
+        × (entries g.register ≡ entries v.seen.register)
+        × ((e : Entry service.Asked service.Verdict) → IsIn g.register (Entered e) → 0 < times e.by (names v))
+        × ((l : ℕ) → tickets (lane_of g.lanes l) ≡ issued service l g.register)
+        × ((q : Queue) → IsQueue (length start.owners) q → (sl : HallSlot service M N P)
+        × (get_elem? s.homes (slot_of q) ≡ some (some sl)) × StandsFor m q sl start g)
+    closes live bare alone = (
+      h,
+      grown m start h v live r.lists_are.legal (r.views_are id v at),
+      entries_same h.register v.seen.register ((r.views_are id v at).begins live).register (same_own live alone),
+      named_by,
+      passed_all bare,
+      λ q is. r.homes_are.home q is (nobody_claims bare (holds q)),
+    )
 
 module _ {service : Service} {M N P : Type 0} (m : Machines service M N P) (start : Start M N P) where
   -- the load after a join tells what the two had seen
@@ -392,15 +448,23 @@ module _ {service : Service} {M N P : Type 0} (m : Machines service M N P) (star
   joined_as v w k me me' live lives begun is told =
       let starts : Some told.1 ≡ Some start = sym told.3.start_is ∙ ap (λ (x : HallView service M N P). x.start) is ∙ begun in
       let same : told.1 ≡ start = cc in
-      let g = subst (λ (x : Start M N P × HallView service M N P). HasGrown m x.0 x.1 told.0) (λ i. (same i, is i)) told.3 in (
+      let g = subst (λ (x : Start M N P × HallView service M N P). HasGrown m x.0 x.1 told.0) (λ i. (same i, is i)) told.3 in
+      let apart : (x : ℕ) → times x (names (merged v w)) ≤ 1 =
+      λ x. subst (λ (z : HallView service M N P). times x (names z) ≤ 1) is (told.4 x) in
+      let now : me'.0 ≡ seeing (merged v w) v.claims told.0 =
+      ap (λ (x : HallHand service M N P). x.0) told.2 ∙ (λ i. seeing (is i) (is i).claims told.0) in (
         record {
           seen = told.0;
-          is = ap (λ (x : HallHand service M N P). x.0) told.2 ∙ (λ i. seeing (is i) (is i).claims told.0);
+          is = now;
           mine_begin = g.begins;
           theirs_begin = g.guest_begins;
-          mine_same = λ x named. g.owns x (let both = merged_times v w x live lives in omega arith);
+          mine_same = λ x named.
+              let both = merged_times v w x live lives in
+              ⊎_elim (λ (guest : 0 < times x (names w)). let most = apart x in absurd (omega arith)) (λ e. e) (g.owns x (omega arith));
           theirs_same = g.guest_owns;
           legal = g.legal;
+          both_names = λ x. ap (λ (z : HallView service M N P). times x (names z)) now ∙ merged_times v w x live lives;
+          as_many = ap (λ (z : HallView service M N P). length (names z)) now ∙ merged_length v w live lives;
         },
         ap (λ (x : HallHand service M N P). x.1) told.2,
       )

@@ -136,6 +136,7 @@ module _ {service : Service} {M N P : Type 0} (m : Machines service M N P) (star
   -- others asked and took turns
   pub desk_on : (h g : SeenLists service) (d : P) → GrowsUncut h g → h.keepings ≡ g.keepings → IsDeskOf m start g d → IsDeskOf m start h d
   desk_on h g d goes same is = record {
+    since = is.since;
     world = is.world;
     uncut = goes_trans h g (m.note d) goes is.uncut;
     far = subst (λ ks. AllByRecursion (λ k. IsAsFar k.own (m.reach d)) ks) (sym same) is.far;
@@ -146,6 +147,7 @@ module _ {service : Service} {M N P : Type 0} (m : Machines service M N P) (star
   pub desk_pushed_on : (h : SeenLists service) (d : P) (k : Keeping) → IsDeskOf m start h d → IsAsFar k.own (m.reach d)
       → (k.answer ≡ Kept → (k.own ≡ m.reach d) × (k.moment ≡ m.moment d)) → IsDeskOf m start (pushed h (at_desk k)) d
   desk_pushed_on h d k is near own = record {
+    since = is.since;
     world = is.world;
     uncut = goes_trans (pushed h (at_desk k)) h (m.note d) (goes_pushed h (at_desk k) tt refl) is.uncut;
     far = all_both _ h.keepings (k ∷ []) is.far (near, tt);
@@ -157,9 +159,10 @@ module _ {service : Service} {M N P : Type 0} (m : Machines service M N P) (star
 
   -- its note was brought up in its turn, and it reaches no less far
   pub desk_brought_up : (h g : SeenLists service) (old new : P) → IsDeskOf m start g old → h.keepings ≡ g.keepings
-      → m.noted_world new ≡ m.noted_world old → GrowsUncut h (m.note new) → (m.note new).keepings ≡ h.keepings
+      → ((first : P) → m.DeskIsSince old first → m.DeskIsSince new first) → m.noted_world new ≡ m.noted_world old → GrowsUncut h (m.note new) → (m.note new).keepings ≡ h.keepings
       → IsAsFar (m.reach old) (m.reach new) → IsDeskOf m start h new
-  desk_brought_up h g old new is same world goes noted far = record {
+  desk_brought_up h g old new is same since world goes noted far = record {
+    since = since start.desk is.since;
     world = world ∙ is.world;
     uncut = goes;
     far = subst (λ ks. AllByRecursion (λ k. IsAsFar k.own (m.reach new)) ks) (sym same)
@@ -176,6 +179,7 @@ module _ {service : Service} {M N P : Type 0} (m : Machines service M N P) (star
 
   pub desk_begun : IsFresh m start → IsDeskOf m start (nothing (length start.owners)) start.desk
   desk_begun fresh = record {
+    since = fresh.desk;
     world = fresh.world;
     uncut = subst (GrowsUncut (nothing (length start.owners))) (sym fresh.note) (goes_refl (nothing (length start.owners)));
     far = tt;

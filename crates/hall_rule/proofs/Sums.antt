@@ -67,6 +67,12 @@ once_yes x n h = ap (λ (b : Bool). cond b 1 0) (lt-ltb x n h)
 pub once_no : (x n : ℕ) → n ≤ x → once_below x n ≡ 0
 once_no x n h = ap (λ (b : Bool). cond b 1 0) (le-ltb x n h)
 
+pub once_same : (a b : ℕ) → ((n : ℕ) → once_below n a ≡ once_below n b) → a ≡ b
+once_same a b same = dite (dec_le b a)
+    (λ le. dite (dec_le a b) (λ ge. omega arith)
+    (λ gt. let x = once_yes b a (omega arith) in let y = once_no b b (omega arith) in let z = same b in absurd (omega arith)))
+    (λ lt. let x = once_yes a b (omega arith) in let y = once_no a a (omega arith) in let z = same a in absurd (omega arith))
+
 pub once_step : (x n : ℕ) → once_below x (n + 1) ≡ once_below x n + cond (eqb n x) 1 0
 once_step x n = dite (ℕ_discrete n x)
     (λ e. let a = once_yes x (n + 1) (omega arith) in let b = once_no x n (omega arith) in

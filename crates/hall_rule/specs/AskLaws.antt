@@ -3,7 +3,7 @@
 --     LanesAreServed m      a request that goes to all lanes, and a drawn cut
 use Rattle.std.specs.Prelude.{◌≡◌, ℕ, ◌+◌, ◌<◌, ◌≤◌, not, false, List, [], length, Some}
 use Rattle.lane_histories.specs.Services.{each_lane, no_turn, one_turn, two_turns}
-use Rattle.lane_histories.specs.Histories.{Ticket, cut_of, drawn, part_of, places}
+use Rattle.lane_histories.specs.Histories.{IsIn, Ticket, cut_of, drawn, part_of, places, ticket_of}
 use Rattle.lane_histories.specs.Legal.{is_well}
 use Rattle.lane_histories.specs.Replies.{What, by_register, two_what, what_of}
 use Rattle.lane_histories.specs.declared.items.Entry.{Entry}
@@ -19,7 +19,7 @@ use Rattle.hall_rule.specs.Machines.{Machines}
 use Rattle.hall_rule.specs.Rule.{HallView, seeing}
 use Rattle.hall_rule.specs.Sums.{total}
 use Rattle.hall_rule.specs.Claims.{bumped, busy, count_of, holds}
-use Rattle.hall_rule.specs.Seen.{GrowsFrom, at_lane}
+use Rattle.hall_rule.specs.Seen.{GrowsFrom, at_lane, lane_of}
 use Rattle.hall_rule.specs.Steps.{others_of}
 use Rattle.hall_rule.specs.WholeTurns.{HasActed, HasDecided, HasDrawnCut, HasTurned, IsPass}
 use Rattle.hall_rule.specs.WholeTurns.{MayAct, MayCutLane, MayDraw, entry_behind}
@@ -103,8 +103,9 @@ pub record LaneLaws {service : Service} {M N P : Type 0} (m : Machines service M
       → ticket ≡ part_of place Only task
       → MayAct service start lane (count lane) place Only task false w
   pub go_on : (u : HallView service M N P) (item : LaneItem service.Task service.Reply)
-      → lane < service.lanes → HasTurned m start (at_lane lane item) (others_of w.claims) w u
-      → GrowsFrom u.seen w.seen → IsServingLanes m start count ticket (lane + 1) others v u
+      → lane < service.lanes → ticket_of item ≡ ticket → IsIn (lane_of u.seen.lanes lane) item
+      → HasTurned m start (at_lane lane item) (others_of w.claims) w u → GrowsFrom u.seen w.seen
+      → IsServingLanes m start count ticket (lane + 1) others v u
   pub end : lane ≡ service.lanes → w ≡ seeing v others w.seen
 
 pub record LanesAreServed {service : Service} {M N P : Type 0} (m : Machines service M N P)

@@ -4,20 +4,30 @@ use Rattle.std.specs.Prelude.{◌≡◌, ℕ, ◌<◌, List, length}
 use mathlib.Core.Option.{some}
 use lib.ListN.{get_elem?}
 use Rattle.lane_histories.specs.Services.{Service}
+use Rattle.lane_histories.specs.Histories.{IsIn, entries, issued, tickets}
+use Rattle.lane_histories.specs.declared.items.Entry.{Entry}
+use Rattle.lane_histories.specs.declared.items.RegisterItem.TheVariants.{Entered}
 use Rattle.hall_rule.specs.declared.view.Start.{Start}
 use Rattle.hall_rule.specs.Machines.{Machines}
 use Rattle.hall_rule.specs.Standing.{IsDeskOf, IsOwnerOf, IsRegisterOf}
 use Rattle.hall_rule.specs.Seen.{SeenLists, lane_of}
-use Rattle.hall_rule.specs.Rule.{HallView}
+use Rattle.hall_rule.specs.Rule.{HallView, names}
+use Rattle.hall_rule.specs.Sums.{times}
 use Rattle.hall_rule.specs.Steps.{HasGrown}
 
--- There is one legal history, which begins with all that the last pass had seen. Each machine is
--- where its list of it has brought it.
+-- There is one legal history, which begins with all that the last pass had seen. The pass has seen
+-- each of its entries, each of them is of one of its numbers, and each ticket was passed. Each
+-- machine is where its list of it has brought it.
 pub record HasClosed {service : Service} {M N P : Type 0} (m : Machines service M N P)
     (start : Start M N P) (v : HallView service M N P) (register : M) (owners : List N)
     (desk : P) : Type 0 where
   pub seen : SeenLists service
   pub grown : HasGrown m start v seen
+  pub all_seen : entries seen.register ≡ entries v.seen.register
+  pub named : (e : Entry service.Asked service.Verdict) → IsIn seen.register (Entered e)
+      → 0 < times e.by (names v)
+  pub all_passed : (lane : ℕ)
+      → tickets (lane_of seen.lanes lane) ≡ issued service lane seen.register
   pub register_is : IsRegisterOf m start seen.register register
   pub desk_is : IsDeskOf m start seen desk
   pub count : length owners ≡ length start.owners

@@ -49,4 +49,5 @@ pub record HallsBeginAndEnd {service : Service} {M N P : Type 0} (m : Machines s
       → FollowsRule m passes start s → get_elem? s.views id ≡ some v
       → ((k : ℕ) (slot : HallSlot service M N P) → get_elem? s.homes k ≡ some (some slot)
       → get_elem? slots k ≡ some slot)
-      → v.live ≡ true → v.claims ≡ [] → length (names v) ≡ passes → EndLaws m start v slots
+      → v.live ≡ true → v.claims ≡ [] → v.guests ≡ [] → length (names v) ≡ passes
+      → EndLaws m start v slots

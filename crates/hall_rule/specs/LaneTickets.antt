@@ -4,7 +4,8 @@
 use Rattle.std.specs.Prelude.{◌≡◌, ℕ, zero, suc, ◌+◌, ◌-◌, ◌<◌, ◌≤◌, List, [], ◌∷◌, ◌++◌, Some}
 use Rattle.std.specs.Prelude.{false, slice_get}
 use Rattle.lane_histories.specs.Services.{Service}
-use Rattle.lane_histories.specs.Histories.{Ticket, issued, own}
+use Rattle.lane_histories.specs.Histories.{IsIn, Ticket, issued, own}
+use Rattle.lane_histories.specs.Histories.{tickets as tickets_passed}
 use Rattle.lane_histories.specs.Legal.{IsLegal}
 use Rattle.hall_rule.specs.declared.queue.Claim.{Claim}
 use Rattle.hall_rule.specs.declared.queue.Queue.{Queue}
@@ -12,7 +13,7 @@ use Rattle.hall_rule.specs.declared.queue.Queue.TheVariants.{OfLane}
 use Rattle.hall_rule.specs.declared.view.Start.{Start}
 use Rattle.hall_rule.specs.Sums.{times, total}
 use Rattle.hall_rule.specs.Machines.{Machines, world_of}
-use Rattle.hall_rule.specs.Seen.{GrowsFrom, SameList, history_of}
+use Rattle.hall_rule.specs.Seen.{GrowsFrom, SameList, history_of, lane_of}
 use Rattle.hall_rule.specs.Claims.{claim, holds}
 use Rattle.hall_rule.specs.Rule.{HallView, names, seeing}
 
@@ -29,6 +30,8 @@ pub record IsServingLanes {service : Service} {M N P : Type 0} (m : Machines ser
   pub few : lane ≤ service.lanes
   pub tickets : (l : ℕ) → l < service.lanes
       → slice_get (issued service l w.seen.register) (count l) ≡ Some ticket
+  -- the lanes below have passed theirs
+  pub passed : (l : ℕ) → l < lane → IsIn (tickets_passed (lane_of w.seen.lanes l)) ticket
   pub longer : GrowsFrom w.seen v.seen
   pub own_same : (x : ℕ) → 0 < times x (names v)
       → own x w.seen.register ≡ own x v.seen.register

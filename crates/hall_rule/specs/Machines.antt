@@ -17,6 +17,8 @@ pub record Machines (service : Service) (M N P : Type 0) : Type 1 where
   -- all that changed since its catalogue, or its lane's objects, were these is marked
   pub RegisterIsSince : M → service.Catalogue → Type 0
   pub OwnerIsSince : N → ℕ → service.Objects → Type 0
+  -- the desk is what a hall that began with this one may have made of it
+  pub DeskIsSince : P → P → Type 0
   -- the lists in the desk's note, and the world from which they go
   pub note : P → SeenLists service
   pub noted_world : P → World service

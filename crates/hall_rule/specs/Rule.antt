@@ -52,6 +52,14 @@ module _ {Q V T R X : Type 0} where
   abbrev pub alive : View Q V T R X → ℕ
   alive v = cond v.live 1 0
 
+  -- none of the entries that were seen has a number that the view may give to others
+  abbrev pub AreUnused : View Q V T R X → Type 0
+  AreUnused v = (x : ℕ) → 0 < times x v.spare → own x v.seen.register ≡ []
+
+  -- no number stands twice among the names
+  abbrev pub AreApart : View Q V T R X → Type 0
+  AreApart v = (x : ℕ) → times x (names v) ≤ 1
+
 -- each list's word shows its length
 pub record ShowsLengths {Q V T R : Type 0} (lanes register_next desk_next : ℕ) (h : Lists Q V T R)
     (words : List ℕ) : Type 0 where

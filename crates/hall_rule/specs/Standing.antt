@@ -59,6 +59,7 @@ module _ {service : Service} {M N P : Type 0} (m : Machines service M N P)
   -- The note's lists begin those of the hall, and behind them nobody cut. No keeping reaches
   -- farther than the desk, and each that was answered Ok is its own.
   pub record IsDeskOf (h : SeenLists service) (desk : P) : Type 0 where
+    pub since : m.DeskIsSince desk start.desk
     pub world : m.noted_world desk ≡ world_of m start
     pub uncut : GrowsUncut h (m.note desk)
     pub far : AllByRecursion (λ k. IsAsFar k.own (m.reach desk)) h.keepings
@@ -69,6 +70,7 @@ module _ {service : Service} {M N P : Type 0} (m : Machines service M N P)
     pub register : m.RegisterIsSince start.register (service.catalogue (m.register start.register))
     pub owners : (lane : ℕ) (o : N) → get_elem? start.owners lane ≡ some o
         → m.OwnerIsSince o lane (m.owner o)
+    pub desk : m.DeskIsSince start.desk start.desk
     pub note : m.note start.desk ≡ nothing (length start.owners)
     pub world : m.noted_world start.desk ≡ world_of m start
 

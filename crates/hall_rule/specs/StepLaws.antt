@@ -21,7 +21,7 @@ use Rattle.hall_rule.specs.Queues.{IsQueue, limit_of, word_of}
 use Rattle.hall_rule.specs.Claims.{claim, numbers}
 use Rattle.hall_rule.specs.Seen.{Item, queue_of}
 use Rattle.hall_rule.specs.Steps.{HasCounted, HasDrawn, HasLearnt, HasLooked, HasLookedAt}
-use Rattle.hall_rule.specs.Steps.{HasPassed, HasTaken, PassesTurn}
+use Rattle.hall_rule.specs.Steps.{HasPassed, HasSpared, HasTaken, PassesTurn}
 use Rattle.hall_rule.specs.WholeTurns.{IsReadyToPass, MayLook}
 use Rattle.hall_rule.specs.Joins.{HasJoined}
 
@@ -48,6 +48,9 @@ pub record StepLaws {service : Service} {M N P : Type 0} (m : Machines service M
       (q : Queue) (word : ℕ) → word ≡ word_of q → queue_of item ≡ q → IsReadyToPass m start item me
       → Allows (FollowsRule m passes start) slots id me word (λ n. (n + 1) % 2 ^ 64)
       (PassesTurn m (step slots word 1 0 none) me)
+  -- a load before a split
+  pub spares : me.0.live ≡ true → Allows (FollowsRule m passes start) slots id me 0 (λ n. n)
+      (HasSpared (step slots 0 0 0 none) me)
   -- a load behind a join
   pub learns : me.0.live ≡ true → Allows (FollowsRule m passes start) slots id me 0 (λ n. n)
       (HasLearnt m (step slots 0 0 0 none) me)

@@ -1,5 +1,6 @@
 -- What each step tells the pass that takes it.
---     HasDrawn, HasCounted, HasLooked, PassesTurn, HasLearnt    what each kind does to a view
+--     HasDrawn, HasCounted, HasSpared, HasLooked, PassesTurn, HasLearnt    what each kind does to
+--                     a view
 --     HasTaken ..     a look took a turn: its machine, and the lists as they are
 --     HasPassed ..    the item beside the machine joined its list
 --     HasGrown ..     the lists go on from those that a view had seen
@@ -35,7 +36,7 @@ use Rattle.hall_rule.specs.Seen.{GrowsFrom, GrowsUncut, len_of, SameList, SeenLi
 use Rattle.hall_rule.specs.Seen.{Item, at_register, at_desk, at_lane, queue_of, pushed}
 use Rattle.hall_rule.specs.Claims.{claim, holds, issued_by}
 use Rattle.hall_rule.specs.Standing.{HallSlot, StandsFor}
-use Rattle.hall_rule.specs.Rule.{names, HallView, HallHand, seeing}
+use Rattle.hall_rule.specs.Rule.{AreApart, AreUnused, names, HallView, HallHand, seeing}
 
 -- what a turn of the register adds behind these items
 abbrev pub register_item : {Q V : Type 0} → List (RegisterItem Q V) → ℕ → RegisterNews Q V
@@ -63,6 +64,11 @@ lane_item (Some (part_of place part task)) (Acts outcome) =
 lane_item (Some (part_of place part task)) (CutsLane found) = None
 lane_item (Some (cut_of number at)) (Acts outcome) = None
 lane_item (Some (cut_of number at)) (CutsLane found) = Some (WasCut number at found)
+
+-- the slot of a lane with its owner, and what a turn did
+abbrev pub lane_slot : {service : Service} {M N P : Type 0} → Machines service M N P → N
+    → LaneNews service.Reply → HallSlot service M N P
+lane_slot m owner news = AtLane (record { owner = owner; news = Some news })
 
 abbrev pub and_then : {X Y : Type 0} → Option X → (X → Option Y) → Option Y
 and_then None f = None
@@ -120,6 +126,10 @@ module _ {Z Q V T R X : Type 0} where
   -- the number of items shown is at least that of those seen
   abbrev pub HasCounted : Step Z → Me Z (View Q V T R X) → ℕ → Me Z (View Q V T R X) → Type 0
   HasCounted st me n me' = (me' ≡ me) × (length me.0.seen.register ≤ n)
+
+  -- nothing was asked under the numbers that the view may give away
+  abbrev pub HasSpared : Step Z → Me Z (View Q V T R X) → ℕ → Me Z (View Q V T R X) → Type 0
+  HasSpared st me n me' = (me' ≡ me) × AreUnused me.0
 
 -- the number was shown: the machine that was taken out stands for its list, and the view has seen
 -- all lists
@@ -190,4 +200,4 @@ module _ {service : Service} {M N P : Type 0} (m : Machines service M N P) where
   abbrev pub HasLearnt : Step (HallSlot service M N P) → HallHand service M N P → ℕ
       → HallHand service M N P → Type 0
   HasLearnt st me k me' = (h : SeenLists service) × (start : Start M N P)
-      × (me' ≡ (seeing me.0 me.0.claims h, me.1)) × HasGrown m start me.0 h
+      × (me' ≡ (seeing me.0 me.0.claims h, me.1)) × HasGrown m start me.0 h × AreApart me.0

@@ -5,11 +5,12 @@
 --     LaneTurns m         a part of a request is done, or the lane is cut
 --     DeskTurns m         the desk's turn, with all that the pass does in it
 use Rattle.std.specs.Prelude.{◌≡◌, ℕ, ◌<◌, ◌^◌, Bool, true, false, List, ◌∷◌, length, Some}
+use Rattle.std.specs.Prelude.{slice_get}
 use Rattle.std.specs.List.{AllByRecursion}
 use Rattle.std.specs.declared.snapshot.Snapshot.{Snapshot}
 use Rattle.lane_histories.specs.Cuts.{GoesOn}
 use Rattle.lane_histories.specs.KeptContents.{IsAsFar}
-use Rattle.lane_histories.specs.Histories.{drawn, objects_step, own, part_of, places}
+use Rattle.lane_histories.specs.Histories.{cut_of, drawn, issued, objects_step, own, part_of, places}
 use Rattle.lane_histories.specs.declared.items.LaneItem.{LaneItem}
 use Rattle.lane_histories.specs.declared.items.RegisterItem.{RegisterItem}
 use Rattle.lane_histories.specs.Legal.{IsLegalOutcome, IsNext, IsPrefix, is_skipped}
@@ -18,6 +19,7 @@ use Rattle.lane_histories.specs.declared.items.Answer.TheVariants.{Kept}
 use Rattle.lane_histories.specs.declared.items.Keeping.{Keeping}
 use Rattle.lane_histories.specs.declared.items.LaneItem.TheVariants.{Passed, WasCut}
 use Rattle.lane_histories.specs.declared.items.Outcome.{Outcome}
+use Rattle.lane_histories.specs.declared.items.Outcome.TheVariants.{Done, Short, Skipped}
 use Rattle.lane_histories.specs.declared.items.Part.{Part}
 use Rattle.lane_histories.specs.declared.items.RegisterItem.TheVariants.{DrawnCut, Entered}
 use Rattle.lane_histories.specs.declared.items.RegisterItem.TheVariants.{RegisterCut}
@@ -40,7 +42,8 @@ use Rattle.hall_rule.specs.Queues.{limit_of, slot_of}
 use Rattle.hall_rule.specs.Claims.{claim, count_of, holds}
 use Rattle.hall_rule.specs.Seen.{GrowsFrom, GrowsUncut, SeenLists, at_desk, at_lane, at_register}
 use Rattle.hall_rule.specs.Seen.{history_of, lane_of, lanes_of, pushed}
-use Rattle.hall_rule.specs.Steps.{HasPassed, HasTaken, others_of, plain_outcome}
+use Rattle.hall_rule.specs.Steps.{HasPassed, HasTaken, lane_slot, news_of, others_of}
+use Rattle.hall_rule.specs.Steps.{plain_outcome}
 use Rattle.hall_rule.specs.WholeTurns.{HasActed, HasCutLane, HasCutRegister, HasDecided}
 use Rattle.hall_rule.specs.WholeTurns.{HasDrawnCut, HasKept, IsPass, IsReadyToPass, MayAct}
 use Rattle.hall_rule.specs.WholeTurns.{MayCutLane, MayDraw, MayDrawDesk, MayLook, entry_behind}
@@ -152,6 +155,27 @@ pub record RegisterTurns {service : Service} {M N P : Type 0} (m : Machines serv
 
 -- ---- lanes
 
+-- The item that an owner's slot tells, with the ticket in hand of a part: the reply as it was given,
+-- that memory was wanting, or that the turn was passed over. With that of a cut it tells the cut.
+pub record SlotsTell {service : Service} {M N P : Type 0} (m : Machines service M N P)
+    (seen : SeenLists service) (by lane n : ℕ) (owner : N) : Type 0 where
+  pub done : (place : ℕ) (part : Part) (task : service.Task) (reply : Snapshot service.Reply)
+      → slice_get (issued service lane seen.register) n ≡ Some (part_of place part task)
+      → news_of service seen by (OfLane lane) n (lane_slot m owner (Acts (Done reply)))
+      ≡ Some (at_lane lane (Passed place part task (Done reply.value)))
+  pub short : (place : ℕ) (part : Part) (task : service.Task)
+      → slice_get (issued service lane seen.register) n ≡ Some (part_of place part task)
+      → news_of service seen by (OfLane lane) n (lane_slot m owner (Acts Short))
+      ≡ Some (at_lane lane (Passed place part task Short))
+  pub skipped : (place : ℕ) (part : Part) (task : service.Task)
+      → slice_get (issued service lane seen.register) n ≡ Some (part_of place part task)
+      → news_of service seen by (OfLane lane) n (lane_slot m owner (Acts Skipped))
+      ≡ Some (at_lane lane (Passed place part task Skipped))
+  pub cut : (number place : ℕ) (found : Bool)
+      → slice_get (issued service lane seen.register) n ≡ Some (cut_of number place)
+      → news_of service seen by (OfLane lane) n (lane_slot m owner (CutsLane found))
+      ≡ Some (at_lane lane (WasCut number place found))
+
 pub record LaneTurnLaws {service : Service} {M N P : Type 0} (m : Machines service M N P)
     (start : Start M N P) (lane n : ℕ) (seen : SeenLists service)
     (first back : HallHand service M N P) (d new : LaneSlot N service.Reply) : Type 0 where
@@ -183,6 +207,9 @@ pub record LaneTurnLaws {service : Service} {M N P : Type 0} (m : Machines servi
 
 pub record LaneTurns {service : Service} {M N P : Type 0} (m : Machines service M N P)
     : Type 0 where
+  -- what lies beside the owner is what its turn adds to the list
+  pub news : (seen : SeenLists service) (by lane n : ℕ) (owner : N)
+      → SlotsTell m seen by lane n owner
   -- a ticket's turn came, and the owner is in its slot again
   pub turn : (start : Start M N P) (lane n : ℕ) (first taken back : HallHand service M N P)
       (d new : LaneSlot N service.Reply)
@@ -220,6 +247,7 @@ pub record DeskTurns {service : Service} {M N P : Type 0} (m : Machines service 
   -- its note was brought up in its turn, and it reaches no less far
   pub brought_up : (start : Start M N P) (h g : SeenLists service) (old new : P)
       → IsDeskOf m start g old → h.keepings ≡ g.keepings
+      → ((first : P) → m.DeskIsSince old first → m.DeskIsSince new first)
       → m.noted_world new ≡ m.noted_world old → GrowsUncut h (m.note new)
       → (m.note new).keepings ≡ h.keepings → IsAsFar (m.reach old) (m.reach new)
       → IsDeskOf m start h new

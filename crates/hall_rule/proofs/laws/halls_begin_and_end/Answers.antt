@@ -7,8 +7,8 @@ returns g c = λ number.
     let m = (g.H.RuledHall.hall number).machines in
     record {
       begin = begins m;
-      end = λ passes start s slots id v follows at same live idle whole.
-          let e = at_end m start passes s slots id v follows at same live idle whole in record {
+      end = λ passes start s slots id v follows at same live idle alone whole.
+          let e = at_end m start passes s slots id v follows at same live idle alone whole in record {
             register = end_register m start v slots e;
             desk = end_desk m start v slots e;
             owners = λ lane below. end_lane m start v slots lane below e;

@@ -1,5 +1,5 @@
 use Rattle.std.proofs.Common.{ap}
-use Rattle.hall_rule.proofs.LaneTurns.{is_next, lane_acted, lane_cut_done, lane_done, lane_was_cut}
+use Rattle.hall_rule.proofs.LaneTurns.{is_next, lane_acted, lane_cut_done, lane_done, lane_was_cut, slots_tell}
 use Rattle.hall_rule.proofs.TurnLemmas.{may_look_cut, may_look_lane}
 use Rattle.hall_rule.proofs.laws.lanes_take_turns.Goals as goal
 
@@ -7,6 +7,7 @@ pub returns : goal.returns
 returns g c = λ number.
     let m = (g.H.RuledHall.hall number).machines in
     record {
+      news = slots_tell m;
       turn = λ start lane n first taken back d new t here mine.
           let back_is = ap (λ x. x.0) mine in record {
             may_act = lane_done m start lane n first taken back d new t here mine;

@@ -1,6 +1,6 @@
 use Rattle.std.proofs.Common.{refl}
 use Rattle.hall_rule.proofs.DrawStep.{draws_desk, draws_register}
-use Rattle.hall_rule.proofs.LookStep.{counts, learns}
+use Rattle.hall_rule.proofs.LookStep.{counts, learns, spares}
 use Rattle.hall_rule.proofs.ShareStep.{joins, notes, splits}
 use Rattle.hall_rule.proofs.TurnLemmas.{looks_at, passes_at, word_there}
 use Rattle.hall_rule.proofs.laws.steps_keep_the_rule.Goals as goal
@@ -16,6 +16,7 @@ returns g c = λ number.
             looks_at m passes start slots id me q n others word is may.live may.there may.is_claim may.one_turn;
         counts = counts m passes start slots id me;
         passes_turn = passes_at m passes start slots id me;
+        spares = spares m passes start slots id me;
         learns = learns m passes start slots id me;
       };
       share = λ passes start id v. record {

@@ -100,4 +100,5 @@ returns g c =
           has_acted t here laws mine may
           (c.leave.ensures.passed _
           (may_pass t here laws mine may marks.marks marks.turn c.noted.result refl c.noted.ensures did.did did.skips did.same did.says));
+      gone = c.before-2.ensures;
     }

@@ -71,4 +71,5 @@ returns g c =
         first = ap (λ me. me.0) made.4 ∙ (λ i. first_view c.args.passes (ap length owners_are i) (start_of (sym made.5 i)));
         front = refl;
       };
+      desk = ap (λ k. k.desk.value.desk) made.5 ∙ ap (λ d. d.desk) c.of-5.ensures;
     }

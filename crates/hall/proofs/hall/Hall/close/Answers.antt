@@ -4,7 +4,8 @@ use Rattle.std.specs.Mem.Slots.{slots_items}
 use Rattle.service_core.specs.Worlds.{IsBuilt}
 use Rattle.hall.specs.ArrayMachines.{lanes_in, start_of}
 use Rattle.hall.specs.Passes.{HasEnded}
-use Rattle.hall.proofs.SharingLemmas.{built, ended}
+use Rattle.hall.proofs.FrontLemmas.{front_is_last}
+use Rattle.hall.proofs.SharingLemmas.{built, ended, same_desk}
 use Rattle.hall.proofs.hall.Hall.close.Goals as goal
 
 pub take_machines-register-requires : goal.take_machines-register-requires
@@ -15,7 +16,7 @@ take_machines-register-requires g c =
     let lanes_are : c.room-lanes.result ≡ lanes_in start = c.room-lanes.ensures ∙ h.lanes.1 in
     let v = c.close_with-closed.ensures.values.2 in
     let e = (c.halls_begin_and_end.ensures (lanes_in start)).end h.table.shared.key.passes start v.0 (slots_items c.close_with-closed.result.slots)
-    p.seat.id p.seat.me.0 v.1.0 v.1.1 v.4 p.live p.idle c.requires.whole in record {
+    p.seat.id p.seat.me.0 v.1.0 v.1.1 v.4 p.live p.idle p.alone c.requires.whole in record {
       count = c.close_with-closed.ensures.counts.1 ∙ h.sized.1 ∙ ap (λ n. n + 2) (sym lanes_are);
       filled = c.close_with-closed.ensures.values.1;
       register = e.register;
@@ -41,7 +42,7 @@ of_parts-requires g c =
     let lanes_are : c.room-lanes.result ≡ lanes_in start = c.room-lanes.ensures ∙ h.lanes.1 in
     let v = c.close_with-closed.ensures.values.2 in
     let e = (c.halls_begin_and_end.ensures (lanes_in start)).end h.table.shared.key.passes start v.0 (slots_items c.close_with-closed.result.slots)
-    p.seat.id p.seat.me.0 v.1.0 v.1.1 v.4 p.live p.idle c.requires.whole in
+    p.seat.id p.seat.me.0 v.1.0 v.1.1 v.4 p.live p.idle p.alone c.requires.whole in
     let t = c.take_machines-register in
     let taken = t.new.room.items in
     let closed = e.closed t.result.0 t.result.1 taken t.ensures.register t.ensures.desk (t.ensures.count ∙ lanes_are)
@@ -58,11 +59,17 @@ returns g c =
     let lanes_are : c.room-lanes.result ≡ lanes_in start = c.room-lanes.ensures ∙ h.lanes.1 in
     let v = c.close_with-closed.ensures.values.2 in
     let e = (c.halls_begin_and_end.ensures (lanes_in start)).end h.table.shared.key.passes start v.0 (slots_items c.close_with-closed.result.slots)
-    p.seat.id p.seat.me.0 v.1.0 v.1.1 v.4 p.live p.idle c.requires.whole in
+    p.seat.id p.seat.me.0 v.1.0 v.1.1 v.4 p.live p.idle p.alone c.requires.whole in
     let t = c.take_machines-register in
     let taken = t.new.room.items in
     let closed = e.closed t.result.0 t.result.1 taken t.ensures.register t.ensures.desk (t.ensures.count ∙ lanes_are)
     (λ lane below. t.ensures.owners lane (subst (λ n. lane < n) (sym lanes_are) below)) in
-    subst (HasEnded start p.seat.me.0) (sym (c.of_parts.ensures ∙ ap (λ xs. record { register = t.result.0; lanes = xs }) c.put_back.ensures))
+    let end = subst (HasEnded start p.seat.me.0)
+    (sym (c.of_parts.ensures ∙ ap (λ xs. record { register = t.result.0; lanes = xs }) c.put_back.ensures))
     (ended start c.requires.of_this_hall.opened p.seat.me.0 t.result.0 taken t.result.1 closed
-    (λ l o at. c.are_whole.ensures l o (ap (λ xs. slice_get xs l) c.as_slice.ensures.value ∙ at)))
+    (λ l o at. c.are_whole.ensures l o (ap (λ xs. slice_get xs l) c.as_slice.ensures.value ∙ at))) in record {
+      ended = end;
+      desk = c.into_desk.ensures ∙ same_desk start c.requires.of_this_hall.opened p.seat.me.0 t.result.0 taken t.result.1 closed
+          (λ l o at. c.are_whole.ensures l o (ap (λ xs. slice_get xs l) c.as_slice.ensures.value ∙ at));
+      front = front_is_last start p.front p.seat.me.0 _ end p.counted p.below;
+    }

@@ -1,7 +1,8 @@
-use Rattle.std.proofs.Common.{length, refl, ap, ◌∙◌, arith}
+use Rattle.std.proofs.Common.{length, refl, ap, ◌∙◌, [], ◌∷◌, arith}
 use Rattle.service_core.specs.declared.answers.What.TheVariants.{Replied}
 use Rattle.lane_histories.specs.declared.items.Part.TheVariants.{Only}
 use Rattle.hall.specs.ArrayMachines.{lanes_in, start_of}
+use Rattle.hall.proofs.AskLemmas.{gone_along}
 use Rattle.hall.proofs.TicketLemmas.{lanes_begin, lanes_go_on, lanes_served, may_drop, tickets_in_hand}
 use Rattle.hall.proofs.hall.Hall.take_lanes.Goals as goal
 
@@ -10,6 +11,7 @@ lanes-init g c = record {
   table = refl;
   id = refl;
   slots = refl;
+  gates = λ end through. through;
   taking = λ before e serving.
       let k = tickets_in_hand c.requires.opened c.the_register_counts.ensures.counts c.decisions_keep.ensures.granted
       c.decisions_continue.ensures.issues serving in
@@ -36,6 +38,9 @@ lanes-preserved g c =
       table = a.table.0 ∙ i.table;
       id = a.table.1 ∙ i.id;
       slots = a.slots ∙ i.slots;
+      gates = λ end through.
+          i.gates end (gone_along g.G.Gate.goes c.args.job.now.place c.lanes.gate end c.lanes.tickets.left (c.in-Some.turn ∷ c.next.new.self.left)
+          c.in-Some.ensures.turn (c.act.new.gate, a.gone, through));
       taking = λ before e serving.
           let k = tickets_in_hand c.requires.opened c.the_register_counts.ensures.counts c.decisions_keep.ensures.granted
           c.decisions_continue.ensures.issues serving in
@@ -53,6 +58,7 @@ returns g c =
       spent = none_left.1;
       table = (i.table, i.id);
       slots = i.slots;
+      gates = i.gates c.lanes.gate (gone_along g.G.Gate.goes c.args.job.now.place c.lanes.gate c.lanes.gate c.lanes.tickets.left [] none_left.0 refl);
       served = λ before e serving.
           let k = tickets_in_hand c.requires.opened c.the_register_counts.ensures.counts c.decisions_keep.ensures.granted
           c.decisions_continue.ensures.issues serving in

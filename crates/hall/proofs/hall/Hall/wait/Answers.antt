@@ -17,7 +17,14 @@ load-now-requires g c =
     let may = subst (λ m. MayLook start c.args.queue c.args.mine c.requires.may.0 m.0) (sym i.same) c.requires.may.1 in
     let law = c.steps_keep_the_rule.ensures (lanes_in start) in (
       i.table ∙ c.requires.table,
-      law.words _ _ _ c.args.queue c.word.ensures may.there h.sized.0,
-      as_known (λ l. Allows (FollowsRule (machines (lanes_in start)) h.table.shared.key.passes start) h.table.shared.table_id.slots c.loop.seat.id me c.word.result (λ n. n) (HasLooked (machines l) (step h.table.shared.table_id.slots c.word.result 0 0 none) me)) start me.0 may.begun
-          ((law.step _ _ _ _ _).looks c.args.queue c.args.mine c.requires.may.0 _ c.word.ensures may),
+      law.words _ _ _ c.args.queue c.word-word.ensures may.there h.sized.0,
+      as_known (λ l. Allows (FollowsRule (machines (lanes_in start)) h.table.shared.key.passes start) h.table.shared.table_id.slots c.loop.seat.id me c.word-word.result (λ n. n) (HasLooked (machines l) (step h.table.shared.table_id.slots c.word-word.result 0 0 none) me)) start me.0 may.begun
+          ((law.step _ _ _ _ _).looks c.args.queue c.args.mine c.requires.may.0 _ c.word-word.ensures may),
     )
+
+pub pause-requires : goal.pause-requires
+pause-requires g c =
+    let h = c.args.self.now in
+    let may = c.requires.may.1 in
+    let law = c.steps_keep_the_rule.ensures (lanes_in (start_of h.table.shared.key)) in
+    law.words _ _ _ c.args.queue c.word-word.ensures may.there h.sized.0
