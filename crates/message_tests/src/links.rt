@@ -7,6 +7,7 @@ use edge_traits::{Failed, FaultCount, Link, MemLink, MemSink, MemSource, Sink, S
 use http_wire::{Extra, Message, MessageFault};
 use rest_session::links::{Lent, LinkEnd, Response, ResponseBody, Service, serve_link};
 use std::alloc::{AllocError, Global};
+use std::convert::Infallible;
 use std::test::Fail;
 
 /// Counts messages, and answers each with its number and its target.
@@ -17,17 +18,21 @@ struct Counter {
 }
 
 impl Service for Counter {
+    type End = Infallible;
+
     ghost World = { ℕ };
 
     ghost world = { λ s. s.count };
 
     ghost step = { λ w m bytes v. v ≡ min (w + 1) (2 ^ 64 - 1) };
 
+    ghost stop = { λ _ _ _ _. ⊥ };
+
     ghost Fixed = { Unit {0} };
 
     ghost fixed = { λ _. tt };
 
-    fn answer(&mut self, message: &Message<'_>) -> Response {
+    fn answer(&mut self, message: &Message<'_>) -> Result<Response, Infallible> {
         self.count = self.count.saturating_add(1);
         let count = self.count;
         let target = message.target();
@@ -35,11 +40,11 @@ impl Service for Counter {
             Ok(text) => ResponseBody::Text(text),
             Err(_) => ResponseBody::Fixed("no text"),
         };
-        Response {
+        Ok(Response {
             status: 200,
             extra: Extra::None,
             body,
-        }
+        })
     }
 }
 
@@ -148,10 +153,24 @@ fn link(
     Ok(MemLink::new(source, sink))
 }
 
+/// Serves a link: how it ends.
+fn end_of<L: Link>(alloc: Global, counter: &mut Counter, link: &mut L) -> LinkEnd {
+    match serve_link(alloc, counter, link) {
+        Ok(end) => end,
+    }
+}
+
+/// The same of a service that is lent.
+fn lent_end<L: Link>(alloc: Global, lent: &mut Lent<'_, Counter>, link: &mut L) -> LinkEnd {
+    match serve_link(alloc, lent, link) {
+        Ok(end) => end,
+    }
+}
+
 /// Serves a link by a new service: how it ends, and after how many messages.
 fn ended(alloc: Global, link: &mut MemLink) -> Result<String, AllocError> {
     let mut counter = Counter { alloc, count: 0 };
-    let end = serve_link(alloc, &mut counter, link);
+    let end = end_of(alloc, &mut counter, link);
     format!(in alloc; "{end:?} {}", counter.count)
 }
 
@@ -227,7 +246,7 @@ fn is_last(alloc: Global, bytes: &str, fault: MessageFault) -> Result<bool, Fail
     let input = spelled(alloc, input.as_str())?;
     let mut link = link(alloc, input.as_bytes(), 4096, &[], &[])?;
     let mut counter = Counter { alloc, count: 0 };
-    let end = serve_link(alloc, &mut counter, &mut link);
+    let end = end_of(alloc, &mut counter, &mut link);
     let answers = format!(in alloc; "{}{}", spelled(alloc, "$^1 /a")?, fault.reply())?;
     Ok(end == LinkEnd::Ended(fault) && counter.count == 1 && link.bytes() == answers.as_bytes())
 }
@@ -255,10 +274,7 @@ fn a_message_is_answered_before_more_is_read_than_there_is(rt: HostRuntime) -> R
         write_faults: FaultCount::new(),
     };
     let mut counter = Counter { alloc, count: 0 };
-    assert_eq!(rt;
-        serve_link(alloc, &mut counter, &mut dialog),
-        LinkEnd::Closed
-    );
+    assert_eq!(rt; end_of(alloc, &mut counter, &mut dialog), LinkEnd::Closed);
     assert_eq!(rt; counter.count, 3);
     Ok(())
 }
@@ -272,8 +288,8 @@ fn a_service_is_lent_to_one_link_after_another(rt: HostRuntime) -> Result<(), Fa
     };
     let mut first = link(alloc, FIRST.as_bytes(), 4096, &[], &[])?;
     let mut second = link(alloc, SECOND.as_bytes(), 4096, &[], &[])?;
-    assert_eq!(rt; serve_link(alloc, &mut lent, &mut first), LinkEnd::Closed);
-    assert_eq!(rt; serve_link(alloc, &mut lent, &mut second), LinkEnd::Closed);
+    assert_eq!(rt; lent_end(alloc, &mut lent, &mut first), LinkEnd::Closed);
+    assert_eq!(rt; lent_end(alloc, &mut lent, &mut second), LinkEnd::Closed);
     assert!(rt; first.bytes() == spelled(alloc, "$^1 /a")?.as_bytes());
     assert!(rt; second.bytes() == spelled(alloc, "$^2 /b")?.as_bytes());
     assert_eq!(rt; counter.count, 2);

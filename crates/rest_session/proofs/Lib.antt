@@ -1,6 +1,7 @@
 pub mod Following
 pub mod KeptWorlds
 pub mod WaitingRecords
+pub mod OfHalls
 pub mod OfKept
 pub mod OfLinks
 pub mod AnswerSizes

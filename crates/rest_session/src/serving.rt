@@ -45,5 +45,7 @@ pub fn serve_world<D: Disk, L: Link>(
         world,
         keeping,
     };
-    serve_link(alloc, &mut session, link)
+    match serve_link(alloc, &mut session, link) {
+        Ok(end) => end,
+    }
 }

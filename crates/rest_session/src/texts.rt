@@ -10,8 +10,7 @@ ghost use Rattle.service_core.specs.declared.answers.What.TheVariants.{Replied};
 ghost use Rattle.service_core.specs.AnswerTrees.Exact.{IsExact};
 ghost use Rattle.rest_session.specs.Responses.{IsJson, body_text, body_tree};
 
-use json_trees::Tree;
-use object_ops::{Refusal, Reply, refusal_json};
+use object_ops::{Body, Refusal, Reply, refusal_json};
 use serde_json::{Value, json};
 use service_core::{Answer, What};
 use std::alloc::{AllocError, Global};
@@ -78,17 +77,10 @@ fn no_memory_tree(alloc: Global) -> Result<Value, AllocError>
     json!(in alloc; {"reason": "no-memory"})
 }
 
-// A tree's compact JSON.
-fn tree_text(alloc: Global, tree: &Tree) -> Result<String, AllocError>
-    requires { has_float tree.now ≡ false }
-    ensures { IfOk result (λ text. IsJson tree.now (string_bytes text)) }
+// The compact JSON of a body.
+fn tree_text(alloc: Global, body: &Body) -> Result<String, AllocError>
+    requires { has_float body.now ≡ false }
+    ensures { IfOk result (λ text. IsJson body.now (string_bytes text)) }
 {
-    value_text(alloc, tree.value())
-}
-
-fn value_text(alloc: Global, tree: &Value) -> Result<String, AllocError>
-    requires { has_float (view tree.now) ≡ false }
-    ensures { IfOk result (λ text. IsJson (view tree.now) (string_bytes text)) }
-{
-    tree.to_string(alloc)
+    body.text(alloc)
 }

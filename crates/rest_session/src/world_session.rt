@@ -25,7 +25,8 @@ use rest_requests::routes::Methods;
 use rest_requests::{RequestFault, RequestParts, Tokens, lent_request};
 use service_core::answer_trees::bodies_have_no_floats;
 use service_core::{What, World};
-use std::alloc::{AllocError, Global};
+use std::alloc::Global;
+use std::convert::Infallible;
 
 /// A world and its keeping that are lent for one link, and the tokens by which callers are known.
 #[derive(Drop)]
@@ -41,36 +42,42 @@ impl<'a, D: Disk> Service for WorldSession<'a, D> {
     ghost use Rattle.access_lists.specs.Tokens.Bearer.{TokenTable};
     ghost use Rattle.rest_session.specs.Sessions.{IsServed, Served};
 
+    type End = Infallible;
+
     ghost World = { Served D.Disk };
 
     ghost world = { λ s. record { tokens = s.tokens.now; world = s.world.now; keeping = s.keeping.now } };
 
     ghost step = { IsServed };
 
+    ghost stop = { λ _ _ _ _. ⊥ };
+
     ghost Fixed = { GName × GName × TokenTable };
 
     ghost fixed = { λ s. (s.world.ghost_name, s.keeping.ghost_name, s.tokens.now) };
 
-    fn answer(&mut self, message: &Message<'_>) -> Response {
+    fn answer(&mut self, message: &Message<'_>) -> Result<Response, Infallible> {
         match lent_request(self.alloc, &parts_of(message), self.tokens) {
             Ok((caller, request)) => {
-                step(
+                Ok(step(
                     self.alloc,
                     self.tokens,
                     self.world,
                     self.keeping,
                     caller,
                     &request,
-                )
+                ))
             }
-            Err(RequestFault::Refused { refusal, allow }) => refuse(self.alloc, &refusal, allow),
-            Err(RequestFault::NoMemory) => no_memory(),
+            Err(RequestFault::Refused { refusal, allow }) => {
+                Ok(refuse(self.alloc, &refusal, allow))
+            }
+            Err(RequestFault::NoMemory) => Ok(no_memory()),
         }
     }
 }
 
 /// What a message says of its request.
-fn parts_of<'m>(message: &Message<'m>) -> RequestParts<'m>
+pub(crate) fn parts_of<'m>(message: &Message<'m>) -> RequestParts<'m>
     ensures { (m : RequestMessage) → IsMessage message.now m → IsSpelled m
         → said result ≡ said_by m }
 {
@@ -84,7 +91,7 @@ fn parts_of<'m>(message: &Message<'m>) -> RequestParts<'m>
 }
 
 /// Answers what is no request.
-fn refuse(alloc: Global, refusal: &Refusal, allow: Methods) -> Response
+pub(crate) fn refuse(alloc: Global, refusal: &Refusal, allow: Methods) -> Response
     ensures { (close : Bool) → (reply_bytes result close ≡ refused [] refusal.now allow close)
         ⊎ (reply_bytes result close ≡ no_memory_reply close) }
 {
@@ -136,7 +143,7 @@ fn acknowledges(op: &Op, what: &What) -> bool
     }
 }
 
-fn is_to_keep(op: &Op) -> bool
+pub(crate) fn is_to_keep(op: &Op) -> bool
     ensures { result ≡ is_to_keep op.now }
 {
     match op {

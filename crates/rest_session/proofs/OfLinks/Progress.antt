@@ -10,7 +10,7 @@ use Rattle.http_wire.specs.declared.limits.TheConstants.{HEAD_LIMIT}
 use Rattle.rest_session.specs.declared.links.end.TheConstants.{BUDGET}
 use Rattle.rest_session.specs.declared.links.end.LinkEnd.{LinkEnd}
 use Rattle.rest_session.specs.declared.links.end.LinkEnd.TheVariants.{Closed, Cut, Ended, ReadFault, WriteFault, Budget, NoMemory}
-use Rattle.rest_session.specs.Links.Links.{Step, AllOpen, spellings, Replays, IsCounted, IsTranscript, HasCauses}
+use Rattle.rest_session.specs.Links.Links.{Step, Stop, AllOpen, spellings, Replays, IsCounted, IsStopped, IsTranscript, HasCauses}
 use Rattle.rest_session.specs.Links.Steps.{IsStep, IsLateEnd}
 
 pub open_more : (ms : List RequestMessage) (m : RequestMessage) → AllOpen ms → IsSpelled m → closes m ≡ false → AllOpen (ms ++ m ∷ [])
@@ -120,6 +120,36 @@ behind None left bs unused p = tt
 behind (Some x) None bs unused p = p
 behind (Some x) (Some y) bs unused p = p ∙ sym (append_assoc bs unused y)
 
+-- what a link took and what was written to it, where its service ended it
+abbrev pub Stops : {W E : Type 0} → Step W → Stop W E → W → Option (List ℕ) → Option (List ℕ) → Option (List ℕ) → Option (List ℕ) → W → E → Type 0
+Stops step stop w given left held_old held v end =
+    (taken : List ℕ) × (sent : List ℕ) × Consumes given left taken × Appends held_old held sent × IsStopped step stop w taken sent v end
+
+-- the service ends the link with this message
+pub stopped : {W E : Type 0} (step : Step W) (stop : Stop W E) (u w v : W) (given old left held_old before now : Option (List ℕ)) (count : ℕ) (end : E)
+    → Progress step u given old held_old before w count → count < BUDGET
+    → (m : RequestMessage) (ahead : List ℕ) → IsSpelled m → length ahead ≤ HEAD_LIMIT → Consumes old left (spelling m ++ ahead) → now ≡ before → stop w m end v
+    → Stops step stop u given left held_old now v end
+stopped step stop u w v given old left ho before now count end p h m ahead spelled room used same stops = (
+  spellings p.messages ++ (spelling m ++ ahead),
+  p.answers,
+  Consumes-trans given old left _ _ p.used used,
+  subst (λ (o : Option (List ℕ)). Appends ho o p.answers) (sym same) p.written,
+  record {
+    messages = p.messages;
+    mid = w;
+    message = m;
+    ahead = ahead;
+    opened = p.opened;
+    few = let c = p.count_is in omega (arith, c, h);
+    replays = p.replays;
+    spelled = spelled;
+    room = room;
+    stops = stops;
+    bytes = refl;
+  },
+)
+
 -- the link has given all its messages
 pub spent : {W : Type 0} (step : Step W) (u v : W) (given left held_old now : Option (List ℕ)) (unused : List ℕ) (count : ℕ)
     → Progress step u given (prepend_known unused left) held_old now v count → count ≡ BUDGET → length unused ≤ HEAD_LIMIT → Ends step u given left held_old now v Budget
@@ -167,10 +197,10 @@ nothing step w left held = (
 
 -- a last step has its causes, and no count fell before it
 pub causes_on : (r0 r1 r2 w0 w1 w2 : ℕ) (end : LinkEnd) → r0 ≤ r1 → w0 ≤ w1 → r1 ≤ r2 → w1 ≤ w2
-    → (Some end ≡ Some ReadFault → Rose r1 r2) → (Some end ≡ Some WriteFault → Rose w1 w2) → HasCauses r0 r2 w0 w2 end
+    → (end ≡ ReadFault → Rose r1 r2) → (end ≡ WriteFault → Rose w1 w2) → HasCauses r0 r2 w0 w2 end
 causes_on r0 r1 r2 w0 w1 w2 end a b c d read write = record {
   read_later = omega (arith, a, c);
   write_later = omega (arith, b, d);
-  read_fault = λ e. rose_since r0 r1 r2 a (read (ap Some e));
-  write_fault = λ e. rose_since w0 w1 w2 b (write (ap Some e));
+  read_fault = λ e. rose_since r0 r1 r2 a (read e);
+  write_fault = λ e. rose_since w0 w1 w2 b (write e);
 }

@@ -6,8 +6,8 @@ use Rattle.http_wire.specs.Messages.{RequestMessage, IsSpelled, spelling, closes
 use Rattle.http_wire.specs.declared.limits.TheConstants.{HEAD_LIMIT}
 use Rattle.rest_session.specs.declared.links.end.LinkEnd.{LinkEnd}
 use Rattle.rest_session.specs.declared.links.end.LinkEnd.TheVariants.{Closed, Cut, Ended, ReadFault, WriteFault, Budget, NoMemory}
-use Rattle.rest_session.specs.Links.Links.{Step, IsAnswer}
-use Rattle.rest_session.specs.Links.Steps.{IsStep, IsWritten, IsAnswerEnd}
+use Rattle.rest_session.specs.Links.Links.{Step, Stop, IsAnswer}
+use Rattle.rest_session.specs.Links.Steps.{IsAnswered, IsServedStep, IsStep, IsWritten, IsAnswerEnd}
 use Rattle.rest_session.proofs.OfLinks.Progress.{behind}
 
 -- a whole answer was written, or its first bytes
@@ -52,3 +52,13 @@ message_step step w v old left ho h unused m answer sent (Some (Ended r)) room s
 message_step step w v old left ho h unused m answer sent (Some ReadFault) room spelled used stepped written end = absurd end
 message_step step w v old left ho h unused m answer sent (Some Budget) room spelled used stepped written end = absurd end
 message_step step w v old left ho h unused m answer sent (Some NoMemory) room spelled used stepped written end = absurd end
+
+-- a message was taken, and answered by a service, or the service ended the link with it
+pub met_step : {W E : Type 0} (step : Step W) (stop : Stop W E) (w v : W) (old left later ho first h : Option (List ℕ)) (unused : List ℕ) (m : RequestMessage)
+    (result : Result (Option LinkEnd) E) → length unused ≤ HEAD_LIMIT → IsSpelled m → Consumes old (prepend_known unused left) (spelling m) → later ≡ left → first ≡ ho
+    → IsAnswered step stop w m first h v result → IsServedStep step stop w old (prepend_known unused later) later ho h v result
+met_step step stop w v old left later ho first h unused m (Ok ended) room spelled used e f a =
+    same_link step w v old left later ho first h unused ended e f
+    (message_step step w v old left first h unused m a.0 a.1 ended room spelled used (inl a.2) a.3 a.4)
+met_step step stop w v old left later ho first h unused m (Err end) room spelled used e f a =
+    (m, unused, spelled, room, subst (λ (l : Option (List ℕ)). Consumes old l (spelling m ++ unused)) (sym e) (behind old left (spelling m) unused used), a.0 ∙ f, a.1)

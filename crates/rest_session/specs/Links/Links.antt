@@ -1,6 +1,6 @@
 -- What a link gave and what was written to it, over any step of a world.
 use Rattle.std.proofs.Common.{inl, inr}
-use Rattle.std.specs.Prelude.{◌≡◌, ◌⊎◌, ℕ, ◌<◌, ◌≤◌, List, [], ◌∷◌, ◌++◌, length, true, false, Option, Some, None, ⊤}
+use Rattle.std.specs.Prelude.{◌≡◌, ◌⊎◌, ℕ, ◌<◌, ◌≤◌, List, [], ◌∷◌, ◌++◌, length, true, false, Option, Some, None, Result, Ok, Err, ⊤}
 use Rattle.std.specs.List.{flat_map}
 use Rattle.std.specs.Io.KnownBytes.{IsAtEnd}
 use Rattle.edge_traits.specs.Causes.{Rose}
@@ -18,6 +18,10 @@ use Rattle.rest_session.specs.declared.links.end.TheConstants.{BUDGET}
 -- of the world before, a message, the whole answer's bytes, and the world after
 abbrev pub Step : Type 0 → Type 1
 Step W = W → RequestMessage → List ℕ → W → Type 0
+
+-- of the world before, a message at which the link is ended, why, and the world after
+abbrev pub Stop : Type 0 → Type 0 → Type 1
+Stop W E = W → RequestMessage → E → W → Type 0
 
 -- whole messages, none of which closes
 abbrev pub AllOpen : List RequestMessage → Type 0
@@ -96,12 +100,37 @@ pub record IsTranscript {W : Type 0} (step : Step W) (w : W) (taken sent : List 
   pub bytes : taken ≡ spellings messages ++ tail
   pub written : sent ≡ answers ++ last
 
+-- The messages of a link that its service ended, and what was written to it: behind those that were answered stands the one at which it was ended,
+-- and that has no answer.
+pub record IsStopped {W E : Type 0} (step : Step W) (stop : Stop W E) (w : W) (taken sent : List ℕ) (v : W) (end : E) : Type 0 where
+  pub messages : List RequestMessage
+  pub mid : W
+  pub message : RequestMessage
+  pub ahead : List ℕ
+  pub opened : AllOpen messages
+  pub few : length messages < BUDGET
+  pub replays : Replays step w messages sent mid
+  pub spelled : IsSpelled message
+  pub room : length ahead ≤ HEAD_LIMIT
+  pub stops : stop mid message end v
+  pub bytes : taken ≡ spellings messages ++ (spelling message ++ ahead)
+
+-- a link that ended so, or that its service ended
+abbrev pub IsLinkServed : {W E : Type 0} → Step W → Stop W E → W → List ℕ → List ℕ → Option (List ℕ) → W → Result LinkEnd E → Type 0
+IsLinkServed step stop w taken sent left v (Ok end) = IsTranscript step w taken sent left v end
+IsLinkServed step stop w taken sent left v (Err end) = IsStopped step stop w taken sent v end
+
 -- no count of the link fell, and each fault was counted
 pub record HasCauses (read_before read_now write_before write_now : ℕ) (end : LinkEnd) : Type 0 where
   pub read_later : read_before ≤ read_now
   pub write_later : write_before ≤ write_now
   pub read_fault : end ≡ ReadFault → Rose read_before read_now
   pub write_fault : end ≡ WriteFault → Rose write_before write_now
+
+-- the same where the service may have ended the link
+abbrev pub HasLinkCauses : {E : Type 0} → ℕ → ℕ → ℕ → ℕ → Result LinkEnd E → Type 0
+HasLinkCauses read_before read_now write_before write_now (Ok end) = HasCauses read_before read_now write_before write_now end
+HasLinkCauses read_before read_now write_before write_now (Err end) = (read_before ≤ read_now) × (write_before ≤ write_now)
 
 -- an end that comes of the input's end, of a fault or of want of memory
 abbrev pub IsPeaceful : LinkEnd → Type 0

@@ -11,17 +11,23 @@ pub struct Lent<'a, V> {
 }
 
 impl<'a, V: Service> Service for Lent<'a, V> {
+    type End = V::End;
+
     ghost World = { V.World };
 
     ghost world = { λ s. V.world s.service.now };
 
     ghost step = { V.step };
 
+    ghost stop = { V.stop };
+
+    ghost ready = { λ s. V.ready s.service.now };
+
     ghost Fixed = { GName × V.Fixed };
 
     ghost fixed = { λ s. (s.service.ghost_name, V.fixed s.service.now) };
 
-    fn answer(&mut self, message: &Message<'_>) -> Response {
+    fn answer(&mut self, message: &Message<'_>) -> Result<Response, V::End> {
         self.service.answer(message)
     }
 }

@@ -1,4 +1,4 @@
-ghost use Rattle.std.specs.Prelude.{◌≡◌, ℕ, ◌≤◌, List, [], length, Option, Some, IsErr};
+ghost use Rattle.std.specs.Prelude.{◌≡◌, ℕ, ◌≤◌, List, [], length, Option, Some, Ok, IsErr};
 ghost use Rattle.std.specs.Io.KnownBytes.{Consumes, Appends, prepend_known};
 ghost use Rattle.edge_traits.specs.Causes.{Rose};
 ghost use Rattle.http_wire.specs.Messages.{RequestMessage, IsSpelled, closes};
@@ -7,11 +7,14 @@ ghost use Rattle.http_wire.specs.Replies.{no_memory_reply};
 ghost use Rattle.http_wire.specs.Taken.{waiting, Takes};
 ghost use Rattle.http_wire.specs.declared.limits.TheConstants.{HEAD_LIMIT};
 ghost use Rattle.http_wire.specs.declared.taken.Taken.TheVariants as taken;
-ghost use Rattle.rest_session.specs.Links.Links.{IsTranscript, HasCauses};
-ghost use Rattle.rest_session.specs.Links.Steps.{IsStep, IsAnswerEnd, IsRefusalEnd, IsWritten};
+ghost use Rattle.rest_session.specs.Links.Links.{IsLinkServed, HasLinkCauses};
+ghost use Rattle.rest_session.specs.Links.Replies.{reply_bytes};
+ghost use Rattle.rest_session.specs.Links.Steps.{IsAnswered, IsServedStep};
+ghost use Rattle.rest_session.specs.Links.Steps.{IsAnswerEnd, IsRefusalEnd, IsWritten};
 ghost use Rattle.rest_session.specs.declared.links.end.LinkEnd.TheVariants as end;
 
 use crate::links::end::{BUDGET, LinkEnd};
+use crate::links::response::Response;
 use crate::links::service::Service;
 use crate::links::writing::{send_reply, send_text};
 use edge_traits::{Failed, Link};
@@ -19,24 +22,34 @@ use http_wire::{Inbox, Message, MessageFault, Taken, no_memory_reply};
 use std::alloc::Global;
 
 /// Serves one message after another until the link ends.
-pub fn serve_link<V: Service, L: Link>(alloc: Global, service: &mut V, link: &mut L) -> LinkEnd
+///
+/// # Errors
+///
+/// Why the service ended the link. The message at which it did has no answer.
+pub fn serve_link<V: Service, L: Link>(
+    alloc: Global,
+    service: &mut V,
+    link: &mut L,
+) -> Result<LinkEnd, V::End>
+    requires ready { V.ready service.old }
     ensures transcript { (taken : List ℕ) × (sent : List ℕ)
         × Consumes (L.left link.old) (L.left link.new) taken
         × Appends (L.held link.old) (L.held link.new) sent
-        × IsTranscript V.step (V.world service.old) taken sent
+        × IsLinkServed V.step V.stop (V.world service.old) taken sent
         (L.left link.new) (V.world service.new) result }
+    ensures ready { V.ready service.new }
     ensures fixed { V.fixed service.new ≡ V.fixed service.old }
     ensures names { L.Source.names link.new ≡ L.Source.names link.old }
-    ensures causes { HasCauses (L.Source.faults link.old) (L.Source.faults link.new)
+    ensures causes { HasLinkCauses (L.Source.faults link.old) (L.Source.faults link.new)
         (L.Sink.faults link.old) (L.Sink.faults link.new) result }
 
     // Without memory for its inbox it has touched nothing.
-    ensures unread { result ≡ end.NoMemory → link.new ≡ link.old }
-    ensures unserved { result ≡ end.NoMemory → service.new ≡ service.old }
+    ensures unread { result ≡ Ok end.NoMemory → link.new ≡ link.old }
+    ensures unserved { result ≡ Ok end.NoMemory → service.new ≡ service.old }
 {
     match Inbox::new(alloc) {
         Ok(mut inbox) => serve_messages(alloc, service, &mut inbox, link),
-        Err(_) => LinkEnd::NoMemory,
+        Err(_) => Ok(LinkEnd::NoMemory),
     }
 }
 
@@ -46,48 +59,53 @@ fn serve_messages<V: Service, L: Link>(
     service: &mut V,
     inbox: &mut Inbox,
     link: &mut L,
-) -> LinkEnd
-    requires { waiting inbox.old ≡ [] }
+) -> Result<LinkEnd, V::End>
+    requires empty { waiting inbox.old ≡ [] }
+    requires ready { V.ready service.old }
     ensures transcript { (taken : List ℕ) × (sent : List ℕ)
         × Consumes (L.left link.old) (L.left link.new) taken
         × Appends (L.held link.old) (L.held link.new) sent
-        × IsTranscript V.step (V.world service.old) taken sent
+        × IsLinkServed V.step V.stop (V.world service.old) taken sent
         (L.left link.new) (V.world service.new) result }
+    ensures ready { V.ready service.new }
     ensures fixed { V.fixed service.new ≡ V.fixed service.old }
     ensures names { L.Source.names link.new ≡ L.Source.names link.old }
-    ensures causes { HasCauses (L.Source.faults link.old) (L.Source.faults link.new)
+    ensures causes { HasLinkCauses (L.Source.faults link.old) (L.Source.faults link.new)
         (L.Sink.faults link.old) (L.Sink.faults link.new) result }
-    ensures read_on { result ≡ end.NoMemory → ⊥ }
+    ensures read_on { result ≡ Ok end.NoMemory → ⊥ }
 {
     'messages: for _answered in 0..BUDGET {
         match serve_next(alloc, service, inbox, link) {
-            None => {}
-            Some(end) => return end,
+            Ok(None) => {}
+            Ok(Some(end)) => return Ok(end),
+            Err(end) => return Err(end),
         }
     }
-    LinkEnd::Budget
+    Ok(LinkEnd::Budget)
 }
 
 /// Serves the message at the front of the input, if there is one, and answers how the link ended,
-/// if it ended.
+/// if it ended; or why the service ended it.
 fn serve_next<V: Service, L: Link>(
     alloc: Global,
     service: &mut V,
     inbox: &mut Inbox,
     link: &mut L,
-) -> Option<LinkEnd>
-    ensures step { IsStep V.step (V.world service.old)
+) -> Result<Option<LinkEnd>, V::End>
+    requires ready { V.ready service.old }
+    ensures step { IsServedStep V.step V.stop (V.world service.old)
         (prepend_known (waiting inbox.old) (L.left link.old))
         (prepend_known (waiting inbox.new) (L.left link.new))
         (L.left link.new) (L.held link.old) (L.held link.new) (V.world service.new) result }
     ensures room { length (waiting inbox.new) ≤ HEAD_LIMIT }
+    ensures ready { V.ready service.new }
     ensures fixed { V.fixed service.new ≡ V.fixed service.old }
     ensures names { L.Source.names link.new ≡ L.Source.names link.old }
     ensures read_later { L.Source.faults link.old ≤ L.Source.faults link.new }
     ensures write_later { L.Sink.faults link.old ≤ L.Sink.faults link.new }
-    ensures read_fault { result ≡ Some end.ReadFault
+    ensures read_fault { result ≡ Ok (Some end.ReadFault)
         → Rose (L.Source.faults link.old) (L.Source.faults link.new) }
-    ensures write_fault { result ≡ Some end.WriteFault
+    ensures write_fault { result ≡ Ok (Some end.WriteFault)
         → Rose (L.Sink.faults link.old) (L.Sink.faults link.new) }
 {
     match take_from(alloc, inbox, link) {
@@ -99,11 +117,11 @@ fn serve_next<V: Service, L: Link>(
             };
             answer_message(service, &message, link)
         }
-        Taken::Skipped { close } => answer_skipped(close, link),
-        Taken::End => Some(LinkEnd::Closed),
-        Taken::Cut { rest } => Some(LinkEnd::Cut { rest }),
-        Taken::Refused(fault) => Some(refuse(fault, link)),
-        Taken::Fault => Some(LinkEnd::ReadFault),
+        Taken::Skipped { close } => Ok(answer_skipped(close, link)),
+        Taken::End => Ok(Some(LinkEnd::Closed)),
+        Taken::Cut { rest } => Ok(Some(LinkEnd::Cut { rest })),
+        Taken::Refused(fault) => Ok(Some(refuse(fault, link))),
+        Taken::Fault => Ok(Some(LinkEnd::ReadFault)),
     }
 }
 
@@ -121,18 +139,36 @@ fn take_from<L: Link>(alloc: Global, inbox: &mut Inbox, link: &mut L) -> Taken
     inbox.take(alloc, link)
 }
 
-/// Answers a message.
+/// Answers a message, or says why the service ended the link with it.
 fn answer_message<V: Service, L: Link>(
     service: &mut V,
     message: &Message<'_>,
     link: &mut L,
-) -> Option<LinkEnd>
+) -> Result<Option<LinkEnd>, V::End>
+    requires ready { V.ready service.old }
     ensures answered { (m : RequestMessage) → IsMessage message.now m → IsSpelled m
-        → (answer : List ℕ) × (sent : List ℕ)
-        × V.step (V.world service.old) m answer (V.world service.new)
-        × Appends (L.held link.old) (L.held link.new) sent
-        × IsAnswerEnd (closes m) answer sent result }
+        → IsAnswered V.step V.stop (V.world service.old) m (L.held link.old) (L.held link.new)
+        (V.world service.new) result }
+    ensures ready { V.ready service.new }
     ensures fixed { V.fixed service.new ≡ V.fixed service.old }
+    ensures left { L.left link.new ≡ L.left link.old }
+    ensures names { L.Source.names link.new ≡ L.Source.names link.old }
+    ensures read_faults { L.Source.faults link.new ≡ L.Source.faults link.old }
+    ensures write_later { L.Sink.faults link.old ≤ L.Sink.faults link.new }
+    ensures no_read_fault { result ≡ Ok (Some end.ReadFault) → ⊥ }
+    ensures write_fault { result ≡ Ok (Some end.WriteFault)
+        → Rose (L.Sink.faults link.old) (L.Sink.faults link.new) }
+{
+    match service.answer(message) {
+        Ok(reply) => Ok(send_answer(&reply, message.closes(), link)),
+        Err(end) => Err(end),
+    }
+}
+
+/// Sends an answer, and says how the link ended with it, if it ended.
+fn send_answer<L: Link>(reply: &Response, close: bool, link: &mut L) -> Option<LinkEnd>
+    ensures answered { (sent : List ℕ) × Appends (L.held link.old) (L.held link.new) sent
+        × IsAnswerEnd close (reply_bytes reply.now close) sent result }
     ensures left { L.left link.new ≡ L.left link.old }
     ensures names { L.Source.names link.new ≡ L.Source.names link.old }
     ensures read_faults { L.Source.faults link.new ≡ L.Source.faults link.old }
@@ -141,9 +177,7 @@ fn answer_message<V: Service, L: Link>(
     ensures write_fault { result ≡ Some end.WriteFault
         → Rose (L.Sink.faults link.old) (L.Sink.faults link.new) }
 {
-    let reply = service.answer(message);
-    let close = message.closes();
-    let sent = send_reply(&reply, close, link);
+    let sent = send_reply(reply, close, link);
     end_after(sent, close)
 }
 

@@ -15,3 +15,4 @@ invariant-messages g l =
     × (g.V.Service.fixed l.service ≡ g.V.Service.fixed l.fn.service)
     × (g.L.Source.names l.link ≡ g.L.Source.names l.fn.link)
     × (length (waiting l.inbox) ≤ HEAD_LIMIT)
+    × g.V.Service.ready l.service

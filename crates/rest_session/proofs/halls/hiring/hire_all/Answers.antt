@@ -1,0 +1,46 @@
+use Rattle.std.proofs.Common.{◌≡◌, ℕ, ◌+◌, ◌++◌, ◌∷◌, [], false, map, vec_len, sym, ap, ◌∙◌, subst, arith}
+use Rattle.std.specs.Prelude.{All, reverse}
+use Rattle.std.proofs.lemmas.List.{map-append}
+use Rattle.hall_rule.specs.Sums.{upward}
+use Rattle.hall.specs.declared.gate.OpenGate.{OpenGate}
+use Rattle.rest_session.specs.declared.halls.workers.Worker.{Worker}
+use Rattle.rest_session.specs.Halls.Accounts.{view}
+use Rattle.rest_session.specs.Halls.Staff.{IsGiver, IsHired}
+use Rattle.rest_session.proofs.OfHalls.Lists.{all_push, moved, reverse_push, unpiled, upward_push}
+use Rattle.rest_session.proofs.halls.hiring.hire_all.Goals as goal
+
+pub hire-worker-requires-clause-giver : goal.hire-worker-requires-clause-giver
+hire-worker-requires-clause-giver g c =
+    let fewer : vec_len c.doors.doors ≡ vec_len c.pop.new.self + 1 = omega (arith, c.in-Some.ensures.cases) in
+    (vec_len c.doors.workers, vec_len c.pop.new.self, subst (λ (m : ℕ). IsGiver c.args.hall.now (vec_len c.doors.workers) m c.doors.pass) fewer c.doors.invariant.giver)
+
+pub doors-preserved : goal.doors-preserved
+doors-preserved g c =
+    let i = c.doors.invariant in
+    let h = c.hire-worker.ensures in
+    let k = vec_len c.doors.workers in
+    let n = vec_len c.pop.new.self in
+    let ws = c.doors.workers.items in
+    let w = c.hire-worker.result in
+    let fewer : vec_len c.doors.doors ≡ n + 1 = omega (arith, c.in-Some.ensures.cases) in
+    let both = h.giver k n (subst (λ (m : ℕ). IsGiver c.args.hall.now k m c.doors.pass) fewer i.giver) in
+    let more = c.push_reserved.ensures in
+    let left = c.pop.new.self.items in
+    let Hired = λ (x : Worker g.row.D.Denot g.row.F.Denot OpenGate). (m : ℕ) × IsHired c.args.hall.now m x.pass in
+    let number = λ (x : Worker g.row.D.Denot g.row.F.Denot OpenGate). (view x.pass).number in record {
+      count = omega arith;
+      giver = subst (λ (m : ℕ). IsGiver c.args.hall.now m n c.hire-worker.new.pass) (sym more.len) both.0;
+      hired = subst (All Hired) (sym more.items) (all_push Hired ws w i.hired (k + 1, both.1));
+      numbers = ap (map number) more.items ∙ map-append number ws (w ∷ []) ∙ ap (λ l. l ++ number w ∷ []) i.numbers
+          ∙ ap (λ m. upward 1 k ++ m ∷ []) (both.1.number ∙ (let e : k + 1 ≡ 1 + k = omega arith in e)) ∙ sym (upward_push 1 k) ∙ ap (upward 1) (sym more.len);
+      doors = ap (λ l. map (λ (x : Worker g.row.D.Denot g.row.F.Denot OpenGate). x.door) l ++ reverse left) more.items
+          ∙ moved (λ (x : Worker g.row.D.Denot g.row.F.Denot OpenGate). x.door) ws w (reverse c.doors.doors.items) (reverse left) _
+          (ap reverse c.in-Some.ensures.items ∙ reverse_push left c.in-Some.door ∙ (λ j. sym h.door j ∷ reverse left)) i.doors;
+      lists = unpiled (λ (x : Worker g.row.D.Denot g.row.F.Denot OpenGate). x.ends) ws w c.doors.lists.items c.hire-worker.new.lists.items _ h.lists i.lists
+          ∙ ap (λ l. c.hire-worker.new.lists.items ++ reverse (map (λ (x : Worker g.row.D.Denot g.row.F.Denot OpenGate). x.ends) l)) (sym more.items);
+      left = let a = h.left in let b = i.left in omega arith;
+      failed = subst (All (λ (x : Worker g.row.D.Denot g.row.F.Denot OpenGate). x.door_failed ≡ false)) (sym more.items)
+          (all_push (λ (x : Worker g.row.D.Denot g.row.F.Denot OpenGate). x.door_failed ≡ false) ws w i.failed h.failed);
+      workers_room = more.capacity ∙ i.workers_room;
+      doors_room = c.pop.ensures.capacity ∙ i.doors_room;
+    }

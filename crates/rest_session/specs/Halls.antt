@@ -1,0 +1,5 @@
+pub mod Accounts
+pub mod Asking
+pub mod Visits
+pub mod Staff
+pub mod Histories

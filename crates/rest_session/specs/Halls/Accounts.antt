@@ -1,0 +1,77 @@
+-- Passes of a hall, in words.
+--     start_in h, view p      with what a hall began, and what a pass knows
+--     who p                   what no call but split and join changes of a pass
+--     told_by lanes by seen   the entries of a pass in some lists, each with what it was answered
+--     account tokens h p      what the service over one link goes by
+--     IsReady h p             a pass of this hall, all of whose entries were answered
+use Rattle.std.specs.Prelude.{◌≡◌, ℕ, List, [], map, Option, IsSome, option_map}
+use Rattle.std.specs.List.{AllByRecursion}
+use Rattle.atomic_table.specs.Seated.{TableId}
+use Rattle.access_lists.specs.Tokens.Bearer.{TokenTable}
+use Rattle.register.specs.declared.verdicts.Verdict.{Verdict}
+use Rattle.service_core.specs.declared.answers.What.{What}
+use Rattle.lane_histories.specs.Histories.{own}
+use Rattle.lane_histories.specs.Replies.{reply}
+use Rattle.lane_histories.specs.declared.items.Entry.{Entry}
+use Rattle.hall_rule.specs.Seen.{SeenLists, history_of}
+use Rattle.service_histories.specs.ArrayServices.{Asked, array_service}
+use Rattle.service_histories.specs.PlainSteps.{answer_of}
+use Rattle.hall.specs.Answers.{ArrayStart, ArrayView}
+use Rattle.hall.specs.ArrayMachines.{lanes_in, start_of}
+use Rattle.hall.specs.Passes.{IsPassOf}
+use Rattle.hall.specs.declared.hall.Hall.{Hall}
+use Rattle.hall.specs.declared.pass.Pass.{Pass}
+
+-- ---- halls and passes
+
+abbrev pub start_in : {D : Type 0} → Hall D → ArrayStart D
+start_in h = start_of h.table.shared.key
+
+abbrev pub view : {D : Type 0} → Pass D → ArrayView D
+view p = p.seat.me.0
+
+-- its table, its number, its spare and its joined numbers, and with what its hall began
+abbrev pub who : {D : Type 0} → Pass D → TableId × ℕ × List ℕ × List ℕ × Option (ArrayStart D)
+who p = (p.seat.table_id, (view p).number, (view p).spare, (view p).joined, (view p).start)
+
+-- ---- what was asked, and answered
+
+-- an entry, and what it was answered, where the lists tell it
+abbrev pub Told : Type 0
+Told = Entry Asked Verdict × Option What
+
+-- the lists of the service; how many lanes there are doesn't matter to what they are made of
+abbrev pub Lists : Type 0
+Lists = SeenLists (array_service 0)
+
+abbrev pub told_of : ℕ → Lists → Entry Asked Verdict → Told
+told_of lanes seen e = (e, option_map answer_of (reply (array_service lanes) (history_of (array_service lanes) seen) e.place))
+
+-- the entries of one pass, in order
+abbrev pub told_by : ℕ → ℕ → Lists → List Told
+told_by lanes by seen = map (told_of lanes seen) (own by seen.register)
+
+abbrev pub AllAnswered : List Told → Type 0
+AllAnswered told = AllByRecursion (λ t. IsSome t.1) told
+
+-- what the service over a link goes by: the tokens that are known, what the pass asked and was answered so far, and a place below
+-- which all that lies
+pub record Account : Type 0 where
+  pub tokens : TokenTable
+  pub told : List Told
+  pub front : ℕ
+
+abbrev pub account : {D : Type 0} → TokenTable → Hall D → Pass D → Account
+account tokens h p = record {
+  tokens = tokens;
+  told = told_by (lanes_in (start_in h)) (view p).number (view p).seen;
+  front = p.front;
+}
+
+-- before anything was asked
+abbrev pub unasked : TokenTable → Account
+unasked tokens = record { tokens = tokens; told = []; front = 0 }
+
+pub record IsReady {D : Type 0} (h : Hall D) (p : Pass D) : Type 0 where
+  pub of_this_hall : IsPassOf h p
+  pub answered : AllAnswered (told_by (lanes_in (start_in h)) (view p).number (view p).seen)

@@ -1,0 +1,14 @@
+//! Many links over one hall: workers, one at each door, whose links are served one after another, each by asking the hall.
+//! The answers of all of them are those of one legal history.
+
+mod attending;
+mod hiring;
+mod session;
+mod top;
+mod workers;
+
+pub use attending::{attend_door, serve_link};
+pub use hiring::Report;
+pub use session::HallSession;
+pub use top::{ClosedHall, ServedHall, serve_hall};
+pub use workers::{LinkEnds, Worker, work};

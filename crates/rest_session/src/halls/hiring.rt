@@ -1,0 +1,211 @@
+//! The room, the hiring and the leaving of workers.
+ghost use Rattle.std.specs.Prelude.{◌≡◌, ℕ, ◌+◌, ◌<◌, ◌≤◌, ◌++◌, [], ◌∷◌, All, IfOk, false, map};
+ghost use Rattle.std.specs.Prelude.{reverse, vec_capacity, vec_len};
+ghost use Rattle.hall_rule.specs.Sums.{upward};
+ghost use Rattle.hall.specs.Passes.{IsPassOf};
+ghost use Rattle.rest_session.specs.Halls.Accounts.{view};
+ghost use Rattle.rest_session.specs.Halls.Staff.{IsAlone, IsGiver, IsHired, TookIn, numbers};
+
+use crate::halls::workers::{LinkEnds, Worker};
+use hall::{Hall, OpenGate, Pass};
+use std::alloc::{AllocError, Global};
+
+/// What a worker has to tell.
+#[derive(Drop)]
+pub struct Report {
+    /// How the links of its door ended, in order.
+    pub ends: LinkEnds,
+    /// Whether its door failed.
+    pub door_failed: bool,
+}
+
+/// All memory that the workers of a hall take.
+pub(crate) struct Room<D: Drop, F> {
+    pub lists: Vec<LinkEnds>,
+    pub workers: Vec<Worker<D, F, OpenGate>>,
+    pub reports: Vec<Report>,
+}
+
+// Empty lists of ends, each with room for so many.
+fn make_lists(alloc: Global, count: usize, links: u32) -> Result<Vec<LinkEnds>, AllocError>
+    ensures count { IfOk result (λ v. vec_len v ≡ count) }
+    ensures room { IfOk result (λ v. All (λ l. (l.items ≡ []) × (links ≤ vec_capacity l)) v.items) }
+{
+    let mut lists = Vec::new(alloc);
+    'lists: for _ in 0..count {
+        lists.push(Vec::with_capacity(alloc, links as usize)?)?;
+    }
+    Ok(lists)
+}
+
+/// Room for a worker at each door.
+pub(crate) fn make_room<D: Drop, F>(
+    alloc: Global,
+    doors: usize,
+    links: u32,
+) -> Result<Room<D, F>, AllocError>
+    requires { doors ≤ 16 }
+    ensures lists { IfOk result (λ r. (vec_len r.lists ≡ doors)
+        × All (λ l. (l.items ≡ []) × (links ≤ vec_capacity l)) r.lists.items) }
+    ensures workers { IfOk result (λ r. (r.workers.items ≡ [])
+        × (doors ≤ vec_capacity r.workers)) }
+    ensures reports { IfOk result (λ r. (r.reports.items ≡ [])
+        × (doors ≤ vec_capacity r.reports)) }
+{
+    let lists = make_lists(alloc, doors, links)?;
+    let reports = Vec::with_capacity(alloc, doors)?;
+    let workers = Vec::with_capacity(alloc, doors)?;
+    Ok(Room {
+        lists,
+        workers,
+        reports,
+    })
+}
+
+// A worker with the next number of the first pass.
+fn hire<D: Drop, F>(
+    hall: &Hall<D>,
+    pass: &mut Pass<D>,
+    door: F,
+    lists: &mut Vec<LinkEnds>,
+) -> Worker<D, F, OpenGate>
+    requires lists { 0 < vec_len lists.old }
+    requires giver { (k n : ℕ) × IsGiver hall.now k (n + 1) pass.old }
+    ensures giver { (k n : ℕ) → IsGiver hall.now k (n + 1) pass.old
+        → IsGiver hall.now (k + 1) n pass.new × IsHired hall.now (k + 1) result.pass }
+    ensures lists { lists.old.items ≡ lists.new.items ++ result.ends ∷ [] }
+    ensures left { vec_len lists.new + 1 ≡ vec_len lists.old }
+    ensures door { result.door ≡ door }
+    ensures failed { result.door_failed ≡ false }
+{
+    let share = hall.split(pass);
+    let ends = lists.pop().unwrap();
+    Worker {
+        door,
+        gate: OpenGate,
+        pass: share,
+        ends,
+        door_failed: false,
+    }
+}
+
+// A worker for each door, the last door first.
+fn hire_all<D: Drop, F>(
+    hall: &Hall<D>,
+    pass: &mut Pass<D>,
+    doors: &mut Vec<F>,
+    lists: &mut Vec<LinkEnds>,
+    workers: &mut Vec<Worker<D, F, OpenGate>>,
+)
+    requires lists { vec_len lists.old ≡ vec_len doors.old }
+    requires giver { IsGiver hall.now 0 (vec_len doors.old) pass.old }
+    requires workers { (workers.old.items ≡ [])
+        × (vec_len doors.old ≤ vec_capacity workers.old) }
+    ensures giver { IsGiver hall.now (vec_len doors.old) 0 pass.new }
+    ensures hired { All (λ w. (x : ℕ) × IsHired hall.now x w.pass) workers.new.items }
+    ensures numbers { map (λ w. (view w.pass).number) workers.new.items
+        ≡ upward 1 (vec_len doors.old) }
+    ensures doors { map (λ w. w.door) workers.new.items ≡ reverse doors.old.items }
+    ensures lists { lists.old.items ≡ lists.new.items ++ reverse (map (λ w. w.ends) workers.new.items) }
+    ensures failed { All (λ w. w.door_failed ≡ false) workers.new.items }
+    ensures rest { (doors.new.items ≡ []) × (vec_capacity doors.new ≡ vec_capacity doors.old) }
+{
+    'doors: while let Some(door) = doors.pop() {
+        let worker = hire(hall, pass, door, lists);
+        workers.push_reserved(worker);
+    }
+}
+
+/// A worker for each door, in order.
+pub(crate) fn staff<D: Drop, F>(
+    hall: &Hall<D>,
+    links: u32,
+    pass: &mut Pass<D>,
+    doors: &mut Vec<F>,
+    mut lists: Vec<LinkEnds>,
+    workers: &mut Vec<Worker<D, F, OpenGate>>,
+)
+    requires giver { IsGiver hall.now 0 (vec_len doors.old) pass.old }
+    requires lists { (vec_len lists ≡ vec_len doors.old)
+        × All (λ l. (l.items ≡ []) × (links ≤ vec_capacity l)) lists.items }
+    requires workers { (workers.old.items ≡ [])
+        × (vec_len doors.old ≤ vec_capacity workers.old) }
+    ensures giver { IsGiver hall.now (vec_len doors.old) 0 pass.new }
+    ensures hired { All (λ w. (x : ℕ) × IsHired hall.now x w.pass) workers.new.items }
+    ensures numbers { map (λ w. (view w.pass).number) workers.new.items
+        ≡ upward 1 (vec_len doors.old) }
+    ensures doors { map (λ w. w.door) workers.new.items ≡ doors.old.items }
+    ensures ready { All (λ w. (w.ends.items ≡ []) × (links ≤ vec_capacity w.ends)
+        × (w.door_failed ≡ false)) workers.new.items }
+    ensures rest { (doors.new.items ≡ []) × (vec_capacity doors.new ≡ vec_capacity doors.old) }
+{
+    doors.reverse();
+    hire_all(hall, pass, doors, &mut lists, workers);
+}
+
+// Joins the workers' passes into this one, the last first. The doors and the reports come in that order.
+fn take_in<D: Drop, F>(
+    hall: &Hall<D>,
+    pass: &mut Pass<D>,
+    mut workers: Vec<Worker<D, F, OpenGate>>,
+    doors: &mut Vec<F>,
+    reports: &mut Vec<Report>,
+)
+    requires of { IsPassOf hall.now pass.old }
+    requires first { (view pass.old).number ≡ 0 }
+    requires all_of { All (λ w. IsPassOf hall.now w.pass × IsAlone (view w.pass)) workers.items }
+    requires numbers { map (λ w. (view w.pass).number) workers.items
+        ≡ upward 1 (vec_len workers) }
+    requires doors_room { vec_len doors.old + vec_len workers ≤ vec_capacity doors.old }
+    requires reports_room { vec_len reports.old + vec_len workers ≤ vec_capacity reports.old }
+    ensures of { IsPassOf hall.now pass.new }
+    ensures names { numbers pass.new ≡ numbers pass.old + vec_len workers }
+    ensures itself { TookIn (view pass.new) (view pass.old) }
+    ensures others { All (λ w. TookIn (view pass.new) (view w.pass)) workers.items }
+    ensures doors { doors.new.items ≡ doors.old.items ++ reverse (map (λ w. w.door) workers.items) }
+    ensures reports { reports.new.items ≡ reports.old.items
+        ++ reverse (map (λ w. record { ends = w.ends; door_failed = w.door_failed }) workers.items) }
+{
+    'workers: while let Some(worker) = workers.pop() {
+        let Worker {
+            door,
+            gate: _,
+            pass: other,
+            ends,
+            door_failed,
+        } = worker;
+        hall.join(pass, other);
+        doors.push_reserved(door);
+        reports.push_reserved(Report { ends, door_failed });
+    }
+    workers.destroy_empty();
+}
+
+/// Joins all workers' passes into this one. The doors and the reports come in the order of their workers.
+pub(crate) fn dismiss<D: Drop, F>(
+    hall: &Hall<D>,
+    pass: &mut Pass<D>,
+    workers: Vec<Worker<D, F, OpenGate>>,
+    doors: &mut Vec<F>,
+    reports: &mut Vec<Report>,
+)
+    requires of { IsPassOf hall.now pass.old }
+    requires first { (view pass.old).number ≡ 0 }
+    requires all_of { All (λ w. IsPassOf hall.now w.pass × IsAlone (view w.pass)) workers.items }
+    requires numbers { map (λ w. (view w.pass).number) workers.items
+        ≡ upward 1 (vec_len workers) }
+    requires doors_room { (doors.old.items ≡ []) × (vec_len workers ≤ vec_capacity doors.old) }
+    requires reports_room { (reports.old.items ≡ [])
+        × (vec_len workers ≤ vec_capacity reports.old) }
+    ensures of { IsPassOf hall.now pass.new }
+    ensures names { numbers pass.new ≡ numbers pass.old + vec_len workers }
+    ensures itself { TookIn (view pass.new) (view pass.old) }
+    ensures others { All (λ w. TookIn (view pass.new) (view w.pass)) workers.items }
+    ensures doors { doors.new.items ≡ map (λ w. w.door) workers.items }
+    ensures reports { reports.new.items
+        ≡ map (λ w. record { ends = w.ends; door_failed = w.door_failed }) workers.items }
+{
+    take_in(hall, pass, workers, doors, reports);
+    doors.reverse();
+    reports.reverse();
+}

@@ -1,0 +1,127 @@
+//! A hall that is asked over one link.
+ghost use Rattle.std.specs.Prelude.{◌≡◌, ◌⊎◌, Bool};
+ghost use Rattle.access_lists.specs.Tokens.Bearer.{TokenTable};
+ghost use Rattle.http_wire.specs.Replies.{no_memory_reply};
+ghost use Rattle.object_ops.specs.Conditions.{IsSoundOp};
+ghost use Rattle.rest_session.specs.Halls.Accounts.{IsReady, account, who};
+ghost use Rattle.rest_session.specs.Halls.Asking.{Asks, IsTaken};
+ghost use Rattle.rest_session.specs.Links.Replies.{reply_bytes};
+ghost use Rattle.rest_session.specs.Sessions.{is_to_keep};
+
+use crate::answers::{answer_reply, no_memory};
+use crate::links::{Response, Service};
+use crate::world_session::{is_to_keep, parts_of, refuse};
+use access_lists::Caller;
+use hall::{Gate, Hall, Pass};
+use http_wire::Message;
+use object_ops::{Refusal, Request, on_text};
+use rest_requests::routes::Methods;
+use rest_requests::{RequestFault, Tokens, lent_request};
+use service_core::answer_trees::replies_have_no_floats;
+use service_histories::{histories_are_legal, replies_are_replays};
+use std::alloc::Global;
+use std::convert::Infallible;
+use std::sync::Wait;
+
+/// A hall that is asked with a pass over one link, and the tokens by which callers are known.
+#[derive(Drop)]
+pub struct HallSession<'a, D: Drop, G, R> {
+    pub rt: &'a R,
+    pub alloc: Global,
+    pub hall: &'a Hall<D>,
+    pub pass: &'a mut Pass<D>,
+    pub gate: &'a mut G,
+    pub tokens: &'a Tokens,
+}
+
+impl<'a, D: Drop, G: Gate, R: Wait> Service for HallSession<'a, D, G, R> {
+    ghost use base.Fml.{GName};
+    ghost use Rattle.std.specs.Prelude.{ℕ, List, Option};
+    ghost use Rattle.atomic_table.specs.Seated.{TableId};
+    ghost use Rattle.access_lists.specs.Tokens.Bearer.{TokenTable};
+    ghost use Rattle.hall.specs.Answers.{ArrayStart};
+    ghost use Rattle.hall.specs.declared.hall.Hall.{Hall};
+    ghost use Rattle.rest_session.specs.Halls.Accounts.{Account, IsReady, account, who};
+    ghost use Rattle.rest_session.specs.Halls.Asking.{IsAskedOf};
+
+    type End = Infallible;
+
+    ghost World = { Account };
+
+    ghost world = { λ s. account s.tokens.now s.hall.now s.pass.now };
+
+    ghost step = { IsAskedOf };
+
+    ghost stop = { λ _ _ _ _. ⊥ };
+
+    ghost ready = { λ s. IsReady s.hall.now s.pass.now };
+
+    ghost Fixed = { GName × GName × TokenTable × Hall D
+        × (TableId × ℕ × List ℕ × List ℕ × Option (ArrayStart D)) };
+
+    ghost fixed = { λ s. (s.pass.ghost_name, s.gate.ghost_name, s.tokens.now, s.hall.now, who s.pass.now) };
+
+    fn answer(&mut self, message: &Message<'_>) -> Result<Response, Infallible> {
+        match lent_request(self.alloc, &parts_of(message), self.tokens) {
+            Ok((caller, request)) => {
+                Ok(take(
+                    self.rt, self.alloc, self.hall, self.pass, self.gate, caller, &request,
+                ))
+            }
+            Err(RequestFault::Refused { refusal, allow }) => {
+                Ok(refuse(self.alloc, &refusal, allow))
+            }
+            Err(RequestFault::NoMemory) => Ok(no_memory()),
+        }
+    }
+}
+
+/// Answers a request. What would have to be kept before it is answered has no route.
+fn take<D: Drop, G: Gate, R: Wait>(
+    rt: &R,
+    alloc: Global,
+    hall: &Hall<D>,
+    pass: &mut Pass<D>,
+    gate: &mut G,
+    caller: &Caller,
+    request: &Request,
+) -> Response
+    requires ready { IsReady hall.now pass.old }
+    requires op { IsSoundOp request.now.op }
+    ensures ready { IsReady hall.now pass.new }
+    ensures same { who pass.new ≡ who pass.old }
+    ensures taken { (tokens : TokenTable) (close : Bool)
+        → IsTaken (is_to_keep request.now.op) (account tokens hall.now pass.old)
+        caller.now request.now close (reply_bytes result close) (account tokens hall.now pass.new)
+        ⊎ ((reply_bytes result close ≡ no_memory_reply close)
+        × (account tokens hall.now pass.new ≡ account tokens hall.now pass.old)) }
+{
+    if is_to_keep(&request.op) {
+        return refuse(alloc, &Refusal::NoRoute, Methods::NONE);
+    }
+    ask(rt, alloc, hall, pass, gate, caller, request)
+}
+
+/// Asks the hall, and says its answer.
+fn ask<D: Drop, G: Gate, R: Wait>(
+    rt: &R,
+    alloc: Global,
+    hall: &Hall<D>,
+    pass: &mut Pass<D>,
+    gate: &mut G,
+    caller: &Caller,
+    request: &Request,
+) -> Response
+    requires ready { IsReady hall.now pass.old }
+    requires op { IsSoundOp request.now.op }
+    ensures ready { IsReady hall.now pass.new }
+    ensures same { who pass.new ≡ who pass.old }
+    ensures asked { (tokens : TokenTable) (close : Bool) → Asks (account tokens hall.now pass.old)
+        caller.now request.now close (reply_bytes result close) (account tokens hall.now pass.new) }
+{
+    replies_have_no_floats();
+    histories_are_legal();
+    replies_are_replays();
+    let answer = hall.ask(rt, pass, gate, caller, request);
+    answer_reply(alloc, on_text(request), &answer)
+}

@@ -1,0 +1,113 @@
+//! Many workers at one hall.
+ghost use Rattle.std.specs.Prelude.{◌≡◌, ℕ, ◌≤◌, [], All, Some, false, map, slice_get, vec_capacity};
+ghost use Rattle.rest_session.specs.Halls.Accounts.{IsReady, account, who};
+ghost use Rattle.rest_session.specs.Halls.Visits.{Works, telling};
+
+use crate::halls::attending::attend_door;
+use crate::links::LinkEnd;
+use edge_traits::{Door, Sink, Source};
+use hall::{Gate, Hall, Pass};
+use rest_requests::Tokens;
+use std::alloc::Global;
+use std::sync::Wait;
+use std::thread;
+use std::thread::Threads;
+
+const MOST_THREADS: usize = 16;
+
+/// The ends of a worker's links, in order.
+pub type LinkEnds = Vec<LinkEnd>;
+
+/// A worker: its door and its pass, and a gate through which it goes in each turn of a lane. What it did is told by the ends
+/// of its links, and by whether its door failed.
+pub struct Worker<D: Drop, F, G> {
+    pub door: F,
+    pub gate: G,
+    pub pass: Pass<D>,
+    pub ends: LinkEnds,
+    pub door_failed: bool,
+}
+
+fn run_worker<D: Drop, G: Gate, F: Door, R: Wait>(
+    rt: &R,
+    alloc: Global,
+    hall: &Hall<D>,
+    tokens: &Tokens,
+    links: u32,
+    worker: &mut Worker<D, F, G>,
+)
+    requires ready { IsReady hall.now worker.old.pass }
+    requires new { (worker.old.ends.items ≡ []) × (links ≤ vec_capacity worker.old.ends)
+        × (worker.old.door_failed ≡ false) }
+    ensures { IsReady hall.now worker.new.pass × (who worker.new.pass ≡ who worker.old.pass)
+        × Works (telling ⟦<F as Door>⟧ ⟦<F::Link as Source>⟧ ⟦<F::Link as Sink>⟧) links
+        worker.old.door worker.new.door worker.new.ends.items
+        (account tokens.now hall.now worker.old.pass) (account tokens.now hall.now worker.new.pass)
+        worker.new.door_failed }
+{
+    worker.door_failed = attend_door(
+        rt,
+        alloc,
+        hall,
+        &mut worker.pass,
+        &mut worker.gate,
+        tokens,
+        links,
+        &mut worker.door,
+        &mut worker.ends,
+    );
+}
+
+// What holds of each worker is one clause, joined by `×`.
+fn work_each<D: Drop + Send, G: Gate + Send, F: Door + Send, R: Threads + Wait + Sync>(
+    rt: &R,
+    alloc: Global,
+    hall: &Hall<D>,
+    tokens: &Tokens,
+    links: u32,
+    workers: &mut [Worker<D, F, G>],
+)
+where
+    F::Link: Send,
+    requires ready { All (λ w. IsReady hall.now w.pass) workers.old }
+    requires new { All (λ w. (w.ends.items ≡ []) × (links ≤ vec_capacity w.ends)
+        × (w.door_failed ≡ false)) workers.old }
+    ensures { (i : ℕ) (x y : _) → slice_get workers.old i ≡ Some x → slice_get workers.new i ≡ Some y
+        → IsReady hall.now y.pass × (who y.pass ≡ who x.pass)
+        × Works (telling ⟦<F as Door>⟧ ⟦<F::Link as Source>⟧ ⟦<F::Link as Sink>⟧) links
+        x.door y.door y.ends.items
+        (account tokens.now hall.now x.pass) (account tokens.now hall.now y.pass) y.door_failed }
+{
+    thread::for_each_mut(
+        rt,
+        workers,
+        MOST_THREADS,
+        &|_, worker| { run_worker(rt, alloc, hall, tokens, links, worker) },
+    );
+}
+
+/// Runs the workers, each in a thread of its own where one can be made: each serves the links of its door, one after another,
+/// until the door has none left, it fails, or `links` were given.
+pub fn work<D: Drop + Send, G: Gate + Send, F: Door + Send, R: Threads + Wait + Sync>(
+    rt: &R,
+    alloc: Global,
+    hall: &Hall<D>,
+    tokens: &Tokens,
+    links: u32,
+    workers: &mut [Worker<D, F, G>],
+)
+where
+    F::Link: Send,
+    requires ready { All (λ w. IsReady hall.now w.pass) workers.old }
+    requires new { All (λ w. (w.ends.items ≡ []) × (links ≤ vec_capacity w.ends)
+        × (w.door_failed ≡ false)) workers.old }
+    ensures ready { All (λ w. IsReady hall.now w.pass) workers.new }
+    ensures same { map (λ w. who w.pass) workers.new ≡ map (λ w. who w.pass) workers.old }
+    ensures works { (i : ℕ) (x y : _)
+        → slice_get workers.old i ≡ Some x → slice_get workers.new i ≡ Some y
+        → Works (telling ⟦<F as Door>⟧ ⟦<F::Link as Source>⟧ ⟦<F::Link as Sink>⟧) links
+        x.door y.door y.ends.items
+        (account tokens.now hall.now x.pass) (account tokens.now hall.now y.pass) y.door_failed }
+{
+    work_each(rt, alloc, hall, tokens, links, workers);
+}
