@@ -8,3 +8,6 @@ pub mod Imports
 pub mod Sampled
 pub mod Runs
 pub mod Completeness
+pub mod Files
+pub mod NamedDisks
+pub mod OpenedDisks

@@ -1,16 +1,15 @@
 -- What a run reads and writes, before it and after.
-use Rattle.std.specs.Prelude.{◌≡◌, ℕ, List, Option, Some, None, if◌then◌else◌, nat_le, length, option_and_then, ⊤}
+use Rattle.std.specs.Prelude.{◌≡◌, ℕ, List, Option, Some, None, ◌^◌, if◌then◌else◌, nat_le, length, option_and_then, ⊤}
 use Rattle.std.specs.Io.KnownBytes.{Keeps}
 use Rattle.edge_traits.specs.Causes.{Rose}
 use Rattle.edge_traits.specs.declared.sink.Sink.{Ghosts as Sinks}
 use Rattle.edge_traits.specs.declared.source.Source.{Ghosts as Sources}
 use Rattle.configuration.specs.declared.config.Config.{Config}
 use Rattle.configuration.specs.Configured.{config_of, document_in}
-use Rattle.hsds_cli.specs.declared.configured.TheConstants.{CONFIG_LIMIT}
 
--- the configuration that a text within the limit spells
+-- the configuration that a text of at most 2^20 bytes spells
 abbrev pub configured : List ℕ → Option Config
-configured text = if nat_le (length text) CONFIG_LIMIT then option_and_then config_of (document_in text) else None
+configured text = if nat_le (length text) (2 ^ 20) then option_and_then config_of (document_in text) else None
 
 -- a text that is told spells the configuration
 abbrev pub Spells : Option (List ℕ) → Config → Type 0

@@ -1,110 +1,109 @@
-//! A journal's file that may not have been opened.
+//! A disk that may not have been opened.
 
-ghost use Rattle.std.specs.Prelude.{◌≡◌, ◌^◌, ℕ, List, []};
+ghost use Rattle.std.specs.Prelude.{◌≡◌, Option, IsErr};
+ghost use Rattle.edge_traits.specs.Causes.{Rose};
+ghost use Rattle.hsds_cli.specs.OpenedDisks.{around_of, beside_of, faults_of, has_stopped, image_of};
+ghost use Rattle.hsds_cli.specs.OpenedDisks.{it_fits, left_of, moment_of, most_of, now_counts};
+ghost use Rattle.hsds_cli.specs.OpenedDisks.{now_is_all, opened, reads_are_left, reads_of};
 
-use edge_traits::{Disk, Failed, FaultCount, FileDisk};
+use edge_traits::{Disk, Failed, FaultCount};
 
-/// The greatest length of a file.
-const ROOM: u64 = 1 << 40;
-
-/// A file as a disk. Where it was not opened, each call that can fail does so, and is a fault. It tells nothing of its
-/// bytes, as the disk over a file.
+/// A disk, where it was opened: then all is as that disk does it. Else it holds nothing and has no room, and each call that
+/// can fail does so, and is a fault.
 #[derive(Drop)]
-pub struct OpenedDisk {
-    disk: Option<FileDisk>,
-    count: FaultCount,
+pub enum OpenedDisk<D> {
+    /// The disk that was opened.
+    Opened(D),
+    /// None was. The faults are the calls so far.
+    Missing(FaultCount),
 }
 
-impl OpenedDisk {
-    /// The file, where it was opened, with no fault yet.
-    pub fn new(disk: Option<FileDisk>) -> OpenedDisk
-        ensures { ⟦<OpenedDisk as Disk>⟧.faults result ≡ 0 }
+impl<D: Disk> OpenedDisk<D> {
+    /// The disk, where one was opened.
+    pub fn new(disk: Option<D>) -> OpenedDisk<D>
+        ensures { result ≡ opened disk }
     {
-        OpenedDisk {
-            disk,
-            count: FaultCount::new(),
+        match disk {
+            Some(disk) => OpenedDisk::Opened(disk),
+            None => OpenedDisk::Missing(FaultCount::new()),
         }
     }
 }
 
-impl Disk for OpenedDisk {
-    ghost honest = { ⊥ };
+// A call of a disk that was not opened.
+fn missed<T>(count: &mut FaultCount) -> Result<T, Failed>
+    ensures fails { IsErr result }
+    ensures counts { Rose count.old count.new }
+{
+    count.rise();
+    Err(Failed)
+}
 
-    ghost reads = { λ _. [] };
+impl<D: Disk> Disk for OpenedDisk<D> {
+    ghost honest = { D.honest };
 
-    ghost images = { λ _ _. Unit {0} };
+    ghost reads = { λ d. reads_of D.reads d };
 
-    ghost moment = { λ _. 0 };
+    ghost images = { λ d c. image_of D.images d c };
 
-    ghost left_since = { λ _ _ _. Unit {0} };
+    ghost moment = { λ d. moment_of D.moment d };
 
-    ghost faults = { λ d. d.count };
+    ghost left_since = { λ d t c. left_of D.left_since d t c };
 
-    ghost most = { λ _. 2 ^ 40 };
+    ghost faults = { λ d. faults_of D.faults d };
 
-    ghost Others = { Unit {0} };
+    ghost most = { λ d. most_of D.most d };
 
-    ghost beside = { λ _. tt };
+    ghost Others = { Option D.Others };
 
-    ghost beside_since = { λ _ _ _. Unit {0} };
+    ghost beside = { λ d. beside_of D.beside d };
+
+    ghost beside_since = { λ d t o. around_of D.beside_since d t o };
+
+    ghost stopped = { λ d. has_stopped D.stopped d };
 
     fn length(&mut self) -> Result<u64, Failed> {
-        let Some(disk) = &mut self.disk else {
-            self.count.rise();
-            return Err(Failed);
-        };
-        let Ok(length) = disk.length() else {
-            self.count.rise();
-            return Err(Failed);
-        };
-        Ok(length)
+        match self {
+            OpenedDisk::Opened(disk) => disk.length(),
+            OpenedDisk::Missing(count) => missed(count),
+        }
     }
 
     fn room(&self) -> u64 {
-        ROOM
+        match self {
+            OpenedDisk::Opened(disk) => disk.room(),
+            OpenedDisk::Missing(_) => 0,
+        }
     }
 
     fn read_at(&mut self, at: u64, buf: &mut [u8]) -> Result<usize, Failed> {
-        let Some(disk) = &mut self.disk else {
-            self.count.rise();
-            return Err(Failed);
-        };
-        let Ok(count) = disk.read_at(at, buf) else {
-            self.count.rise();
-            return Err(Failed);
-        };
-        Ok(count)
+        match self {
+            OpenedDisk::Opened(disk) => disk.read_at(at, buf),
+            OpenedDisk::Missing(count) => missed(count),
+        }
     }
 
     fn write_at(&mut self, at: u64, bytes: &[u8]) -> Result<(), Failed> {
-        let Some(disk) = &mut self.disk else {
-            self.count.rise();
-            return Err(Failed);
-        };
-        let Ok(()) = disk.write_at(at, bytes) else {
-            self.count.rise();
-            return Err(Failed);
-        };
-        Ok(())
+        match self {
+            OpenedDisk::Opened(disk) => disk.write_at(at, bytes),
+            OpenedDisk::Missing(count) => missed(count),
+        }
     }
 
     fn sync(&mut self) -> Result<(), Failed> {
-        let Some(disk) = &mut self.disk else {
-            self.count.rise();
-            return Err(Failed);
-        };
-        let Ok(()) = disk.sync() else {
-            self.count.rise();
-            return Err(Failed);
-        };
-        Ok(())
+        match self {
+            OpenedDisk::Opened(disk) => disk.sync(),
+            OpenedDisk::Missing(count) => missed(count),
+        }
     }
 
-    ghost fits = { λ _ told. absurd told };
+    ghost fits = { λ d told. it_fits D.reads D.most (λ disk. D.fits disk told) d };
 
-    ghost reads_left = { λ _ told. absurd told };
+    ghost reads_left = { λ d told. reads_are_left D.reads D.images (λ disk. D.reads_left disk told) d };
 
-    ghost counts_now = { λ _ _ _ told _ _. absurd told };
+    ghost counts_now = { λ d t c told le image. now_counts D.moment D.images D.left_since
+        (λ disk t c le image. D.counts_now disk t c told le image) d t c le image };
 
-    ghost only_now = { λ _ _ told _. absurd told };
+    ghost only_now = { λ d c told past. now_is_all D.moment D.images D.left_since
+        (λ disk c past. D.only_now disk c told past) d c past };
 }

@@ -2,7 +2,6 @@ ghost use Rattle.std.specs.Prelude.{◌≡◌, ◌⊎◌, ◌≤◌, ℕ, None, 
 ghost use Rattle.command_words.specs.Commands.{Command, command_of};
 ghost use Rattle.flush_journal.specs.Unchanged.{SameDisk};
 ghost use Rattle.rest_session.specs.declared.kept.outcome.Closed.{Closed};
-ghost use Rattle.hsds_cli.specs.declared.run.TheConstants.{MAX_DOORS};
 ghost use Rattle.hsds_cli.specs.declared.status.Status.{Status};
 ghost use Rattle.hsds_cli.specs.Status.{number_of};
 ghost use Rattle.hsds_cli.specs.Completeness.{IsUndisturbed};
@@ -20,9 +19,6 @@ use edge_traits::{Disk, Door, Sink, Source};
 use rest_session::kept::Closed;
 use std::alloc::Global;
 
-/// How many doors a run may have.
-pub const MAX_DOORS: usize = 16;
-
 /// The answer of a run: its status, the disk and the doors as it leaves them, and how a session's link left the world.
 #[derive(Drop)]
 pub struct Finished<D, F> {
@@ -38,8 +34,8 @@ pub struct Finished<D, F> {
 
 /// Does what the words say: `init` makes a journal of the configuration, `session` serves the world that a journal keeps to
 /// `input` and `out` as one link, `export` prints the document of a domain, `import` makes a document of `input` a new
-/// domain, `sample` prints the sums of a sample world, and `verify` tells a journal's numbers. The doors come back as they
-/// were.
+/// domain, `sample` prints the sums of a sample world, and `verify` tells a journal's numbers. There are at most 16 doors,
+/// and they come back as they were.
 pub fn run<C: Source, S: Source, K: Sink, D: Disk, F: Door>(
     alloc: Global,
     words: &[String],
@@ -49,7 +45,7 @@ pub fn run<C: Source, S: Source, K: Sink, D: Disk, F: Door>(
     disk: D,
     doors: Vec<F>,
 ) -> Finished<D, F>
-    requires { vec_len doors ≤ MAX_DOORS }
+    requires { vec_len doors ≤ 16 }
 
     ensures run { (status : Status) × (after : D) × (result.status ≡ number_of status)
         × (result.disk ≡ Some after) × SameDisk D.Disk disk after

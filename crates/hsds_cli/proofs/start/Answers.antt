@@ -1,0 +1,7 @@
+use Rattle.std.proofs.Common.{inr}
+use Rattle.hsds_cli.proofs.start.Goals as goal
+
+pub returns : goal.returns
+returns c =
+    let ran = c.run-finished.ensures.run in
+    inr (_, c.journal_disk.result, ran.1, c.run-finished.result.closed, ran.0, ran.2, ran.5)

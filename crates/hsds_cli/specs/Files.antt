@@ -1,0 +1,40 @@
+-- The files that a command opens.
+use Rattle.std.specs.Prelude.{Option, Some, None, option_map, true}
+use Rattle.std.specs.Fs.{new_options, with_create, with_read, with_write}
+use Rattle.std.specs.declared.fs.options.OpenOptions.{OpenOptions}
+use Rattle.command_words.specs.Commands.{Command, export, import, init, sample, session, verify}
+use Rattle.command_words.specs.Lines.{Text}
+use Rattle.hsds_cli.specs.declared.files.Access.{Access}
+use Rattle.hsds_cli.specs.declared.files.Access.TheVariants.{Read, Change, Make}
+use Rattle.hsds_cli.specs.declared.files.CommandFiles.{CommandFiles}
+use Rattle.hsds_cli.specs.declared.files.JournalFile.{JournalFile}
+
+-- the name of the configuration, which is read, and that of the journal, with the way in which it is opened
+pub record Files : Type 0 where
+  pub config : Option Text
+  pub journal : Option (Text × Access)
+
+abbrev pub no_files : Files
+no_files = record { config = None; journal = None }
+
+-- what each command opens; words that are none open nothing
+abbrev pub files_for : Option Command → Files
+files_for None = no_files
+files_for (Some (init config journal lanes)) = record { config = Some config; journal = Some (journal, Make) }
+files_for (Some (session config journal)) = record { config = Some config; journal = Some (journal, Change) }
+files_for (Some (export path journal)) = record { config = None; journal = Some (journal, Read) }
+files_for (Some (import path journal owner)) = record { config = None; journal = Some (journal, Change) }
+files_for (Some (sample n)) = no_files
+files_for (Some (verify journal)) = record { config = None; journal = Some (journal, Read) }
+
+abbrev pub named : JournalFile → Text × Access
+named file = (file.name.now, file.access)
+
+abbrev pub files_named : CommandFiles → Files
+files_named files = record { config = option_map (λ n. n.now) files.config; journal = option_map named files.journal }
+
+-- how the system is asked for a file
+abbrev pub options_for : Access → OpenOptions
+options_for Read = with_read new_options true
+options_for Change = with_write (with_read new_options true) true
+options_for Make = with_create (with_write (with_read new_options true) true) true
