@@ -14,6 +14,7 @@ mod list;
 mod people;
 mod right;
 mod rights;
+mod sending;
 
 pub use decision::decide;
 pub use json::{acl_json, acls_json, entry_json, list_json, read_entry};
@@ -22,5 +23,6 @@ pub use list::{AccessList, ListFault, MAX_ENTRIES};
 pub use people::{Caller, Names};
 pub use right::Right;
 pub use rights::Rights;
+pub use sending::{caller_is_sent, tokens_are_shared};
 
 pub mod tokens;

@@ -274,7 +274,7 @@ impl World {
     ///
     /// # Errors
     ///
-    /// Only where memory runs out; the world is as it was then.
+    /// Only where memory runs out, or where a dataset of this id was removed since the last cut; the world is as it was then.
     pub fn put_object(&mut self, id: ObjectId, object: Object) -> Result<(), AllocError>
         requires given { IsGiven self.old.register id }
         requires new { get (seen self.old).objects id ≡ None }
