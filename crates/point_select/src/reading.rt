@@ -1,7 +1,7 @@
 //! How JSON trees spell points.
 
 ghost use Rattle.std.specs.Prelude.{◌≡◌, ◌≤◌, ◌↔◌, ℕ, List, [], All, length, map, Ok, Err, IfOk};
-ghost use Rattle.std.specs.Prelude.{option_map, option_and_then};
+ghost use Rattle.std.specs.Prelude.{option_map, option_and_then, IsErrOf};
 ghost use Rattle.serde_json.specs.Data.{Data, Items, array};
 ghost use Rattle.serde_json.specs.View.{view};
 ghost use Rattle.shapes.specs.declared.Shape.{Shape};
@@ -11,9 +11,9 @@ ghost use Rattle.shapes.specs.Shapes.{LiesIn, lies_in, dims_of};
 ghost use Rattle.shapes.specs.Extents.{extent_in};
 ghost use Rattle.shapes.specs.Spelled.{few_of};
 ghost use Rattle.json_trees.specs.Faults.{◌>>=◌ as followed_by};
-ghost use Rattle.json_trees.specs.Trees.{list_of, all_in};
+ghost use Rattle.json_trees.specs.Trees.{list_of, list_in, all_in};
 ghost use Rattle.point_select.specs.Points.{SpellsPoints, IsFirstBad};
-ghost use Rattle.point_select.specs.Faults.{coords_in, point_of, points_from, points_of, GivesPoints};
+ghost use Rattle.point_select.specs.Faults.{coords_in, point_of, points_from, points_of, GivesPoints, IsRead};
 ghost use Rattle.point_select.specs.declared.PointFault.{PointFault};
 
 use crate::{MAX_POINTS, PointFault, Points};
@@ -27,12 +27,14 @@ use std::alloc::Global;
 ///
 /// # Errors
 ///
-/// The first fault in the order of [`PointFault`].
+/// The first fault in the order of [`PointFault`]; or want of memory, which comes only of a list of at
+/// most [`MAX_POINTS`] members on a shape with axes.
 pub fn read_points(alloc: Global, tree: &Value, shape: &Shape) -> Result<Points, PointFault>
     ensures spelled { IfOk result (SpellsPoints (view tree.now) shape.now) }
     ensures only { (points : List (List ℕ)) → SpellsPoints (view tree.now) shape.now points
         → GivesPoints result (Ok points) }
     ensures first { GivesPoints result (points_of (view tree.now) shape.now) }
+    ensures memory { IsErrOf result PointFault.NoMemory → IsRead shape.now (list_in (view tree.now)) }
     ensures inside { IfOk result (All (λ at. LiesIn at shape.now)) }
     ensures few { IfOk result (λ points. length points ≤ 65536) }
 {
@@ -55,7 +57,8 @@ pub fn points_or_fault()
 
 #[tactic(auto, unfolding(crate::specs::Faults::points_of))]
 fn first_of(alloc: Global, tree: &Value, shape: &Shape) -> Result<Points, PointFault>
-    ensures { GivesPoints result (points_of (view tree.now) shape.now) }
+    ensures first { GivesPoints result (points_of (view tree.now) shape.now) }
+    ensures memory { IsErrOf result PointFault.NoMemory → IsRead shape.now (list_in (view tree.now)) }
 {
     let Some(items) = list_items(tree) else {
         return Err(PointFault::Syntax { index: 0 });
