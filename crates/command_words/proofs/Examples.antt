@@ -3,7 +3,7 @@ use Rattle.std.proofs.Common.{◌≡◌, List, [], ◌∷◌, Some, None, codes,
 use Rattle.command_words.specs.Lines.{Piece}
 use Rattle.command_words.specs.Reading.{pieces_of}
 use Rattle.command_words.specs.Numbers.{number_between}
-use Rattle.command_words.specs.Commands.{command_of, export, export_row, import, init_row, sample}
+use Rattle.command_words.specs.Commands.{command_of, export, export_row, import, init_row, sample, serve}
 
 abbrev both : List Piece
 both = (codes "journal", codes "j") ∷ (codes "path", codes "/lab") ∷ []
@@ -38,6 +38,23 @@ a_group_owns_nothing = refl
 
 no_path : command_of (codes "export" ∷ codes "lab" ∷ []) ≡ None
 no_path = refl
+
+a_server : command_of (codes "serve" ∷ codes "--links=65536" ∷ codes "--workers" ∷ codes "16" ∷ [])
+    ≡ Some (serve (codes "hsds.toml") (codes "hsds.journal") (codes "127.0.0.1:5101") 16 65536)
+a_server = refl
+
+a_server_as_it_stands : command_of (codes "serve" ∷ codes "--listen" ∷ codes "[::1]:80" ∷ codes "--journal=j" ∷ [])
+    ≡ Some (serve (codes "hsds.toml") (codes "j") (codes "[::1]:80") 4 1000)
+a_server_as_it_stands = refl
+
+seventeen_workers : command_of (codes "serve" ∷ codes "--workers=17" ∷ []) ≡ None
+seventeen_workers = refl
+
+no_links : command_of (codes "serve" ∷ codes "--links=0" ∷ []) ≡ None
+no_links = refl
+
+one_link_more : command_of (codes "serve" ∷ codes "--links=65537" ∷ []) ≡ None
+one_link_more = refl
 
 a_sample : command_of (codes "sample" ∷ codes "4294967295" ∷ []) ≡ Some (sample 4294967295)
 a_sample = refl

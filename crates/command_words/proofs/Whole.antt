@@ -20,7 +20,8 @@ use Rattle.clap.proofs.OnLiterals.{clap_on_literals}
 use Rattle.command_words.specs.Lines.{Text, Row, Piece}
 use Rattle.command_words.specs.Reading.{pieces_of}
 use Rattle.command_words.specs.Commands.{Verb, command_of, export_row, import_row, init_row}
-use Rattle.command_words.specs.Commands.{meaning_of, pieces_in, sample_row, session_row, values_of}
+use Rattle.command_words.specs.Commands.{meaning_of, pieces_in, sample_row, serve_row, session_row}
+use Rattle.command_words.specs.Commands.{values_of}
 use Rattle.command_words.specs.Commands.{verb_named, verbs, verify_row}
 use Rattle.command_words.specs.Apps.{command_found, found_values, hsds_app}
 use Rattle.command_words.proofs.Steps.{rows_for, rules_of}
@@ -122,6 +123,9 @@ init_named = record { apart = λ n e. cc; options = refl; met = refl; found = re
 session_named : Named session_row.name session_row
 session_named = record { apart = λ n e. cc; options = refl; met = refl; found = refl }
 
+serve_named : Named serve_row.name serve_row
+serve_named = record { apart = λ n e. cc; options = refl; met = refl; found = refl }
+
 export_named : Named export_row.name export_row
 export_named = record { apart = λ n e. cc; options = refl; met = refl; found = refl }
 
@@ -135,7 +139,7 @@ verify_named : Named verify_row.name verify_row
 verify_named = record { apart = λ n e. cc; options = refl; met = refl; found = refl }
 
 all_named : AllNamed verbs
-all_named = (init_named, (session_named, (export_named, (import_named, (sample_named, (verify_named, tt))))))
+all_named = (init_named, (session_named, (serve_named, (export_named, (import_named, (sample_named, (verify_named, tt)))))))
 
 -- a verb that a name finds has this name, and is one of them
 named_in : (list : List Verb) (name : Text) (verb : Verb) → AllNamed list

@@ -4,7 +4,7 @@ use Rattle.clap.specs.Walk.{Row as Found, Rule, first_of}
 use Rattle.clap.specs.Simple.{App, new_rule, with_rule, with_subcommand, new_app, on_top}
 use Rattle.command_words.specs.Lines.{Text, Row}
 use Rattle.command_words.specs.Commands.{Command, Values, export_row, import_row, init_row}
-use Rattle.command_words.specs.Commands.{sample_row, session_row, verb_named, verify_row}
+use Rattle.command_words.specs.Commands.{sample_row, serve_row, session_row, verb_named, verify_row}
 
 -- an option, as it is given
 abbrev pub given_option : Text → Rule
@@ -30,7 +30,7 @@ bare_app = on_top (λ s. record s {
 
 abbrev pub hsds_app : App
 hsds_app = fold (λ app row. with_subcommand app (app_for row).top) bare_app
-    (init_row ∷ session_row ∷ export_row ∷ import_row ∷ sample_row ∷ verify_row ∷ [])
+    (init_row ∷ session_row ∷ serve_row ∷ export_row ∷ import_row ∷ sample_row ∷ verify_row ∷ [])
 
 -- the command that a subcommand's name and its rows make
 abbrev pub found_values : List Found → Values

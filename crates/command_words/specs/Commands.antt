@@ -14,10 +14,11 @@ use Rattle.command_words.specs.Lines.{Text, Row, Piece, Part, IsLine, piece_of}
 use Rattle.command_words.specs.Reading.{pieces_of, value_of}
 use Rattle.command_words.specs.Numbers.{number_between}
 
--- the files of the configuration and of the journal, the number of lanes, the path of a domain, its owner, and the number of a sample
+-- the files of the configuration and of the journal, the number of lanes, the address with the numbers of workers and of links, the path of a domain, its owner, and the number of a sample
 pub data Command : Type 0 where
   init : Text → Text → ℕ → Command
   session : Text → Text → Command
+  serve : Text → Text → Text → ℕ → ℕ → Command
   export : Text → Text → Command
   import : Text → Text → Text → Command
   sample : ℕ → Command
@@ -45,13 +46,29 @@ config_in = text_in (codes "config") (codes "hsds.toml")
 abbrev pub journal_in : Values → Text
 journal_in = text_in (codes "journal") (codes "hsds.journal")
 
--- `--lanes N` of 1 to 16, and 4 without it
-abbrev pub lanes_of : Option Text → Option ℕ
-lanes_of None = Some 4
-lanes_of (Some text) = number_between 1 16 text
+-- an option that counts from 1 to a limit, and a number without it
+abbrev pub count_of : ℕ → ℕ → Option Text → Option ℕ
+count_of default most None = Some default
+count_of default most (Some text) = number_between 1 most text
 
+abbrev pub count_in : Text → ℕ → ℕ → Values → Option ℕ
+count_in name default most values = count_of default most (values name)
+
+-- `--lanes N` of 1 to 16, and 4 without it
 abbrev pub lanes_in : Values → Option ℕ
-lanes_in values = lanes_of (values (codes "lanes"))
+lanes_in = count_in (codes "lanes") 4 16
+
+-- `--listen A`, and `127.0.0.1:5101` without it
+abbrev pub listen_in : Values → Text
+listen_in = text_in (codes "listen") (codes "127.0.0.1:5101")
+
+-- `--workers N` of 1 to 16, and 4 without it
+abbrev pub workers_in : Values → Option ℕ
+workers_in = count_in (codes "workers") 4 16
+
+-- `--links N` of 1 to 65,536, and 1,000 without it
+abbrev pub links_in : Values → Option ℕ
+links_in = count_in (codes "links") 1000 65536
 
 -- PATH, which spells a path, as its canonical text
 abbrev pub path_in : Values → Option Text
@@ -94,6 +111,19 @@ session_row = record {
 abbrev pub session_of : Values → Option Command
 session_of values = Some (session (config_in values) (journal_in values))
 
+-- `serve --config F --journal F --listen A --workers N --links N`
+abbrev pub serve_row : Row
+serve_row = record {
+  name = codes "serve";
+  options = codes "config" ∷ codes "journal" ∷ codes "listen" ∷ codes "workers" ∷ codes "links" ∷ [];
+  place = None;
+}
+
+abbrev pub serve_of : Values → Option Command
+serve_of values =
+    option_and_then (λ workers. option_map (serve (config_in values) (journal_in values) (listen_in values) workers) (links_in values))
+    (workers_in values)
+
 -- `export PATH --journal F`
 abbrev pub export_row : Row
 export_row = record {
@@ -135,6 +165,7 @@ abbrev pub verbs : List Verb
 verbs =
     record { row = init_row; meaning = init_of }
     ∷ record { row = session_row; meaning = session_of }
+    ∷ record { row = serve_row; meaning = serve_of }
     ∷ record { row = export_row; meaning = export_of }
     ∷ record { row = import_row; meaning = import_of }
     ∷ record { row = sample_row; meaning = sample_of }

@@ -6,9 +6,9 @@ use Rattle.object_ids.specs.declared.names.NameFault.{NameFault}
 use Rattle.object_ids.specs.declared.names.NameFault.TheVariants as name
 use Rattle.object_ids.specs.declared.paths.PathFault.{PathFault}
 use Rattle.object_ids.specs.declared.paths.PathFault.TheVariants as path
-use Rattle.command_words.specs.Commands.{Command, init, session, export, import, sample, verify}
+use Rattle.command_words.specs.Commands.{Command, init, session, serve, export, import, sample, verify}
 use Rattle.command_words.specs.declared.command.Wanted.{Wanted}
-use Rattle.command_words.specs.declared.command.Wanted.TheVariants.{Init, Session, Export, Import}
+use Rattle.command_words.specs.declared.command.Wanted.TheVariants.{Init, Session, Serve, Export, Import}
 use Rattle.command_words.specs.declared.command.Wanted.TheVariants.{Sample, Verify}
 use Rattle.command_words.specs.declared.command.WordsFault.{WordsFault}
 use Rattle.command_words.specs.declared.command.WordsFault.TheVariants.{Refused, NoMemory}
@@ -19,6 +19,8 @@ use Rattle.command_words.specs.declared.reader.Reader.{Reader}
 abbrev pub as_command : Wanted → Command
 as_command (Init config journal lanes) = init config.now journal.now lanes
 as_command (Session config journal) = session config.now journal.now
+as_command (Serve config journal listen workers links) =
+    serve config.now journal.now listen.now workers links
 as_command (Export path journal) = export path journal.now
 as_command (Import path journal owner) = import path journal.now owner
 as_command (Sample n) = sample n
@@ -40,14 +42,16 @@ abbrev pub of_name : NameFault → WordsFault
 of_name name.BadName = Refused
 of_name name.NoMemory = NoMemory
 
--- a new journal's world has 1 to 16 lanes
-abbrev pub HasLanes : Wanted → Type 0
-HasLanes (Init config journal lanes) = (1 ≤ lanes) × (lanes ≤ 16)
-HasLanes (Session config journal) = Unit {0}
-HasLanes (Export path journal) = Unit {0}
-HasLanes (Import path journal owner) = Unit {0}
-HasLanes (Sample n) = Unit {0}
-HasLanes (Verify journal) = Unit {0}
+-- a new journal's world has 1 to 16 lanes, and 1 to 16 workers serve 1 to 65,536 links each
+abbrev pub IsInRange : Wanted → Type 0
+IsInRange (Init config journal lanes) = (1 ≤ lanes) × (lanes ≤ 16)
+IsInRange (Session config journal) = Unit {0}
+IsInRange (Serve config journal listen workers links) =
+    (1 ≤ workers) × (workers ≤ 16) × (1 ≤ links) × (links ≤ 65536)
+IsInRange (Export path journal) = Unit {0}
+IsInRange (Import path journal owner) = Unit {0}
+IsInRange (Sample n) = Unit {0}
+IsInRange (Verify journal) = Unit {0}
 
 abbrev pub row_of : Row → line.Row
 row_of row = record {

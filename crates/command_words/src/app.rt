@@ -1,25 +1,27 @@
 ghost use Rattle.std.specs.Prelude.{◌≡◌, ◌≤◌, true, false, is_some, Some, None, Ok, IfOk, IfErr, IfSome};
 ghost use Rattle.std.specs.Prelude.{IsErrOf, map};
-ghost use Rattle.std.specs.Prelude.{string_bytes};
+ghost use Rattle.std.specs.Prelude.{codes, string_bytes};
 ghost use Rattle.std.specs.Prelude.{option_map, option_and_then};
 ghost use Rattle.clap.specs.Words.{app_of, rule_of, found_of, rows_of, first_of, kind_of};
 ghost use Rattle.clap.specs.Words.{subcommand_rows_of};
-ghost use Rattle.clap.specs.Simple.{new_rule, subcommand_of, with_subcommand};
+ghost use Rattle.clap.specs.Simple.{new_rule, subcommand_of, with_rule, with_subcommand};
 ghost use Rattle.clap.specs.declared.builder.Command.TheViews.{out-Command as fields_of};
 ghost use Rattle.command_words.specs.Apps.{given_option, app_for, bare_app, hsds_app};
 ghost use Rattle.command_words.specs.Apps.{command_found, found_values};
-ghost use Rattle.command_words.specs.Commands.{config_in, export_of, export_row, import_of, import_row};
-ghost use Rattle.command_words.specs.Commands.{init_of, init_row, journal_in, lanes_in, n_in, owner_in};
-ghost use Rattle.command_words.specs.Commands.{owner_of, path_in, pieces_in, sample_of, sample_row};
-ghost use Rattle.command_words.specs.Commands.{session_of, session_row, text_in, verify_of, verify_row};
-ghost use Rattle.command_words.specs.Views.{Answers, HasLanes};
+ghost use Rattle.command_words.specs.Commands.{config_in, count_in, export_of, export_row, import_of};
+ghost use Rattle.command_words.specs.Commands.{import_row};
+ghost use Rattle.command_words.specs.Commands.{init_of, init_row, journal_in, lanes_in, links_in};
+ghost use Rattle.command_words.specs.Commands.{listen_in, n_in, owner_in, owner_of, path_in, pieces_in};
+ghost use Rattle.command_words.specs.Commands.{sample_of, sample_row, serve_of, serve_row, session_of};
+ghost use Rattle.command_words.specs.Commands.{session_row, text_in, verify_of, verify_row, workers_in};
+ghost use Rattle.command_words.specs.Views.{Answers, IsInRange};
 
 use crate::command::{
-    DEFAULT_CONFIG, DEFAULT_JOURNAL, DEFAULT_LANES, DEFAULT_OWNER, MAX_LANES, MAX_OWNER_LEN,
-    Wanted, WordsFault,
+    DEFAULT_CONFIG, DEFAULT_JOURNAL, DEFAULT_LANES, DEFAULT_LINKS, DEFAULT_LISTEN, DEFAULT_OWNER,
+    DEFAULT_WORKERS, MAX_LANES, MAX_LINKS, MAX_OWNER_LEN, MAX_WORKERS, Wanted, WordsFault,
 };
 use crate::number::number_between;
-use crate::row::{EXPORT, IMPORT, INIT, SAMPLE, SESSION, VERIFY};
+use crate::row::{EXPORT, IMPORT, INIT, SAMPLE, SERVE, SESSION, VERIFY};
 use clap::error::ErrorKind;
 use clap::{Arg, ArgMatches, Command, Error};
 use object_ids::{DomainPath, Name, read_path};
@@ -42,7 +44,7 @@ pub fn matched<'a>(alloc: Global, words: &'a [String]) -> Result<ArgMatches<'a>,
 pub fn chosen<'a>(alloc: Global, matches: &ArgMatches<'a>) -> Result<Wanted<'a>, WordsFault>
     ensures command { Answers result
         (option_and_then command_found (subcommand_rows_of matches.now)) }
-    ensures lanes { IfOk result HasLanes }
+    ensures range { IfOk result IsInRange }
 {
     match matches.subcommand() {
         Some((name, below)) => command_from(alloc, name, below),
@@ -56,6 +58,7 @@ fn hsds_app<'a>(alloc: Global) -> Result<Command<'a>, AllocError>
     let app = bare_app(alloc);
     let app = with_command(app, init_app(alloc)?)?;
     let app = with_command(app, session_app(alloc)?)?;
+    let app = with_command(app, serve_app(alloc)?)?;
     let app = with_command(app, export_app(alloc)?)?;
     let app = with_command(app, import_app(alloc)?)?;
     let app = with_command(app, sample_app(alloc)?)?;
@@ -84,19 +87,35 @@ fn with_command<'a>(app: Command<'a>, below: Command<'a>) -> Result<Command<'a>,
 fn init_app<'a>(alloc: Global) -> Result<Command<'a>, AllocError>
     ensures { IfOk result (λ c. (app_of c ≡ app_for init_row) × ((fields_of c).has_globals ≡ false)) }
 {
-    Command::new(alloc, INIT.name)
-        .arg(option(alloc, "config"))?
-        .arg(option(alloc, "journal"))?
-        .arg(option(alloc, "lanes"))
+    with_files(alloc, Command::new(alloc, INIT.name))?.arg(option(alloc, "lanes"))
 }
 
 fn session_app<'a>(alloc: Global) -> Result<Command<'a>, AllocError>
     ensures { IfOk result (λ c.
         (app_of c ≡ app_for session_row) × ((fields_of c).has_globals ≡ false)) }
 {
-    Command::new(alloc, SESSION.name)
-        .arg(option(alloc, "config"))?
+    with_files(alloc, Command::new(alloc, SESSION.name))
+}
+
+// A command with options for the files of the configuration and of the journal.
+fn with_files<'a>(alloc: Global, app: Command<'a>) -> Result<Command<'a>, AllocError>
+    requires own { (fields_of app).has_globals ≡ false }
+    ensures { IfOk result (λ c.
+        (app_of c ≡ with_rule (with_rule (app_of app.entry) (given_option (codes "config")))
+        (given_option (codes "journal"))) × ((fields_of c).has_globals ≡ false)) }
+{
+    app.arg(option(alloc, "config"))?
         .arg(option(alloc, "journal"))
+}
+
+fn serve_app<'a>(alloc: Global) -> Result<Command<'a>, AllocError>
+    ensures { IfOk result (λ c.
+        (app_of c ≡ app_for serve_row) × ((fields_of c).has_globals ≡ false)) }
+{
+    with_files(alloc, Command::new(alloc, SERVE.name))?
+        .arg(option(alloc, "listen"))?
+        .arg(option(alloc, "workers"))?
+        .arg(option(alloc, "links"))
 }
 
 fn export_app<'a>(alloc: Global) -> Result<Command<'a>, AllocError>
@@ -153,13 +172,16 @@ fn command_from<'a>(
 ) -> Result<Wanted<'a>, WordsFault>
     ensures command { Answers result
         (command_found (name.now, rows_of (found_of matches.now))) }
-    ensures lanes { IfOk result HasLanes }
+    ensures range { IfOk result IsInRange }
 {
     if name == INIT.name {
         return init_from(matches);
     }
     if name == SESSION.name {
         return Ok(session_from(matches));
+    }
+    if name == SERVE.name {
+        return serve_from(matches);
     }
     if name == EXPORT.name {
         return export_from(alloc, matches);
@@ -178,7 +200,7 @@ fn command_from<'a>(
 
 fn init_from<'a>(matches: &ArgMatches<'a>) -> Result<Wanted<'a>, WordsFault>
     ensures command { Answers result (init_of (found_values (rows_of (found_of matches.now)))) }
-    ensures lanes { IfOk result HasLanes }
+    ensures range { IfOk result IsInRange }
 {
     match lanes_from(matches) {
         Some(lanes) => Ok(Wanted::Init {
@@ -193,7 +215,7 @@ fn init_from<'a>(matches: &ArgMatches<'a>) -> Result<Wanted<'a>, WordsFault>
 fn session_from<'a>(matches: &ArgMatches<'a>) -> Wanted<'a>
     ensures command { Answers (Ok result)
         (session_of (found_values (rows_of (found_of matches.now)))) }
-    ensures lanes { HasLanes result }
+    ensures range { IsInRange result }
 {
     Wanted::Session {
         config: config_from(matches),
@@ -201,9 +223,25 @@ fn session_from<'a>(matches: &ArgMatches<'a>) -> Wanted<'a>
     }
 }
 
+fn serve_from<'a>(matches: &ArgMatches<'a>) -> Result<Wanted<'a>, WordsFault>
+    ensures command { Answers result (serve_of (found_values (rows_of (found_of matches.now)))) }
+    ensures range { IfOk result IsInRange }
+{
+    match (workers_from(matches), links_from(matches)) {
+        (Some(workers), Some(links)) => Ok(Wanted::Serve {
+            config: config_from(matches),
+            journal: journal_from(matches),
+            listen: listen_from(matches),
+            workers,
+            links,
+        }),
+        _ => Err(WordsFault::Refused),
+    }
+}
+
 fn export_from<'a>(alloc: Global, matches: &ArgMatches<'a>) -> Result<Wanted<'a>, WordsFault>
     ensures command { Answers result (export_of (found_values (rows_of (found_of matches.now)))) }
-    ensures lanes { IfOk result HasLanes }
+    ensures range { IfOk result IsInRange }
 {
     Ok(Wanted::Export {
         path: path_from(alloc, matches)?,
@@ -213,7 +251,7 @@ fn export_from<'a>(alloc: Global, matches: &ArgMatches<'a>) -> Result<Wanted<'a>
 
 fn import_from<'a>(alloc: Global, matches: &ArgMatches<'a>) -> Result<Wanted<'a>, WordsFault>
     ensures command { Answers result (import_of (found_values (rows_of (found_of matches.now)))) }
-    ensures lanes { IfOk result HasLanes }
+    ensures range { IfOk result IsInRange }
 {
     Ok(Wanted::Import {
         path: path_from(alloc, matches)?,
@@ -224,7 +262,7 @@ fn import_from<'a>(alloc: Global, matches: &ArgMatches<'a>) -> Result<Wanted<'a>
 
 fn sample_from<'a>(matches: &ArgMatches<'a>) -> Result<Wanted<'a>, WordsFault>
     ensures command { Answers result (sample_of (found_values (rows_of (found_of matches.now)))) }
-    ensures lanes { IfOk result HasLanes }
+    ensures range { IfOk result IsInRange }
 {
     match n_from(matches) {
         Some(n) => Ok(Wanted::Sample { n }),
@@ -235,7 +273,7 @@ fn sample_from<'a>(matches: &ArgMatches<'a>) -> Result<Wanted<'a>, WordsFault>
 fn verify_from<'a>(matches: &ArgMatches<'a>) -> Wanted<'a>
     ensures command { Answers (Ok result)
         (verify_of (found_values (rows_of (found_of matches.now)))) }
-    ensures lanes { HasLanes result }
+    ensures range { IsInRange result }
 {
     Wanted::Verify {
         journal: journal_from(matches),
@@ -252,6 +290,12 @@ fn journal_from<'a>(matches: &ArgMatches<'a>) -> &'a str
     ensures { result.now ≡ journal_in (found_values (rows_of (found_of matches.now))) }
 {
     value_or(matches, "journal", DEFAULT_JOURNAL)
+}
+
+fn listen_from<'a>(matches: &ArgMatches<'a>) -> &'a str
+    ensures { result.now ≡ listen_in (found_values (rows_of (found_of matches.now))) }
+{
+    value_or(matches, "listen", DEFAULT_LISTEN)
 }
 
 fn path_from(alloc: Global, matches: &ArgMatches) -> Result<DomainPath, WordsFault>
@@ -287,16 +331,41 @@ fn lanes_from(matches: &ArgMatches) -> Option<u32>
     ensures number { result ≡ lanes_in (found_values (rows_of (found_of matches.now))) }
     ensures inside { IfSome result (λ n. (1 ≤ n) × (n ≤ 16)) }
 {
-    match value_in(matches, "lanes") {
-        None => Some(DEFAULT_LANES),
-        Some(text) => number_between(text, 1, MAX_LANES),
-    }
+    count_in(matches, "lanes", DEFAULT_LANES, MAX_LANES)
+}
+
+fn workers_from(matches: &ArgMatches) -> Option<u32>
+    ensures number { result ≡ workers_in (found_values (rows_of (found_of matches.now))) }
+    ensures inside { IfSome result (λ n. (1 ≤ n) × (n ≤ 16)) }
+{
+    count_in(matches, "workers", DEFAULT_WORKERS, MAX_WORKERS)
+}
+
+fn links_from(matches: &ArgMatches) -> Option<u32>
+    ensures number { result ≡ links_in (found_values (rows_of (found_of matches.now))) }
+    ensures inside { IfSome result (λ n. (1 ≤ n) × (n ≤ 65536)) }
+{
+    count_in(matches, "links", DEFAULT_LINKS, MAX_LINKS)
 }
 
 fn n_from(matches: &ArgMatches) -> Option<u32>
     ensures { result ≡ n_in (found_values (rows_of (found_of matches.now))) }
 {
     number_between(value_in(matches, "n")?, 0, u32::MAX)
+}
+
+// The number of an option that counts from 1 on, where it lies within the limit.
+fn count_in(matches: &ArgMatches, name: &str, default: u32, most: u32) -> Option<u32>
+    requires some { 1 ≤ default }
+    requires within { default ≤ most }
+    ensures number { result
+        ≡ count_in name.now default most (found_values (rows_of (found_of matches.now))) }
+    ensures inside { IfSome result (λ n. (1 ≤ n) × (n ≤ most)) }
+{
+    match value_in(matches, name) {
+        None => Some(default),
+        Some(text) => number_between(text, 1, most),
+    }
 }
 
 fn value_or<'a>(matches: &ArgMatches<'a>, name: &str, default: &'a str) -> &'a str

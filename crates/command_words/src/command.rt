@@ -21,6 +21,21 @@ pub const DEFAULT_LANES: u32 = 4;
 /// The most lanes that a new journal's world may have.
 pub const MAX_LANES: u32 = 16;
 
+/// The address that is listened at where no option names one.
+pub const DEFAULT_LISTEN: &str = "127.0.0.1:5101";
+
+/// How many workers serve links where no option says it.
+pub const DEFAULT_WORKERS: u32 = 4;
+
+/// The most workers that may serve links.
+pub const MAX_WORKERS: u32 = 16;
+
+/// How many links each worker serves where no option says it.
+pub const DEFAULT_LINKS: u32 = 1_000;
+
+/// The most links that a worker may serve.
+pub const MAX_LINKS: u32 = 65_536;
+
 /// A text of the words, which contracts see as its bytes.
 pub type WordText<'a> = &'a str;
 
@@ -42,6 +57,19 @@ pub enum Wanted<'a> {
         config: WordText<'a>,
         /// The journal's file.
         journal: WordText<'a>,
+    },
+    /// `serve`: serve the links that come to an address.
+    Serve {
+        /// The configuration's file.
+        config: WordText<'a>,
+        /// The journal's file.
+        journal: WordText<'a>,
+        /// The address that is listened at.
+        listen: WordText<'a>,
+        /// How many workers serve links side by side, from 1 to 16.
+        workers: u32,
+        /// How many links each worker serves, from 1 to 65,536.
+        links: u32,
     },
     /// `export`: print the document of a domain.
     Export {

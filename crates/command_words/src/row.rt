@@ -25,6 +25,13 @@ pub const SESSION: Row<'static> = Row {
     place: None,
 };
 
+/// `serve`
+pub const SERVE: Row<'static> = Row {
+    name: "serve",
+    options: &["config", "journal", "listen", "workers", "links"],
+    place: None,
+};
+
 /// `export`
 pub const EXPORT: Row<'static> = Row {
     name: "export",
@@ -62,6 +69,9 @@ pub fn row_named(name: &str) -> Option<Row<'static>>
     }
     if name == SESSION.name {
         return Some(SESSION);
+    }
+    if name == SERVE.name {
+        return Some(SERVE);
     }
     if name == EXPORT.name {
         return Some(EXPORT);

@@ -1,7 +1,7 @@
 ghost use Rattle.std.specs.Prelude.{◌≡◌, ◌↔◌, Some, None, is_some, IfOk, IsErrOf};
 ghost use Rattle.std.specs.Prelude.{map, string_bytes};
 ghost use Rattle.command_words.specs.Commands.{Command, IsCommand, command_of, pieces_in};
-ghost use Rattle.command_words.specs.Views.{Answers, HasLanes, as_command};
+ghost use Rattle.command_words.specs.Views.{Answers, IsInRange, as_command};
 
 use crate::app::{chosen, matched};
 use crate::command::{Wanted, WordsFault};
@@ -13,6 +13,8 @@ use std::alloc::{AllocError, Global};
 ///
 /// - `init --config F --journal F --lanes N`, where N is 1 to 16, as 1 to 10 digits;
 /// - `session --config F --journal F`;
+/// - `serve --config F --journal F --listen A --workers N --links N`, where the N of `--workers` is 1 to 16 and that of
+///   `--links` 1 to 65,536, each as 1 to 10 digits;
 /// - `export PATH --journal F`, where PATH is a path that [`read_path`](object_ids::read_path) reads;
 /// - `import PATH --journal F --owner U`, where U is `default` or the name of a user: a name of at most 255 bytes that
 ///   does not begin with `g:`;
@@ -22,7 +24,8 @@ use std::alloc::{AllocError, Global};
 /// The options, PATH and the N of `sample` stand in any order, each option at most once and PATH and
 /// that N exactly once; an option is `--name value` or `--name=value`. A value, PATH and N aren't empty
 /// and don't begin with `-`. Without its option the configuration's file is `hsds.toml`, the journal's
-/// `hsds.journal`, the N of `init` is 4 and U is `default`.
+/// `hsds.journal`, the N of `init` is 4, A is `127.0.0.1:5101`, the workers are 4 with 1,000 links each, and U is
+/// `default`.
 ///
 /// # Errors
 ///
@@ -33,7 +36,8 @@ pub fn wanted<'a>(alloc: Global, words: &'a [String]) -> Result<Wanted<'a>, Word
     ensures refused { IsErrOf result WordsFault.Refused
         → command_of (map string_bytes words.entry.now) ≡ None }
 
-    ensures lanes { IfOk result HasLanes }
+    // Each number is within the limits of its option.
+    ensures range { IfOk result IsInRange }
 
     // The same by the parts of a line.
     ensures parts { (command : Command)
@@ -45,7 +49,7 @@ pub fn wanted<'a>(alloc: Global, words: &'a [String]) -> Result<Wanted<'a>, Word
 
 fn read_words<'a>(alloc: Global, words: &'a [String]) -> Result<Wanted<'a>, WordsFault>
     ensures answer { Answers result (command_of (map string_bytes words.entry.now)) }
-    ensures lanes { IfOk result HasLanes }
+    ensures range { IfOk result IsInRange }
 {
     if !is_line_of_a_command(alloc, words)? {
         return Err(WordsFault::Refused);
