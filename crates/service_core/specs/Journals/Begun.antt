@@ -1,5 +1,7 @@
 -- A journal that is opened, and the begin of a run of its world.
 --     IsRecovered held w      the world that is held, at the begin of the run after the kept one
+--     IsInstalledWorld w      some records tell the world, at the begin of the next run
+--     IsBegunWorld s      such a world, in its run
 --     IsOpened j w c      a journal is opened with its content, and tells the world
 --     IsUnbegun before after why      the record of a run was refused
 --     IsBegun j s c      the journal is settled, with the record of the run that the world is in
@@ -62,6 +64,15 @@ pub record IsUnbegun {D : Type 0} (met : Ghosts D) (before after : D) (why : Why
   pub unwritten : met.honest → IsUnwritten why → (image : List ℕ) → met.images after image → IsOf (met.reads before) (λ c. content image ≡ Ok c)
   pub crash : met.honest → IsOf (met.reads before) (λ c. CrashLeavesSince met before after (HoldsEither c.held (put_record (run_record world.register) c.held)))
 
+-- ---- a world that was opened
+
+-- it is the one that some records tell, and in its run nothing of it is to be written; so it is on every disk
+pub record IsInstalledWorld (w : State) : Type 0 where
+  pub held : Held
+  pub lanes : ℕ
+  pub world : IsWorldOf held lanes w
+  pub still : AreStillIn w.lanes
+
 -- the disk tells the world that a journal keeps
 pub record IsOpened {D : Type 0} {met : Ghosts D} (j : Journal D met) (w : State) (c : Content) : Type 0 where
   pub settled : IsSettled j c
@@ -75,6 +86,10 @@ abbrev pub begun : State → State
 begun w = with_register w (run_kept w.register)
 
 -- ---- a run that was begun
+
+-- a world that was opened, in its run
+abbrev pub IsBegunWorld : State → Type 0
+IsBegunWorld s = (w : State) × IsInstalledWorld w × (s ≡ begun w)
 
 -- the journal is settled, with the run's record behind what it held, and tells the world with it,
 -- of which nothing is to be written

@@ -7,8 +7,8 @@ ghost use Rattle.flush_journal.specs.Moments.{CrashLeaves};
 ghost use Rattle.flush_journal.specs.Records.{put_record};
 ghost use Rattle.flush_journal.specs.Standing.{HoldsEither, disk_of, pending_of};
 ghost use Rattle.flush_journal.specs.Unchanged.{SameDisk};
-ghost use Rattle.service_core.specs.Journals.Begun.{IsBegun, IsBegunSince, IsOfDisk, IsOpened};
-ghost use Rattle.service_core.specs.Journals.Begun.{IsRunRefusal, IsUnstarted};
+ghost use Rattle.service_core.specs.Journals.Begun.{IsBegun, IsBegunSince, IsBegunWorld, IsOfDisk};
+ghost use Rattle.service_core.specs.Journals.Begun.{IsOpened, IsRunRefusal, IsUnstarted, begun};
 ghost use Rattle.service_core.specs.Journals.Opening.{IsOf};
 ghost use Rattle.service_core.specs.Records.{run_record};
 
@@ -56,6 +56,7 @@ pub struct BeginRefused<D> {
 pub fn begin_world<D: Disk>(alloc: Global, disk: D) -> Result<Begun<D>, BeginRefused<D>>
     ensures begun { D.honest → IfOk result (λ b.
         IsOf (D.reads disk) (IsBegunSince D.Disk disk b.journal b.world)) }
+    ensures world { IfOk result (λ b. IsBegunWorld b.world) }
     ensures idle { IfOk result (λ b. pending_of b.journal ≡ None) }
     ensures err { IfErr result (λ r. IsUnstarted D.Disk disk r.disk r.why) }
     ensures same { MatchResult result (λ b. SameDisk D.Disk disk (disk_of b.journal))
@@ -86,6 +87,7 @@ fn begin_opened<D: Disk>(
     ensures begun { D.honest → IfOk result (λ b. (c : Content) → IsOpened journal world c
         → IsBegun b.journal b.world c × CrashLeaves D.Disk (disk_of journal) (disk_of b.journal)
         (HoldsEither c.held (put_record (run_record b.world.register) c.held))) }
+    ensures world { IfOk result (λ b. b.world ≡ begun world) }
     ensures idle { IfOk result (λ b. pending_of b.journal ≡ None) }
     ensures err { IfErr result (λ r. IsRunRefusal journal world r.disk r.why) }
     ensures same { MatchResult result (λ b. SameDisk D.Disk (disk_of journal) (disk_of b.journal))

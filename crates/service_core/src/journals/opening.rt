@@ -9,6 +9,7 @@ ghost use Rattle.chunk_owner.specs.Owners.Records.{AreStillIn};
 ghost use Rattle.register.specs.Kept.{IsUsedUp};
 ghost use Rattle.flush_journal.specs.Records.{IsRecordMap};
 ghost use Rattle.service_core.specs.Records.{IsWorldFault, IsWorldOf, WorldSays};
+ghost use Rattle.service_core.specs.Journals.Begun.{IsInstalledWorld};
 ghost use Rattle.service_core.specs.Journals.Opening.{IsOfReading, MayRefuseOpening, TellsBadKey};
 ghost use Rattle.service_core.specs.Journals.Opening.{TellsNoRun, TellsPlace, of_reading};
 
@@ -42,6 +43,7 @@ pub fn open_world<D: Disk>(alloc: Global, disk: D) -> Result<Opened<D>, OpenRefu
         × IsWorldOf c.held c.lanes o.world × WorldSays o.world c.held) }
     ensures idle { IfOk result (λ o. pending_of o.journal ≡ None) }
     ensures still { IfOk result (λ o. AreStillIn o.world.lanes) }
+    ensures installed { IfOk result (λ o. IsInstalledWorld o.world) }
     ensures sizes { D.honest → IfOk result (λ _. (c : Content) → content (D.reads disk) ≡ Ok c
         → IsRecordMap c.held) }
 

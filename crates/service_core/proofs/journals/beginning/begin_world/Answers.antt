@@ -21,6 +21,9 @@ returns-in-Ok-clause-begun g c = λ honest.
       },
     )) (c.begin_opened.ensures.begun honest)
 
+pub returns-in-Ok-clause-world : goal.returns-in-Ok-clause-world
+returns-in-Ok-clause-world g c = IfOk-weaker c.begin_opened.result _ _ (λ b is. (c.in-Ok.field-0.world, c.in-Ok.ensures.installed, is)) c.begin_opened.ensures.world
+
 pub returns-in-Ok-clause-err : goal.returns-in-Ok-clause-err
 returns-in-Ok-clause-err g c = IfErr-weaker c.begin_opened.result _ _
     (λ r h. unstarted_from g.D.Disk c.args.disk c.in-Ok.field-0.journal c.in-Ok.field-0.world r.disk

@@ -20,6 +20,14 @@ returns-in-Ok-install-clause-opened g c = λ honest.
       subst (λ (held : Held). WorldSays world held) got.3 c.in-Ok-install.ensures.says,
     )
 
+pub returns-in-Ok-install-clause-installed : goal.returns-in-Ok-install-clause-installed
+returns-in-Ok-install-clause-installed g c = record {
+  held = c.in-Ok.found.1;
+  lanes = c.report.result.lanes;
+  world = c.in-Ok-install.ensures.described;
+  still = c.in-Ok-install.ensures.still;
+}
+
 pub returns-in-Err-install-clause-why : goal.returns-in-Err-install-clause-why
 returns-in-Err-install-clause-why g c =
     subst (λ (e : OpenFault). MayRefuseOpening g.D.Disk.honest (g.D.Disk.reads c.args.disk) (g.D.Disk.faults c.args.disk) (g.D.Disk.faults c.into_disk.result) e)
