@@ -13,5 +13,6 @@ pub mod OpeningLemmas
 pub mod ImageLemmas
 pub mod CountLemmas
 pub mod ClosingLemmas
+pub mod LeftLemmas
 pub mod KeptLemmas
 pub mod WantLemmas

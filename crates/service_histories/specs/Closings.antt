@@ -3,13 +3,17 @@
 --     AreOwnersAfter lanes start h owners    those of all lanes, in order
 --     WorldsClose lanes                      with the register of its list they are a world
 --     WorldsCloseSeen lanes                  which is seen as the history leaves it
+--     IsWorldSince lanes first last          each change of a world since another one is marked
+--     LeftWorldsAreSaid lanes                so where all of that was kept, what is held of it says the world still
 use Rattle.std.specs.Prelude.{◌≡◌, ℕ, List, length, Some, slice_get}
 use Rattle.chunk_owner.specs.Lanes.{IsWhole, Lane}
+use Rattle.service_core.specs.Records.{IsKept, WorldStillSays}
 use Rattle.service_core.specs.Worlds.{IsBuilt, State, seen}
 use Rattle.lane_histories.specs.Histories.{History, objects_after, register_after}
 use Rattle.lane_histories.specs.Legal.{IsLegal}
 use Rattle.lane_histories.specs.Services.{World}
-use Rattle.service_histories.specs.ArrayServices.{array_service}
+use Rattle.service_histories.specs.ArrayServices.{array_service, kept_part}
+use Rattle.service_histories.specs.Cuttings.{IsOwnerSince, IsRegisterSince}
 use Rattle.service_histories.specs.PlainSteps.{IsSeen, world_after}
 use Rattle.service_histories.specs.Readies.{IsGivenIn}
 
@@ -42,3 +46,14 @@ WorldsCloseSeen lanes =
     (start : World (array_service lanes)) (h : History (array_service lanes)) (owners : List Lane)
     → ((l : ℕ) → IsGivenIn lanes start.register (start.objects l)) → AreOwnersAfter lanes start h owners
     → IsSeen lanes (world_after lanes start h) (seen (closed lanes start h owners))
+
+-- ---- what is held of a world that is left
+
+-- the register is since that of the first world, and each owner since that of its lane
+pub record IsWorldSince (lanes : ℕ) (first last : State) : Type 0 where
+  pub register : IsRegisterSince (kept_part first.register) last.register
+  pub count : length last.lanes ≡ length first.lanes
+  pub owners : (l : ℕ) (was now : Lane) → slice_get first.lanes l ≡ Some was → slice_get last.lanes l ≡ Some now → IsOwnerSince lanes l was now
+
+abbrev pub LeftWorldsAreSaid : ℕ → Type 0
+LeftWorldsAreSaid lanes = (first last : State) → IsKept first → IsWorldSince lanes first last → WorldStillSays first last

@@ -1,5 +1,6 @@
 -- What cuts of an owner and of the register do to what is held.
 --     OwnersMark           a change that leaves what is said of each id is marked
+--     IsOwnerSince         each change of an owner since it was so is marked
 --     OwnerCutsTell        a cut of an owner makes what was cut tell its lane as it stands, and leaves all else
 --     RegisterCutsTell     so does one of the register
 --     SaidCutsAreTold      what says each owner as it was at its last cut tells all cuts
@@ -10,7 +11,7 @@ use Rattle.flush_journal.specs.Records.{Held, Record, put_all}
 use Rattle.object_ids.specs.IdValues.{Id}
 use Rattle.object_ids.specs.Ids.{InRange}
 use Rattle.chunk_owner.specs.Lanes.{IsSameLane, Lane}
-use Rattle.chunk_owner.specs.Slots.Slots.{IsMarked, Says, StillSays}
+use Rattle.chunk_owner.specs.Slots.Slots.{AreStill, IsMarked, Says, StillSays}
 use Rattle.register.specs.Decided.{RegisterState}
 use Rattle.register.specs.Installed.Registers.{DescribesRegister}
 use Rattle.register.specs.Kept.{IsRegisterMarked, RegisterSays, all_kept}
@@ -28,6 +29,14 @@ use Rattle.service_histories.specs.Markings.{IsOwner, IsStillOwner, SaysOwner, a
 abbrev pub OwnersMark : ℕ → Type 0
 OwnersMark lanes =
     (l : ℕ) (old new : Lane) → IsSameLane old new → StillSays old.slots new.slots → Marks (array_marking lanes) l old new
+
+-- it is the owner of this lane, of so many, as it was when nothing of it was marked; each change since is marked
+pub record IsOwnerSince (lanes l : ℕ) (was now : Lane) : Type 0 where
+  pub lane_is : now.lane ≡ l
+  pub lanes_are : now.lanes ≡ lanes
+  pub same : IsSameLane was now
+  pub still : AreStill was.slots
+  pub since : IsSince (array_marking lanes) l was now
 
 -- a cut of an owner that found memory
 pub record CutsOwner (old new : Lane) (base : Held) (first last : List Record) : Type 0 where

@@ -18,7 +18,8 @@ ghost use Rattle.lane_histories.specs.Since.{SaysAll, TurnsStaySince};
 ghost use Rattle.service_histories.specs.ArrayServices.{array_service};
 ghost use Rattle.service_histories.specs.Calls.{CutsLeave, DecisionsAnswer, DropsAct, DropsFindMemory};
 ghost use Rattle.service_histories.specs.Calls.{StepsAct, TurnsAreAtHome};
-ghost use Rattle.service_histories.specs.Closings.{WorldsClose, WorldsCloseSeen};
+ghost use Rattle.service_histories.specs.Closings.{LeftWorldsAreSaid, WorldsClose};
+ghost use Rattle.service_histories.specs.Closings.{WorldsCloseSeen};
 ghost use Rattle.service_histories.specs.Counts.{FreshRegistersHaveRoom, InstallsAreFresh};
 ghost use Rattle.service_histories.specs.Counts.{RegistersCount};
 ghost use Rattle.service_histories.specs.Cuttings.{KeptRegistersAreParts, OwnerCutsTell};
@@ -219,10 +220,12 @@ pub fn worlds_open()
 
 /// The register that a legal history leaves, and the owners of all lanes with the objects that it
 /// leaves them, are a world: each owner stands in its lane, and the id of each object was given. It
-/// is seen as the history leaves it.
+/// is seen as the history leaves it. What is held of a world of which all was kept says each world
+/// that is since it.
 pub fn worlds_close()
     ensures built { (lanes : ℕ) → WorldsClose lanes }
     ensures seen { (lanes : ℕ) → WorldsCloseSeen lanes }
+    ensures said { (lanes : ℕ) → LeftWorldsAreSaid lanes }
 {
     decisions_keep();
     lane_histories::turns_are_ready::<ArrayService>();
