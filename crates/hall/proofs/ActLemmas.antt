@@ -29,7 +29,7 @@ use Rattle.hall_rule.specs.Machines.{Machines, world_of}
 use Rattle.hall_rule.specs.Machines.{objects_in as ruled_objects}
 use Rattle.hall_rule.specs.Queues.{slot_of}
 use Rattle.hall_rule.specs.Rule.{HallHand, seeing}
-use Rattle.hall_rule.specs.Seen.{at_lane, history_of, lane_of}
+use Rattle.hall_rule.specs.Seen.{at_lane, history_of}
 use Rattle.hall_rule.specs.Standing.{HallSlot, IsOwnerOf, StandsFor}
 use Rattle.hall_rule.specs.StepLaws.{HandLaws, HandsHold}
 use Rattle.hall_rule.specs.Steps.{HasPassed, HasTaken, others_of, plain_outcome}
@@ -77,24 +77,23 @@ module _ {D : Type 0} (start : ArrayStart D) where
   abbrev service : Service
   service = array_service (lanes_in start)
 
-  abbrev machines_of : Machines service RegisterState Lane (NotedDesk D)
+  abbrev machines_of : Machines service RegisterState Lane (NotedDesk D) D
   machines_of = machines (lanes_in start)
 
   abbrev Hand : Type 0
-  Hand = HallHand service RegisterState Lane (NotedDesk D)
+  Hand = HallHand service RegisterState Lane (NotedDesk D) D
 
   -- what was changed is marked
   marks : ((lanes : ℕ) → OwnersMark lanes) → ((lanes : ℕ) → TurnsStaySince (array_marking lanes)) → (lane : ℕ) (old new : Lane)
-      → IsSameLane old new → StillSays old.slots new.slots → (o : Objects) → machines_of.OwnerIsSince old lane o
-      → machines_of.OwnerIsSince new lane o
+      → IsSameLane old new → StillSays old.slots new.slots → (was : Lane) → machines_of.OwnerIsSince old lane was
+      → machines_of.OwnerIsSince new lane was
   unfolding machines
-  marks mark stay lane old new same says o was = record {
-    lane_is = same.lane ∙ was.lane_is;
-    lanes_are = same.lanes ∙ was.lanes_are;
-    was = was.was;
-    had = was.had;
-    still = was.still;
-    since = stay (lanes_in start) lane was.was old new was.since (mark (lanes_in start) lane old new same says);
+  marks mark stay lane old new same says was is = record {
+    lane_is = same.lane ∙ is.lane_is;
+    lanes_are = same.lanes ∙ is.lanes_are;
+    same = record { lane = same.lane ∙ is.same.lane; lanes = same.lanes ∙ is.same.lanes };
+    still = is.still;
+    since = stay (lanes_in start) lane was old new is.since (mark (lanes_in start) lane old new same says);
   }
 
 module _ {D : Type 0} {start : ArrayStart D} where
@@ -117,7 +116,7 @@ module _ {D : Type 0} {start : ArrayStart D} where
 
       module _ {d : LaneSlot Lane Reply} (here : t.slot ≡ AtLane d) where
         -- the owner stands for its list
-        stands : IsOwnerOf (machines_of start) start lane (lane_of t.seen.lanes lane) d.owner
+        stands : IsOwnerOf (machines_of start) start t.seen lane d.owner
         stands = subst (λ (x : HallSlot (service start) RegisterState Lane (NotedDesk D)).
             StandsFor (machines_of start) (OfLane lane) x start t.seen) here t.stands
 
@@ -164,11 +163,11 @@ module _ {D : Type 0} {start : ArrayStart D} where
               → (noted : Outcome (Snapshot Reply)) → new.news ≡ Some (Acts noted) → plain_outcome noted ≡ outcome
               → Performs task d.owner.objects outcome new.owner.objects → is_skipped outcome ≡ skip
               → IsSameLane d.owner new.owner → StillSays d.owner.slots new.owner.slots
-              → IsReadyToPass (machines_of start) start (at_lane lane (Passed place part task outcome)) back
+              → IsReadyToPass (machines_of start) start (at_lane lane (Passed place part task outcome) new.owner) back
           unfolding machines
           may_pass mark stay noted news same did skips alike says =
               let old = d.owner.objects in
-              subst (λ (y : Outcome Reply). IsReadyToPass (machines_of start) start (at_lane lane (Passed place part task y)) back) same
+              subst (λ (y : Outcome Reply). IsReadyToPass (machines_of start) start (at_lane lane (Passed place part task y) new.owner) back) same
               ((laws.turn start lane n first taken back d new t here mine).may_act place part task skip noted may news
               (subst (λ (y : Outcome Reply). IsLegalOutcome (service start) old part task y) (sym same)
               (legal_by (lanes_in start) (history_of (service start) first.0.seen) place part task skip old new.owner.objects outcome
@@ -177,7 +176,7 @@ module _ {D : Type 0} {start : ArrayStart D} where
               (left_by (lanes_in start) task old new.owner.objects outcome did))
               (ap (λ (y : Outcome Reply). is_skipped y) same ∙ skips) (marks start mark stay lane d.owner new.owner alike says))
 
-          pub has_acted : {w : ArrayView D} → HasPassed (machines_of start) start (at_lane lane (Passed place part task outcome)) back.0 w
+          pub has_acted : {w : ArrayView D} → HasPassed (machines_of start) start (at_lane lane (Passed place part task outcome) new.owner) back.0 w
               → HasActed (machines_of start) start lane place part task outcome first.0 w
           has_acted {w = w} passed =
               ((laws.turn start lane n first taken back d new t here mine).acted place part task skip outcome w may passed).0

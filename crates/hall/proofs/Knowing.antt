@@ -4,7 +4,7 @@ use Rattle.hall_rule.specs.declared.view.Start.{Start}
 use Rattle.hall_rule.specs.declared.view.View.{View}
 use Rattle.hall.specs.ArrayMachines.{lanes_in, lanes_known, lanes_of_start}
 
-module _ {Q V T R M N P : Type 0} (B : ℕ → Type 0) (start : Start M N P) (v : View Q V T R (Start M N P)) (begun : v.start ≡ Some start) where
+module _ {Q V T R M N E : Type 0} (B : ℕ → Type 0) (start : Start M N E) (v : View Q V T R N (Start M N E)) (begun : v.start ≡ Some start) where
   pub as_known : B (lanes_in start) → B (lanes_known v)
   as_known b = subst B (sym (ap lanes_of_start begun)) b
 

@@ -86,7 +86,7 @@ in_hand_again xs ys k x e = e ∙ ap (λ l. (k, x) ∷ l) (sym (ap rest e))
 -- ---- the register that was taken is the one that its list leaves
 
 module _ {D : Type 0} (start : ArrayStart D) (opened : IsOpened start) (stand : MachinesStand (machines {D = D} (lanes_in start)))
-    (n : ℕ) (others : List Claim) (me after : HallHand (array_service (lanes_in start)) RegisterState Lane (NotedDesk D))
+    (n : ℕ) (others : List Claim) (me after : HallHand (array_service (lanes_in start)) RegisterState Lane (NotedDesk D) D)
     (t : HasTaken (machines (lanes_in start)) start (claim OfRegister n false) others me after)
     (slot : RegisterSlot RegisterState Asked Verdict) (here : t.slot ≡ AtRegister slot) where
   pub register_here : slot.register ≡ register_after (array_service (lanes_in start)) start.register t.seen.register
@@ -112,7 +112,7 @@ module _ {D : Type 0} (start : ArrayStart D) (opened : IsOpened start) (stand : 
   place_here counts = let c = (counted_here counts).places in let z = opened.register.places in omega arith
 
   -- so a decision of it may be passed on
-  pub decision_here : RegistersCount (lanes_in start) → DecisionsAnswer → (v : ArrayView D) (back : HallHand (array_service (lanes_in start)) RegisterState Lane (NotedDesk D))
+  pub decision_here : RegistersCount (lanes_in start) → DecisionsAnswer → (v : ArrayView D) (back : HallHand (array_service (lanes_in start)) RegisterState Lane (NotedDesk D) D)
       (asked : Snapshot Asked) (verdict : Snapshot Verdict) (new : RegisterState)
       → RegisterTurnLaws (machines (lanes_in start)) start v t.seen back slot (record { register = new; news = Some (Asks asked verdict) })
       → Decides slot.register asked.value.0.value asked.value.1.value verdict.value new
@@ -127,7 +127,7 @@ module _ {D : Type 0} (start : ArrayStart D) (opened : IsOpened start) (stand : 
       answer.leaves says
 
   -- and behind it the request is decided at the next place
-  pub decided_here : RegistersCount (lanes_in start) → DecisionsAnswer → (v w : ArrayView D) (back : HallHand (array_service (lanes_in start)) RegisterState Lane (NotedDesk D))
+  pub decided_here : RegistersCount (lanes_in start) → DecisionsAnswer → (v w : ArrayView D) (back : HallHand (array_service (lanes_in start)) RegisterState Lane (NotedDesk D) D)
       (asked : Asked) (verdict : Verdict) (new after-it : RegisterState) (news : Option (RegisterNews Asked Verdict)) (place : ℕ)
       → RegisterTurnLaws (machines (lanes_in start)) start v t.seen back slot (record { register = new; news = news })
       → HasPassed (machines (lanes_in start)) start (at_register (Entered (entry_behind t.seen.register v.number asked verdict))) back.0 w

@@ -1,5 +1,6 @@
 -- How a hall begins with a world, and ends as one.
-use Rattle.std.proofs.Common.{◌≡◌, ℕ, zero, suc, ◌+◌, List, [], ◌∷◌, length, Option, Some, refl, sym, ap, subst, ◌∙◌, arith}
+use Rattle.std.proofs.Common.{◌≡◌, ℕ, zero, suc, ◌+◌, true≢false, List, [], ◌∷◌, length, Option, Some, refl, sym, ap, subst, ◌∙◌, arith}
+use Rattle.std.specs.List.{AllByRecursion}
 use mathlib.Core.Option.{some, some-ne-none, some-injective}
 use lib.ListN.{get_elem?}
 use Rattle.std.specs.Prelude.{slice_get}
@@ -9,16 +10,21 @@ use Rattle.chunk_owner.specs.Owners.Joined.{AreLanes}
 use Rattle.chunk_owner.specs.Owners.Records.{AreStillIn}
 use Rattle.register.specs.Decided.{RegisterState}
 use Rattle.service_core.specs.Worlds.{IsBuilt, State}
-use Rattle.lane_histories.specs.Histories.{objects_after}
+use Rattle.lane_histories.specs.Cuts.{register_cut}
+use Rattle.lane_histories.specs.Histories.{RegisterList, objects_after, register_at}
+use Rattle.lane_histories.specs.declared.items.RegisterItem.{RegisterItem}
+use Rattle.lane_histories.specs.declared.items.RegisterItem.TheVariants.{DrawnCut, Entered, RegisterCut}
 use Rattle.hall_rule.specs.Closes.{HasClosed}
 use Rattle.hall_rule.specs.Machines.{objects_in as rule_objects, world_of}
-use Rattle.hall_rule.specs.Seen.{history_of, lane_of, nothing}
-use Rattle.service_histories.specs.ArrayServices.{array_service}
-use Rattle.service_histories.specs.Closings.{AreOwnersAfter, WorldsClose}
+use Rattle.hall_rule.specs.Seen.{IsNoRegisterCut, history_of, lane_of, nothing}
+use Rattle.hall_rule.specs.Standing.{IsFreshDesk, catalogue_cut}
+use Rattle.service_histories.specs.ArrayServices.{array_service, cut_drawn, cut_recorded, kept_part}
+use Rattle.service_histories.specs.Closings.{AreOwnersAfter, IsWorldSince, WorldsClose}
+use Rattle.service_histories.specs.Cuttings.{IsOwnerSince, IsRegisterSince}
 use Rattle.service_histories.specs.Readies.{IsGivenIn}
 use Rattle.service_histories.specs.Tellings.{IsOpening, KeptRegistersAreSince, objects_in}
 use Rattle.hall.specs.Answers.{ArrayStart, ArrayView}
-use Rattle.hall.specs.ArrayMachines.{IsOpened, IsOwnerSince, lanes_in, machines}
+use Rattle.hall.specs.ArrayMachines.{IsOpened, first_world, lanes_in, machines}
 use Rattle.hall.specs.Passes.{HasEnded, IsNewWorld}
 use Rattle.hall.specs.declared.desk.NotedDesk.{NotedDesk}
 
@@ -39,30 +45,29 @@ same_value a b e = cc
 
 -- ---- the beginning
 
--- an owner of which nothing changed is as it was at its last cut
-owner_since : (n k i : ℕ) (ls : List Lane) (o : Lane) → AreLanes n k ls → AreStillIn ls → get_elem? ls i ≡ some o → IsOwnerSince n (k + i) o.objects o
+-- an owner of which nothing is marked is since itself
+owner_since : (n k i : ℕ) (ls : List Lane) (o : Lane) → AreLanes n k ls → AreStillIn ls → get_elem? ls i ≡ some o → IsOwnerSince n (k + i) o o
 owner_since n k i [] o are still at = absurd (some-ne-none o (sym at))
 owner_since n k zero (l ∷ ls) o are still at =
-    subst (λ (x : Lane). IsOwnerSince n (k + 0) x.objects x) (some-injective l o at) (record {
+    subst (λ (x : Lane). IsOwnerSince n (k + 0) x x) (some-injective l o at) (record {
       lane_is = are.0.lane ∙ (let e : k ≡ k + 0 = omega arith in e);
       lanes_are = are.0.lanes;
-      was = l;
-      had = refl;
+      same = record { lane = refl; lanes = refl };
       still = still.0;
       since = λ held said. said;
     })
 owner_since n k (suc i) (l ∷ ls) o are still at =
-    subst (λ (j : ℕ). IsOwnerSince n j o.objects o) (let e : suc k + i ≡ k + suc i = omega arith in e)
+    subst (λ (j : ℕ). IsOwnerSince n j o o) (let e : suc k + i ≡ k + suc i = omega arith in e)
     (owner_since n (suc k) i ls o are.1 still.1 at)
 
 module _ {D : Type 0} (s : State) (new : IsNewWorld s) (built : IsBuilt s.register s.lanes) (opening : IsOpening (length s.lanes) s)
     (since : KeptRegistersAreSince) where
-  begun : NotedDesk D → ArrayStart D
+  begun : D → ArrayStart D
   begun desk = record { register = s.register; owners = s.lanes; desk = desk }
 
-  begun_opened : (desk : NotedDesk D) → desk.register.value ≡ s.register → desk.owners.value.items ≡ s.lanes → IsOpened (begun desk)
+  begun_opened : (desk : D) → IsOpened (begun desk)
   unfolding machines begun
-  begun_opened desk same_register same_owners =
+  begun_opened desk =
       let n = length s.lanes in record {
         some_lane = (opening.given 0).some_lane;
         lanes = sym built.count;
@@ -70,25 +75,37 @@ module _ {D : Type 0} (s : State) (new : IsNewWorld s) (built : IsBuilt s.regist
         given = opening.given;
         fresh = record {
           register = since s.register new.kept.register;
-          owners = λ lane o at. subst (λ (j : ℕ). IsOwnerSince n j o.objects o) (let e : 0 + lane ≡ lane = omega arith in e)
+          owners = λ lane o at. subst (λ (j : ℕ). IsOwnerSince n j o o) (let e : 0 + lane ≡ lane = omega arith in e)
               (owner_since n 0 lane s.lanes o built.lanes new.kept.lanes at);
-          desk = refl;
-          note = ap (λ (os : List Lane). nothing (length os)) same_owners;
-          world = λ i. record {
-            register = same_register i;
-            objects = λ l. (ap (λ (os : List Lane). objects_in os l) same_owners ∙ sym (objects_at D n s.lanes l)) i;
-          };
         };
       }
 
-  pub opened : (start : ArrayStart D) → start.register ≡ s.register → start.owners ≡ s.lanes → start.desk.register.value ≡ s.register
-      → start.desk.owners.value.items ≡ s.lanes → IsOpened start
+  pub opened : (start : ArrayStart D) → start.register ≡ s.register → start.owners ≡ s.lanes → IsOpened start
   unfolding begun
-  opened start registers owners noted_register noted_owners =
-      subst IsOpened (λ i. record { register = sym registers i; owners = sym owners i; desk = start.desk })
-      (begun_opened start.desk noted_register noted_owners)
+  opened start registers owners =
+      subst IsOpened (λ i. record { register = sym registers i; owners = sym owners i; desk = start.desk }) (begun_opened start.desk)
+
+-- the desk tells with what the hall began
+pub noted : {D : Type 0} (start : ArrayStart D) (desk : NotedDesk D) → desk.desk ≡ start.desk → desk.register.value ≡ start.register
+    → desk.owners.value.items ≡ start.owners → IsFreshDesk (machines (lanes_in start)) start desk
+unfolding machines
+noted start desk same registers owners = record { known_by = same; register = registers; owners = owners; note = ap nothing owners }
 
 -- ---- the end
+
+-- where no item is a cut, the register is since the beginning
+never_cut : {Q V : Type 0} (items : List (RegisterItem Q V)) → AllByRecursion IsNoRegisterCut items → register_cut items ≡ 0
+never_cut [] none = refl
+never_cut (Entered e ∷ items) none = never_cut items none.1
+never_cut (DrawnCut number c ∷ items) none = never_cut items none.1
+never_cut (RegisterCut p found ∷ items) none = absurd (true≢false none.0)
+
+cut_first : (n : ℕ) (d : RegisterState) (items : RegisterList (array_service n))
+    → kept_part (register_at (array_service n) 0 d items) ≡ kept_part d
+cut_first n d [] = refl
+cut_first n d (Entered e ∷ items) = refl
+cut_first n d (DrawnCut number c ∷ items) = cut_first n (cut_drawn d) items
+cut_first n d (RegisterCut p found ∷ items) = cut_first n (cut_recorded found d) items ∙ (array_service n).catalogue_recorded found d
 
 module _ {D : Type 0} (start : ArrayStart D) (opened : IsOpened start) (v : ArrayView D) (register : RegisterState) (owners : List Lane)
     (desk : NotedDesk D) (closed : HasClosed (machines {D = D} (lanes_in start)) start v register owners desk)
@@ -118,9 +135,37 @@ module _ {D : Type 0} (start : ArrayStart D) (opened : IsOpened start) (v : Arra
       (closes (world_of (machines {D = D} (lanes_in start)) start) (history_of (array_service (lanes_in start)) closed.seen) owners
       closed.grown.legal given after)
 
-  pub same_desk : desk.desk ≡ start.desk.desk
+  pub same_desk : desk.desk ≡ start.desk
   unfolding machines
   same_desk = closed.desk_is.since
+
+  -- nobody cut
+  uncut : register_cut closed.seen.register ≡ 0
+  unfolding machines
+  uncut = let more = closed.desk_is.uncut.register in ap register_cut more.1 ∙ never_cut more.0 more.2
+
+  catalogue : catalogue_cut (machines {D = D} (lanes_in start)) start closed.seen.register ≡ kept_part start.register
+  unfolding machines
+  catalogue =
+      ap (λ (n : ℕ). kept_part (register_at (array_service (lanes_in start)) n start.register closed.seen.register)) uncut
+      ∙ cut_first (lanes_in start) start.register closed.seen.register
+
+  was : closed.seen.was ≡ start.owners
+  unfolding machines
+  was = closed.desk_is.uncut.was ∙ closed.desk_is.owners
+
+  since : IsWorldSince (lanes_in start) (first_world start) (record { register = register; lanes = owners })
+  unfolding machines
+  since = record {
+    register = subst (λ c. IsRegisterSince c register) catalogue closed.register_is.since;
+    count = closed.count;
+    owners = λ l first last at here.
+        let is = closed.owners_are l (slice_get_within start.owners l first at) in
+        let same_last = same_value is.0 last (sym (in_slice owners l is.0 is.1) ∙ here) in
+        let same_first = same_value is.2.was first
+        (sym (in_slice start.owners l is.2.was (sym (ap (λ os. get_elem? os l) was) ∙ is.2.was_is)) ∙ at) in
+        subst (λ (x : Lane × Lane). IsOwnerSince (lanes_in start) l x.0 x.1) (λ i. (same_first i, same_last i)) is.2.since;
+  }
 
   pub ended : HasEnded start v (record { register = register; lanes = owners })
   unfolding machines
@@ -139,4 +184,5 @@ module _ {D : Type 0} (start : ArrayStart D) (opened : IsOpened start) (v : Arra
           is.2.now ∙ ap (λ m. objects_after (array_service (lanes_in start)) m (lane_of closed.seen.lanes l))
               (objects_at D (lanes_in start) start.owners l),
         );
+    since = since;
   }

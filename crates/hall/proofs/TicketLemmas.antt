@@ -212,7 +212,7 @@ module _ {D : Type 0} {start : ArrayStart D} {before : List (RegisterItem Asked 
   abbrev s : Service
   s = array_service (lanes_in start)
 
-  abbrev m : Machines s RegisterState Lane (NotedDesk D)
+  abbrev m : Machines s RegisterState Lane (NotedDesk D) D
   m = machines (lanes_in start)
 
   -- ---- one step or two
@@ -354,10 +354,10 @@ module _ {D : Type 0} {start : ArrayStart D} {before : List (RegisterItem Asked 
         lanes_go_on y u acted =
             let did = acted Only may_drop in record {
               lane = taking.lane + 1;
-              serving = lane_laws.go_on u (Passed place Only (task_of grant op t.step) y) now.3
+              serving = lane_laws.go_on u (Passed place Only (task_of grant op t.step) y) did.owner now.3
                   (λ i. part_of (sym k.place_is i) Only (task_of grant op (now.2 i)))
                   (subst (λ (l : ℕ). IsIn (lane_of u.seen.lanes l) (Passed place Only (task_of grant op t.step) y)) now.0 did.here)
-                  (subst (λ (l : ℕ). HasTurned m start (at_lane l (Passed place Only (task_of grant op t.step) y)) (others_of w.claims) w u)
+                  (subst (λ (l : ℕ). HasTurned m start (at_lane l (Passed place Only (task_of grant op t.step) y) did.owner) (others_of w.claims) w u)
                   now.0 did.turned)
                   did.longer;
               tickets = now.4;

@@ -36,20 +36,22 @@ use Rattle.lane_histories.specs.declared.items.RegisterItem.{RegisterItem}
 use Rattle.lane_histories.specs.declared.items.RegisterItem.TheVariants.{Entered}
 use Rattle.hall_rule.specs.Asks.{HasAsked, HasServed, MayServe}
 use Rattle.hall_rule.specs.Rule.{HallView}
-use Rattle.hall_rule.specs.Seen.{lane_of}
+use Rattle.hall_rule.specs.Seen.{SeenLists, lane_of}
 use Rattle.hall_rule.specs.declared.view.Start.{Start}
 use Rattle.service_histories.specs.ArrayServices.{Asked, MayDecide, array_service}
 use Rattle.service_histories.specs.PlainSteps.{answer_of}
 use Rattle.service_histories.specs.declared.tasks.Task.{Task}
-use Rattle.hall.specs.declared.desk.NotedDesk.{NotedDesk}
 use Rattle.hall.specs.ArrayMachines.{lanes_in, machines}
 
--- with what a hall began, and what a pass of it knows
+-- with what a hall began; the lists of a history, whatever its lanes; and what a pass knows
 abbrev pub ArrayStart : Type 0 → Type 0
-ArrayStart D = Start RegisterState Lane (NotedDesk D)
+ArrayStart D = Start RegisterState Lane D
+
+abbrev pub ArrayLists : Type 0
+ArrayLists = SeenLists (array_service 0) Lane
 
 abbrev pub ArrayView : Type 0 → Type 0
-ArrayView D = HallView (array_service 0) RegisterState Lane (NotedDesk D)
+ArrayView D = HallView (array_service 0) RegisterState Lane D
 
 abbrev pub asked_by : Caller → Request → Asked
 asked_by caller request =

@@ -12,11 +12,12 @@
 --     TookIn v w         a pass knows all that another did, and has its names
 --     HasBegun ..        a hall over a world, and its first pass
 --     HasEnded ..        the world in which a hall ends
+--     EndedWorldsAreSaid    what is held of the world with which the hall began says it still
 use Rattle.std.specs.Prelude.{◌≡◌, ℕ, ◌<◌, ◌≤◌, Bool, List, [], length, Option, Some, slice_get}
 use Rattle.atomic_table.specs.Seated.{TableId}
 use Rattle.chunk_owner.specs.Lanes.{Lane}
 use Rattle.register.specs.declared.verdicts.Verdict.{Verdict}
-use Rattle.service_core.specs.Records.{IsKept}
+use Rattle.service_core.specs.Records.{IsKept, WorldStillSays}
 use Rattle.service_core.specs.Worlds.{State}
 use Rattle.lane_histories.specs.Histories.{IsIn, entries, issued, objects_after, own, places}
 use Rattle.lane_histories.specs.Histories.{register_after, tickets}
@@ -27,12 +28,13 @@ use Rattle.hall_rule.specs.Seen.{GrowsFrom, SeenLists, lane_of}
 use Rattle.hall_rule.specs.Steps.{HasGrown}
 use Rattle.hall_rule.specs.Sums.{times}
 use Rattle.service_histories.specs.ArrayServices.{Asked, array_service}
+use Rattle.service_histories.specs.Closings.{IsWorldSince}
 use Rattle.service_histories.specs.Counts.{IsFreshRegister}
 use Rattle.service_histories.specs.Tellings.{objects_in}
 use Rattle.hall.specs.declared.hall.Hall.{Hall}
 use Rattle.hall.specs.declared.pass.Pass.{Pass}
-use Rattle.hall.specs.Answers.{ArrayStart, ArrayView}
-use Rattle.hall.specs.ArrayMachines.{IsOpened, lanes_in, machines, start_of}
+use Rattle.hall.specs.Answers.{ArrayLists, ArrayStart, ArrayView}
+use Rattle.hall.specs.ArrayMachines.{IsOpened, first_world, lanes_in, machines, start_of}
 
 -- ---- words for a hall and a pass
 
@@ -43,7 +45,7 @@ abbrev pub passes_of : {D : Type 0} → Hall D → ℕ
 passes_of h = h.table.shared.key.passes
 
 abbrev pub desk_of : {D : Type 0} → Hall D → D
-desk_of h = (opening h).desk.desk
+desk_of h = (opening h).desk
 
 abbrev pub view_of : {D : Type 0} → Pass D → ArrayView D
 view_of p = p.seat.me.0
@@ -63,7 +65,7 @@ who p = (
 abbrev pub names_of : {D : Type 0} → Pass D → List ℕ
 names_of p = names (view_of p)
 
-abbrev pub seen_by : {D : Type 0} → Pass D → SeenLists (array_service 0)
+abbrev pub seen_by : {D : Type 0} → Pass D → ArrayLists
 seen_by p = (view_of p).seen
 
 abbrev pub entries_of : {D : Type 0} → ℕ → Pass D → List (Entry Asked Verdict)
@@ -109,16 +111,16 @@ pub record HasBegun {D : Type 0} (h : Hall D) (p : Pass D) (s : State) (passes :
   pub owners : (opening h).owners ≡ s.lanes
   pub passes_are : passes_of h ≡ passes
   pub pass : IsPassOf h p
-  pub first : view_of p ≡ first_view passes (length s.lanes) (opening h)
+  pub first : view_of p ≡ first_view passes s.lanes (opening h)
   pub front : p.front ≡ 0
 
 -- There is one legal history, which begins with all that the last pass had seen. The pass has seen
 -- each of its entries, each of them is of one of its names, and each ticket was passed. The world
--- is where that history has brought it.
+-- is where that history has brought it, and each change of it since the hall began is marked.
 pub record HasEnded {D : Type 0} (start : ArrayStart D) (v : ArrayView D) (s : State)
     : Type 0 where
-  pub seen : SeenLists (array_service (lanes_in start))
-  pub grown : HasGrown (machines (lanes_in start)) start v seen
+  pub seen : SeenLists (array_service (lanes_in start)) Lane
+  pub grown : HasGrown (machines {D = D} (lanes_in start)) start v seen
   pub all_seen : entries seen.register ≡ entries v.seen.register
   pub named : (e : Entry Asked Verdict) → IsIn seen.register (Entered e)
       → 0 < times e.by (names v)
@@ -130,3 +132,11 @@ pub record HasEnded {D : Type 0} (start : ArrayStart D) (v : ArrayView D) (s : S
   pub owners : (l : ℕ) → l < lanes_in start → (o : Lane) × (slice_get s.lanes l ≡ Some o)
       × (o.objects ≡ objects_after (array_service (lanes_in start)) (objects_in start.owners l)
       (lane_of seen.lanes l))
+  pub since : IsWorldSince (lanes_in start) (first_world start) s
+
+-- the hall began with a world to which no request had come
+abbrev pub EndedWorldsAreSaid : Type 0 → Type 0
+EndedWorldsAreSaid D =
+    (start : ArrayStart D) (v : ArrayView D) (first last : State) → start.register ≡ first.register
+    → start.owners ≡ first.lanes → IsNewWorld first → HasEnded start v last
+    → WorldStillSays first last

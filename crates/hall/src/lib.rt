@@ -28,4 +28,4 @@ pub use gate::{Gate, OpenGate};
 pub use hall::Hall;
 pub use pass::Pass;
 pub use sending::{hall_is_shared, pass_is_sent};
-pub use worlds::installed_worlds_are_new;
+pub use worlds::{ended_worlds_are_said, installed_worlds_are_new};

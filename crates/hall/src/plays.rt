@@ -10,7 +10,7 @@ use service_histories::{Asked, Task};
 use std::marker::PhantomData;
 
 /// What a pass knows.
-pub(crate) type Sight<D> = View<Asked, Verdict, Task, Reply, Start<Register, Owner, NotedDesk<D>>>;
+pub(crate) type Sight<D> = View<Asked, Verdict, Task, Reply, Owner, Start<Register, Owner, D>>;
 
 /// A slot of the table.
 pub(crate) type Place<D> = Slot<Register, Owner, NotedDesk<D>, Asked, Verdict, Reply>;
@@ -19,7 +19,7 @@ pub(crate) type Place<D> = Slot<Register, Owner, NotedDesk<D>, Asked, Verdict, R
 pub(crate) type Chair<D> = Seat<Place<D>, Sight<D>>;
 
 /// What the table is told when it is made.
-pub(crate) type Begun<D> = Opening<Register, Owner, NotedDesk<D>>;
+pub(crate) type Begun<D> = Opening<Register, Owner, D>;
 
 /// The hall of the array service, for the laws of halls.
 pub(crate) struct ArrayHall<D> {
@@ -39,6 +39,7 @@ impl<D> RuledHall for ArrayHall<D> {
       Register = RegisterState;
       Owner = Lane;
       Desk = NotedDesk D;
+      KnownBy = D;
       machines = machines lanes;
     } };
 }
@@ -55,13 +56,13 @@ impl<D: Drop> TableRule<Place<D>, Sight<D>, Begun<D>> for Law<D> {
     ghost holds = { λ key. FollowsRule (machines (lanes_in (start_of key))) key.passes
         (start_of key) };
 
-    ghost first = { λ key. first_view key.passes (lanes_in (start_of key)) (start_of key) };
+    ghost first = { λ key. first_view key.passes (start_of key).owners (start_of key) };
 }
 
 /// A number of the register comes into hand.
 pub(crate) struct DrawRegister;
 
-impl<Z, Q, V, T, R, X> Play<Z, View<Q, V, T, R, X>> for DrawRegister {
+impl<Z, Q, V, T, R, N, X> Play<Z, View<Q, V, T, R, N, X>> for DrawRegister {
     ghost use Rattle.hall_rule.specs.declared.queue.Queue.TheVariants.{OfRegister};
     ghost use Rattle.hall_rule.specs.Steps.{HasDrawn};
 
@@ -107,7 +108,7 @@ impl<D: Drop> Play<Place<D>, Sight<D>> for Learn<D> {
 /// A look at the register's word with nothing in hand.
 pub(crate) struct Count;
 
-impl<Z, Q, V, T, R, X> Play<Z, View<Q, V, T, R, X>> for Count {
+impl<Z, Q, V, T, R, N, X> Play<Z, View<Q, V, T, R, N, X>> for Count {
     ghost use Rattle.hall_rule.specs.Steps.{HasCounted};
 
     ghost then = { HasCounted };
@@ -116,7 +117,7 @@ impl<Z, Q, V, T, R, X> Play<Z, View<Q, V, T, R, X>> for Count {
 /// A load before a split, which tells that nothing was asked under the spare numbers.
 pub(crate) struct Spare;
 
-impl<Z, Q, V, T, R, X> Play<Z, View<Q, V, T, R, X>> for Spare {
+impl<Z, Q, V, T, R, N, X> Play<Z, View<Q, V, T, R, N, X>> for Spare {
     ghost use Rattle.hall_rule.specs.Steps.{HasSpared};
 
     ghost then = { HasSpared };
@@ -125,7 +126,7 @@ impl<Z, Q, V, T, R, X> Play<Z, View<Q, V, T, R, X>> for Spare {
 /// A pass is cut in two, or two are joined.
 pub(crate) struct Share;
 
-impl<Q, V, T, R, X> Split<View<Q, V, T, R, X>> for Share {
+impl<Q, V, T, R, N, X> Split<View<Q, V, T, R, N, X>> for Share {
     ghost use Rattle.hall_rule.specs.Rule.{given_by_split, left_by_split};
 
     ghost left = { left_by_split };
@@ -133,7 +134,7 @@ impl<Q, V, T, R, X> Split<View<Q, V, T, R, X>> for Share {
     ghost right = { given_by_split };
 }
 
-impl<Q, V, T, R, X> Join<View<Q, V, T, R, X>> for Share {
+impl<Q, V, T, R, N, X> Join<View<Q, V, T, R, N, X>> for Share {
     ghost use Rattle.hall_rule.specs.Rule.{merged, spent_view};
 
     ghost both = { merged };

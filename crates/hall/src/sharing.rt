@@ -89,7 +89,7 @@ impl<D: Drop> Hall<D> {
         let about = Opening {
             register: Snapshot::of(&register),
             owners: Snapshot::of(&machines),
-            desk: Snapshot::of(&desk),
+            desk: Snapshot::of(&desk.desk),
             passes,
         };
         let words = vec![in alloc; 0u64; lanes + 4]?;

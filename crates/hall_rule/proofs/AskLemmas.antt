@@ -40,21 +40,21 @@ use Rattle.lane_histories.proofs.FoundLemmas.{outcomes_are_found}
 use Rattle.lane_histories.proofs.PlaceLemmas.{entries_are_found}
 use Rattle.lane_histories.proofs.Tickets.{one_number, first_number, second_number, ticket_stays}
 
-module _ (service : Service) where
+module _ (service : Service) {N : Type 0} where
   -- the ticket of an item of this lane was passed
-  passed_at : (h : SeenLists service) (l k : ℕ) (i : LaneItem service.Task service.Reply) (ticket : Ticket service.Task) → eqb l k ≡ true
+  passed_at : (h : SeenLists service N) (l k : ℕ) (i : LaneItem service.Task service.Reply) (ticket : Ticket service.Task) → eqb l k ≡ true
       → ticket_of i ≡ ticket → IsIn (lane_of h.lanes l) i → IsIn (tickets (lane_of h.lanes k)) ticket
   passed_at h l k i ticket same is here = subst (λ (x : ℕ × Ticket service.Task). IsIn (tickets (lane_of h.lanes x.0)) x.1)
       (λ j. (eqb-true l k same j, is j)) (ticket_in (lane_of h.lanes l) i here)
 
-  outcome_here : (world : World service) (h : SeenLists service) (lane place : ℕ) (part : Part) (task : service.Task)
+  outcome_here : (world : World service) (h : SeenLists service N) (lane place : ℕ) (part : Part) (task : service.Task)
       (y : Outcome service.Reply) → IsLegal service world (history_of service h) → IsIn (lane_of h.lanes lane) (Passed place part task y)
       → outcome_of place part (lane_of h.lanes lane) ≡ Some y
   outcome_here world h lane place part task y legal here =
       outcomes_are_found service world (history_of service h) lane place part task y legal here
 
   -- what the turns of an entry that is in the list came to is the place's reply
-  replied_at : (world : World service) (h : SeenLists service) (before : List (RegisterItem service.Asked service.Verdict))
+  replied_at : (world : World service) (h : SeenLists service N) (before : List (RegisterItem service.Asked service.Verdict))
       (e : Entry service.Asked service.Verdict) (what : What service.Verdict service.Reply) → IsLegal service world (history_of service h)
       → StartsWith h.register (before ++ Entered e ∷ [])
       → turns_what service (history_of service h).lane e (service.turns e.asked e.verdict) ≡ Some what
@@ -64,12 +64,12 @@ module _ (service : Service) where
       (in_back before (Entered e ∷ []) (Entered e) (inl refl)) in
       ap (entry_what service (history_of service h).lane) (entries_are_found service world (history_of service h) e legal here) ∙ is
 
-module _ {service : Service} {M N P : Type 0} (m : Machines service M N P) (start : Start M N P) where
-  pub may_draw : (v : HallView service M N P) → IsPass start v → v.claims ≡ [] → MayDraw start v
+module _ {service : Service} {M N P E : Type 0} (m : Machines service M N P E) (start : Start M N E) where
+  pub may_draw : (v : HallView service M N E) → IsPass start v → v.claims ≡ [] → MayDraw start v
   may_draw v pass idle = record { pass = pass; no_register = ap (total (numbers OfRegister)) idle; no_turn = ap (total busy) idle }
 
   -- the turn of a request brought its tickets into hand
-  pub may_serve : (place : ℕ) (asked : service.Asked) (verdict : service.Verdict) (v w : HallView service M N P) → IsPass start v
+  pub may_serve : (place : ℕ) (asked : service.Asked) (verdict : service.Verdict) (v w : HallView service M N E) → IsPass start v
       → v.claims ≡ [] → (d : HasDecided m start place asked verdict v w)
       → MayServe m start d.before.register (entry_behind d.before.register v.number asked verdict) w
   may_serve place asked verdict v w pass idle d =
@@ -77,7 +77,7 @@ module _ {service : Service} {M N P : Type 0} (m : Machines service M N P) (star
       let e : Entry service.Asked service.Verdict = entry_behind d.before.register v.number asked verdict in
       let claims : List Claim = claims_of (count_of service d.before.register) (lanes_of service.lanes (service.turns asked verdict)) in
       let none_else : issued_by service t.before (at_register (Entered e)) ++ v.claims ≡ claims =
-      ap (λ (x : SeenLists service). claims_of (count_of service x.register)
+      ap (λ (x : SeenLists service N). claims_of (count_of service x.register)
       (lanes_of service.lanes (service.turns asked verdict)) ++ v.claims) d.before_is ∙ ap (λ cs. claims ++ cs) idle
       ∙ nothing_more claims in
       let is : w ≡ seeing v claims t.seen = t.is ∙ (λ i. seeing v (none_else i) t.seen) in
@@ -86,13 +86,13 @@ module _ {service : Service} {M N P : Type 0} (m : Machines service M N P) (star
         pass = record { live = pass.live; no_guests = refl; begun = pass.begun };
         fresh = refl;
         entered = starts_same t.seen.register (d.before.register ++ Entered e ∷ [])
-            (sym same ∙ ap (λ (x : SeenLists service). x.register ++ Entered e ∷ []) d.before_is);
+            (sym same ∙ ap (λ (x : SeenLists service N). x.register ++ Entered e ∷ []) d.before_is);
         is_claims = refl;
         legal = t.legal;
       }
 
   module _ (before : List (RegisterItem service.Asked service.Verdict)) (e : Entry service.Asked service.Verdict)
-      (v : HallView service M N P) (may : MayServe m start before e v) where
+      (v : HallView service M N E) (may : MayServe m start before e v) where
     pub claims_are : (turns : Turns service.Task) → service.turns e.asked e.verdict ≡ turns
         → v.claims ≡ claims_of (count_of service before) (lanes_of service.lanes turns)
     claims_are turns is = may.is_claims ∙ ap (λ (t : Turns service.Task). claims_of (count_of service before) (lanes_of service.lanes t)) is
@@ -130,25 +130,25 @@ module _ {service : Service} {M N P : Type 0} (m : Machines service M N P) (star
             to_skip = refl;
           }
 
-      pub served_by_one : (y : Outcome service.Reply) (w : HallView service M N P) → HasActed m start l e.place Only task y v w
+      pub served_by_one : (y : Outcome service.Reply) (w : HallView service M N E) → HasActed m start l e.place Only task y v w
           → HasServed m start e (what_of y) v w
       served_by_one y w a =
           let t = a.turned in
           let none_left : others_of v.claims ≡ [] = ap others_of (claims_are (one_turn l task) is) in
-          let seen_is : w.seen ≡ t.seen = ap (λ (x : HallView service M N P). x.seen) t.is in record {
+          let seen_is : w.seen ≡ t.seen = ap (λ (x : HallView service M N E). x.seen) t.is in record {
             seen = t.seen;
             is = t.is ∙ (λ i. seeing v (none_left i) t.seen);
-            longer = subst (λ (h : SeenLists service). GrowsFrom h v.seen) seen_is a.longer;
+            longer = subst (λ (h : SeenLists service N). GrowsFrom h v.seen) seen_is a.longer;
             own_same = λ x named. t.own_after x named ∙ t.own_before x named;
             legal = t.legal;
             passed = λ k u here.
                 let one = one_ticket (eqb l k) (part_of e.place Only task) u
                 (subst (λ (turns : Turns service.Task). IsIn (tickets_for service k e.place turns) u) is here) in
                 passed_at service t.seen l k (Passed e.place Only task y) u one.0 one.1
-                (subst (λ (h : SeenLists service). IsIn (lane_of h.lanes l) (Passed e.place Only task y)) seen_is a.here);
+                (subst (λ (h : SeenLists service N). IsIn (lane_of h.lanes l) (Passed e.place Only task y)) seen_is a.here);
             what_is = ap (turns_what service (history_of service t.seen).lane e) is
                 ∙ ap one_what (outcome_here service (world_of m start) t.seen l e.place Only task y t.legal
-                (subst (λ (h : SeenLists service). IsIn (lane_of h.lanes l) (Passed e.place Only task y)) seen_is a.here));
+                (subst (λ (h : SeenLists service N). IsIn (lane_of h.lanes l) (Passed e.place Only task y)) seen_is a.here));
           }
 
     -- of two turns
@@ -177,20 +177,20 @@ module _ {service : Service} {M N P : Type 0} (m : Machines service M N P) (star
           go true = refl
           go false = omega arith
 
-      pub may_act_second : (n : ℕ) (x : Outcome service.Reply) (u : HallView service M N P) → n ≡ bumped (count_of service before) a b
+      pub may_act_second : (n : ℕ) (x : Outcome service.Reply) (u : HallView service M N E) → n ≡ bumped (count_of service before) a b
           → b < length start.owners → HasActed m start a e.place First task x v u
           → MayAct service start b n e.place (Second a) next (not (is_well service x)) u
       may_act_second n x u number there acted =
           let t = acted.turned in
           let left : others_of v.claims ≡ claim (OfLane b) n false ∷ [] = ap others_of (claims_are (two_turns a task b next) is)
           ∙ ap (λ k. claim (OfLane b) k false ∷ []) (sym number) in
-          let mine : u.claims ≡ claim (OfLane b) n false ∷ [] = ap (λ (z : HallView service M N P). z.claims) t.is ∙ left in record {
+          let mine : u.claims ≡ claim (OfLane b) n false ∷ [] = ap (λ (z : HallView service M N E). z.claims) t.is ∙ left in record {
             pass = record {
-              live = ap (λ (z : HallView service M N P). z.live) t.is
+              live = ap (λ (z : HallView service M N E). z.live) t.is
                   ∙ may.pass.live;
-              no_guests = ap (λ (z : HallView service M N P). z.guests) t.is;
+              no_guests = ap (λ (z : HallView service M N E). z.guests) t.is;
               begun =
-                  ap (λ (z : HallView service M N P). z.start) t.is ∙ may.pass.begun;
+                  ap (λ (z : HallView service M N E). z.start) t.is ∙ may.pass.begun;
             };
             there = there;
             is_claim = mine ∙ ap (λ cs. claim (OfLane b) n false ∷ cs) (sym (ap others_of mine));
@@ -205,7 +205,7 @@ module _ {service : Service} {M N P : Type 0} (m : Machines service M N P) (star
             to_skip = (task, x, acted.here, refl);
           }
 
-      pub served_by_two : (x y : Outcome service.Reply) (what : What service.Verdict service.Reply) (u w : HallView service M N P)
+      pub served_by_two : (x y : Outcome service.Reply) (what : What service.Verdict service.Reply) (u w : HallView service M N E)
           → HasActed m start a e.place First task x v u → HasActed m start b e.place (Second a) next y u w → two_what x (Some y) ≡ Some what
           → HasServed m start e what v w
       served_by_two x y what u w one two what_is =
@@ -213,22 +213,22 @@ module _ {service : Service} {M N P : Type 0} (m : Machines service M N P) (star
           let t = two.turned in
           let left : others_of v.claims ≡ claim (OfLane b) (bumped (count_of service before) a b) false ∷ [] =
           ap others_of (claims_are (two_turns a task b next) is) in
-          let none_left : others_of u.claims ≡ [] = ap (λ (z : HallView service M N P). others_of z.claims) s.is ∙ ap others_of left in
-          let seen_is : w.seen ≡ t.seen = ap (λ (z : HallView service M N P). z.seen) t.is in
-          let middle : u.seen ≡ s.seen = ap (λ (z : HallView service M N P). z.seen) s.is in
-          let same_names : names v ≡ names u = ap (λ (z : HallView service M N P). names z) (sym s.is) in
-          let on : GrowsFrom t.seen u.seen = subst (λ (h : SeenLists service). GrowsFrom h u.seen) seen_is two.longer in
+          let none_left : others_of u.claims ≡ [] = ap (λ (z : HallView service M N E). others_of z.claims) s.is ∙ ap others_of left in
+          let seen_is : w.seen ≡ t.seen = ap (λ (z : HallView service M N E). z.seen) t.is in
+          let middle : u.seen ≡ s.seen = ap (λ (z : HallView service M N E). z.seen) s.is in
+          let same_names : names v ≡ names u = ap (λ (z : HallView service M N E). names z) (sym s.is) in
+          let on : GrowsFrom t.seen u.seen = subst (λ (h : SeenLists service N). GrowsFrom h u.seen) seen_is two.longer in
           let first_in : IsIn (lane_of t.seen.lanes a) (Passed e.place First task x) =
           in_longer (lane_of t.seen.lanes a) (lane_of u.seen.lanes a) (Passed e.place First task x) (on.lanes a) one.here in
           let second_in : IsIn (lane_of t.seen.lanes b) (Passed e.place (Second a) next y) =
-          subst (λ (h : SeenLists service). IsIn (lane_of h.lanes b) (Passed e.place (Second a) next y)) seen_is two.here in
+          subst (λ (h : SeenLists service N). IsIn (lane_of h.lanes b) (Passed e.place (Second a) next y)) seen_is two.here in
           let found = outcome_here service (world_of m start) t.seen a e.place First task x t.legal first_in in
           let found' = outcome_here service (world_of m start) t.seen b e.place (Second a) next y t.legal second_in in record {
             seen = t.seen;
             is = t.is ∙ (λ i. seeing (s.is i) (none_left i) t.seen);
             longer = begins_trans t.seen u.seen v.seen on one.longer;
             own_same = λ k named. t.own_after k (subst (λ ns. 0 < times k ns) same_names named)
-                ∙ t.own_before k (subst (λ ns. 0 < times k ns) same_names named) ∙ ap (λ (h : SeenLists service). own k h.register) middle
+                ∙ t.own_before k (subst (λ ns. 0 < times k ns) same_names named) ∙ ap (λ (h : SeenLists service N). own k h.register) middle
                 ∙ s.own_after k named ∙ s.own_before k named;
             legal = t.legal;
             passed = λ k ticket here. ⊎_elim
@@ -243,7 +243,7 @@ module _ {service : Service} {M N P : Type 0} (m : Machines service M N P) (star
 
   -- the turn of the register and the turns of the lanes make an ask
   pub has_asked : (place : ℕ) (asked : service.Asked) (verdict : service.Verdict) (what : What service.Verdict service.Reply)
-      (v u w : HallView service M N P) → IsPass start v → v.claims ≡ [] → (d : HasDecided m start place asked verdict v u)
+      (v u w : HallView service M N E) → IsPass start v → v.claims ≡ [] → (d : HasDecided m start place asked verdict v u)
       → HasServed m start (entry_behind d.before.register v.number asked verdict) what u w → HasAsked m start place asked verdict what v w
   has_asked place asked verdict what v u w pass idle d s =
       let t = d.turned in
@@ -251,26 +251,26 @@ module _ {service : Service} {M N P : Type 0} (m : Machines service M N P) (star
       let may = may_serve place asked verdict v u pass idle d in
       let entered : StartsWith s.seen.register (d.before.register ++ Entered e ∷ []) =
       starts_trans s.seen.register u.seen.register (d.before.register ++ Entered e ∷ []) s.longer.register may.entered in
-      let u_seen : u.seen ≡ t.seen = ap (λ (z : HallView service M N P). z.seen) t.is in
-      let same_names : names v ≡ names u = ap (λ (z : HallView service M N P). names z) (sym t.is) in
+      let u_seen : u.seen ≡ t.seen = ap (λ (z : HallView service M N E). z.seen) t.is in
+      let same_names : names v ≡ names u = ap (λ (z : HallView service M N E). names z) (sym t.is) in
       let pushed_begins : GrowsFrom t.seen (pushed t.before (at_register (Entered e))) = t.longer in
       let own_after : (x : ℕ) → 0 < times x (names v) → own x s.seen.register ≡ own x (d.before.register ++ Entered e ∷ []) =
-      λ x named. s.own_same x (subst (λ ns. 0 < times x ns) same_names named) ∙ ap (λ (h : SeenLists service). own x h.register) u_seen
-      ∙ t.own_after x named ∙ ap (λ (h : SeenLists service). own x (h.register ++ Entered e ∷ [])) d.before_is in
+      λ x named. s.own_same x (subst (λ ns. 0 < times x ns) same_names named) ∙ ap (λ (h : SeenLists service N). own x h.register) u_seen
+      ∙ t.own_after x named ∙ ap (λ (h : SeenLists service N). own x (h.register ++ Entered e ∷ [])) d.before_is in
       let own_before : (x : ℕ) → 0 < times x (names v)
-      → own x d.before.register ≡ own x v.seen.register = λ x named. ap (λ (h : SeenLists service). own x h.register) (sym d.before_is)
+      → own x d.before.register ≡ own x v.seen.register = λ x named. ap (λ (h : SeenLists service N). own x h.register) (sym d.before_is)
       ∙ t.own_before x named in
       let mine = number_named v pass.live in record {
         before = d.before;
         seen = s.seen;
         is = s.is ∙ (λ i. seeing (t.is i) [] s.seen);
         longer = begins_trans s.seen u.seen v.seen s.longer
-            (subst (λ (h : SeenLists service). GrowsFrom h v.seen) (sym u_seen)
+            (subst (λ (h : SeenLists service N). GrowsFrom h v.seen) (sym u_seen)
             (begins_trans t.seen (pushed t.before (at_register (Entered e))) v.seen t.longer
             (begins_trans (pushed t.before (at_register (Entered e))) t.before v.seen (begins_pushed t.before (at_register (Entered e)) tt)
             t.begins)));
         legal = s.legal;
-        begins = subst (λ (h : SeenLists service). GrowsFrom h v.seen) d.before_is t.begins;
+        begins = subst (λ (h : SeenLists service N). GrowsFrom h v.seen) d.before_is t.begins;
         place_is = d.place_is;
         entered = entered;
         decided = d.may;
@@ -288,20 +288,20 @@ module _ {service : Service} {M N P : Type 0} (m : Machines service M N P) (star
           ≡ entry_behind d.before.register v.number asked verdict ∷ []
       mine_only = ap (λ (b : Bool). cond b (entry_behind d.before.register v.number asked verdict ∷ []) []) (eq-eqb v.number v.number refl)
 
-module _ {service : Service} {M N P : Type 0} (m : Machines service M N P) (start : Start M N P) where
+module _ {service : Service} {M N P E : Type 0} (m : Machines service M N P E) (start : Start M N E) where
   -- the place is at or above the front
   pub place_above : (front place : ℕ) (asked : service.Asked) (verdict : service.Verdict) (what : What service.Verdict service.Reply)
-      (v w : HallView service M N P) → front ≤ places v.seen.register → HasAsked m start place asked verdict what v w → front ≤ place
+      (v w : HallView service M N E) → front ≤ places v.seen.register → HasAsked m start place asked verdict what v w → front ≤ place
   place_above front place asked verdict what v w low h = let a = places_begin h.before.register v.seen.register h.begins.register in
       let b = h.place_is in omega arith
 
   -- and it has been seen
   pub front_seen : (place : ℕ) (asked : service.Asked) (verdict : service.Verdict) (what : What service.Verdict service.Reply)
-      (v w : HallView service M N P) → HasAsked m start place asked verdict what v w → place + 1 ≤ places w.seen.register
+      (v w : HallView service M N E) → HasAsked m start place asked verdict what v w → place + 1 ≤ places w.seen.register
   front_seen place asked verdict what v w h =
       let e : Entry service.Asked service.Verdict = entry_behind h.before.register v.number asked verdict in
       let a = places_begin h.seen.register (h.before.register ++ Entered e ∷ []) h.entered in
       let b = places_append h.before.register (Entered e ∷ []) in
       let c = h.place_is in
-      let d : places w.seen.register ≡ places h.seen.register = ap (λ (x : HallView service M N P). places x.seen.register) h.is in
+      let d : places w.seen.register ≡ places h.seen.register = ap (λ (x : HallView service M N E). places x.seen.register) h.is in
       omega arith

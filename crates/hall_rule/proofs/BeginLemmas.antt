@@ -13,11 +13,10 @@ use Rattle.hall_rule.specs.Queues.{slot_of, IsQueue}
 use Rattle.hall_rule.specs.Seen.{nothing}
 use Rattle.hall_rule.specs.Machines.{Machines, objects_in}
 use Rattle.hall_rule.specs.Standing.{HallSlot, StandsFor}
-use Rattle.lane_histories.specs.Histories.{LaneList}
-use Rattle.hall_rule.specs.Standing.{IsFresh, IsOwnerOf}
+use Rattle.hall_rule.specs.Standing.{IsFresh, IsFreshDesk}
 use Rattle.hall_rule.proofs.StandingLemmas.{desk_begun, owner_begun}
 use Rattle.hall_rule.specs.Rule.{FollowsRule, first_view}
-use Rattle.hall_rule.proofs.SeenLemmas.{lane_nothing, length_replicate}
+use Rattle.hall_rule.proofs.SeenLemmas.{length_replicate}
 use Rattle.hall_rule.proofs.ShareStep.{opens}
 use Rattle.std.specs.Prelude.{Result, Ok, Err, IfOk}
 use Rattle.std.specs.Result.{result_ok}
@@ -42,48 +41,47 @@ zeros zero i = refl
 zeros (suc n) zero = refl
 zeros (suc n) (suc i) = zeros n i
 
-module _ {service : Service} {M N P : Type 0} (m : Machines service M N P) where
+module _ {service : Service} {M N P E : Type 0} (m : Machines service M N P E) where
   objects_at : (os : List N) (lane : ℕ) (o : N) → get_elem? os lane ≡ some o → m.owner o ≡ objects_in m os lane
   objects_at [] lane o e = absurd (some-ne-none o (sym e))
   objects_at (p ∷ os) zero o e = ap m.owner (sym (some-injective p o e))
   objects_at (p ∷ os) (suc lane) o e = objects_at os lane o e
 
-module _ {service : Service} {M N P : Type 0} (m : Machines service M N P) (passes : ℕ) (start : Start M N P) where
-  slots_of : List (HallSlot service M N P)
-  slots_of = AtRegister (record { register = start.register; news = None }) ∷ (AtDesk (record { desk = start.desk; news = None }) ∷ map
+module _ {service : Service} {M N P E : Type 0} (m : Machines service M N P E) (passes : ℕ) (start : Start M N E) where
+  slots_of : P → List (HallSlot service M N P)
+  slots_of desk = AtRegister (record { register = start.register; news = None }) ∷ (AtDesk desk ∷ map
       lane_home start.owners)
 
   -- the machines at home, before anything was done
-  begun : IsFresh m start → (q : Queue) → IsQueue (length start.owners) q → (s : HallSlot service M N P)
-      × (get_elem? slots_of (slot_of q) ≡ some s) × StandsFor m q s start (nothing (length start.owners))
+  begun : (desk : P) → IsFresh m start → IsFreshDesk m start desk → (q : Queue) → IsQueue (length start.owners) q → (s : HallSlot service M N P)
+      × (get_elem? (slots_of desk) (slot_of q) ≡ some s) × StandsFor m q s start (nothing start.owners)
   unfolding slots_of
-  begun fresh OfRegister is = (
+  begun desk fresh noted OfRegister is = (
     AtRegister (record { register = start.register; news = None }),
     refl,
     record { now = refl; since = fresh.register },
   )
-  begun fresh OfDesk is = (AtDesk (record { desk = start.desk; news = None }), refl, desk_begun m start fresh)
-  begun fresh (OfLane lane) is =
+  begun desk fresh noted OfDesk is = (AtDesk desk, refl, desk_begun m start desk noted)
+  begun desk fresh noted (OfLane lane) is =
       let o = there start.owners lane is in
       let behind : lane + 2 ≡ suc (suc lane) = omega arith in (
         AtLane (record { owner = o.0; news = None }),
-        ap (get_elem? slots_of) behind ∙ at_map lane_home start.owners lane o.0 o.1,
-        subst (λ (items : LaneList service). IsOwnerOf m start lane items o.0) (sym (lane_nothing (length start.owners) lane))
-            (owner_begun m start fresh lane o.0 o.1 (objects_at m start.owners lane o.0 o.1)),
+        ap (get_elem? (slots_of desk)) behind ∙ at_map lane_home start.owners lane o.0 o.1,
+        owner_begun m start fresh lane o.0 o.1 (objects_at m start.owners lane o.0 o.1),
       )
 
-  pub begins : (words : List ℕ) (slots : List (HallSlot service M N P)) → IsFresh m start → 1 ≤ passes
+  pub begins : (desk : P) (words : List ℕ) (slots : List (HallSlot service M N P)) → IsFresh m start → IsFreshDesk m start desk → 1 ≤ passes
       → passes < 2 ^ 32 → words ≡ replicate (length start.owners + 4) 0
-      → slots ≡ AtRegister (record { register = start.register; news = None }) ∷ (AtDesk (record { desk = start.desk; news = None }) ∷ map
-      lane_home start.owners) → FollowsRule m passes start (opening words slots (first_view passes (length start.owners) start))
+      → slots ≡ AtRegister (record { register = start.register; news = None }) ∷ (AtDesk desk ∷ map
+      lane_home start.owners) → FollowsRule m passes start (opening words slots (first_view passes start.owners start))
   unfolding slots_of
-  begins words slots fresh some_pass few are_zero are =
+  begins desk words slots fresh noted some_pass few are_zero are =
       let n : ℕ = length start.owners in
-      subst (λ (x : List ℕ × List (HallSlot service M N P)). FollowsRule m passes start (opening x.0 x.1 (first_view passes n start)))
+      subst (λ (x : List ℕ × List (HallSlot service M N P)). FollowsRule m passes start (opening x.0 x.1 (first_view passes start.owners start)))
       (λ i. (sym are_zero i, sym are i))
-      (opens m passes start (replicate (n + 4) 0) slots_of some_pass few (length_replicate (n + 4) 0) (zeros (n + 4))
+      (opens m passes start (replicate (n + 4) 0) (slots_of desk) some_pass few (length_replicate (n + 4) 0) (zeros (n + 4))
       (let l = length_map (lane_home {M = M} {N = N} {P = P} {Q = service.Asked} {V = service.Verdict} {R = service.Reply})
-      start.owners in omega arith) (begun fresh))
+      start.owners in omega arith) (begun desk fresh noted))
 
 -- what holds of the value of an `Ok` holds of what `ok` gives
 pub ok_holds : {X E : Type 0} (r : Result X E) (F : X → Type 0) (x : X) → result_ok r ≡ Some x → IfOk r F → F x

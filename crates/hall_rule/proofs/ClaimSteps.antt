@@ -39,32 +39,32 @@ module _ (q : Queue) (len len' : Queue → ℕ) (one_more : (q' : Queue) → len
       ∙ (let z : once_below n' (len q') + 0 ≡ once_below n' (len q') = omega arith in z)))
       (same_or_apart q q')
 
-module _ {Q V T R X : Type 0} where
-  pub claimed_set : (f : Claim → ℕ) (views : List (View Q V T R X)) (id : ℕ) (v w : View Q V T R X) → get_elem? views id ≡ some v
+module _ {Q V T R N X : Type 0} where
+  pub claimed_set : (f : Claim → ℕ) (views : List (View Q V T R N X)) (id : ℕ) (v w : View Q V T R N X) → get_elem? views id ≡ some v
       → claimed f (set views id w) + total f v.claims ≡ claimed f views + total f w.claims
-  claimed_set f views id v w at = total_set (λ (u : View Q V T R X). total f u.claims) views id v w at
+  claimed_set f views id v w at = total_set (λ (u : View Q V T R N X). total f u.claims) views id v w at
 
-  pub claimed_one : (f : Claim → ℕ) (views : List (View Q V T R X)) (id : ℕ) (v : View Q V T R X) → get_elem? views id ≡ some v
+  pub claimed_one : (f : Claim → ℕ) (views : List (View Q V T R N X)) (id : ℕ) (v : View Q V T R N X) → get_elem? views id ≡ some v
       → total f v.claims ≤ claimed f views
-  claimed_one f views id v at = total_one (λ (u : View Q V T R X). total f u.claims) views id v at
+  claimed_one f views id v at = total_one (λ (u : View Q V T R N X). total f u.claims) views id v at
 
-  claimed_up : (f g : Claim → ℕ) (views : List (View Q V T R X)) → ((c : Claim) → f c ≤ g c) → claimed f views ≤ claimed g views
-  claimed_up f g views le = total_up (λ (u : View Q V T R X). total f u.claims) (λ (u : View Q V T R X). total g u.claims) views
+  claimed_up : (f g : Claim → ℕ) (views : List (View Q V T R N X)) → ((c : Claim) → f c ≤ g c) → claimed f views ≤ claimed g views
+  claimed_up f g views le = total_up (λ (u : View Q V T R N X). total f u.claims) (λ (u : View Q V T R N X). total g u.claims) views
       (λ u. total_up f g u.claims le)
 
-  claimed_two : (q : Queue) (a b : ℕ) (views : List (View Q V T R X)) → a ≢ b
+  claimed_two : (q : Queue) (a b : ℕ) (views : List (View Q V T R N X)) → a ≢ b
       → claimed (holds_at q a) views + claimed (holds_at q b) views ≤ claimed (holds q) views
   claimed_two q a b views ne =
-      let both = total_sum (λ (u : View Q V T R X). total (holds_at q a) u.claims) (λ (u : View Q V T R X). total (holds_at q b) u.claims)
+      let both = total_sum (λ (u : View Q V T R N X). total (holds_at q a) u.claims) (λ (u : View Q V T R N X). total (holds_at q b) u.claims)
       views in
-      let le = total_up (λ (u : View Q V T R X). total (holds_at q a) u.claims + total (holds_at q b) u.claims)
-      (λ (u : View Q V T R X). total (holds q) u.claims) views
+      let le = total_up (λ (u : View Q V T R N X). total (holds_at q a) u.claims + total (holds_at q b) u.claims)
+      (λ (u : View Q V T R N X). total (holds q) u.claims) views
       (λ u. let one = total_sum (holds_at q a) (holds_at q b) u.claims in
       let two = total_up (λ (c : Claim). holds_at q a c + holds_at q b c) (holds q) u.claims (two_held q a b ne) in omega arith) in
       omega arith
 
   -- claims that stay count as before
-  pub claims_stay : (next len : Queue → ℕ) (views : List (View Q V T R X)) (id : ℕ) (v w : View Q V T R X) → get_elem? views id ≡ some v
+  pub claims_stay : (next len : Queue → ℕ) (views : List (View Q V T R N X)) (id : ℕ) (v w : View Q V T R N X) → get_elem? views id ≡ some v
       → w.claims ≡ v.claims → AreClaimedOnce next len views → AreClaimedOnce next len (set views id w)
   claims_stay next len views id v w at same ok =
       let kept : (f : Claim → ℕ) → claimed f (set views id w) ≡ claimed f views = λ f. let e = claimed_set f views id v w at in
@@ -76,11 +76,11 @@ module _ {Q V T R X : Type 0} where
         desk_drawn = let a = kept (numbers OfDesk) in let b = ok.desk_drawn in omega arith;
       }
 
-  pub claims_new_view : (next len : Queue → ℕ) (views : List (View Q V T R X)) (w : View Q V T R X) → w.claims ≡ []
+  pub claims_new_view : (next len : Queue → ℕ) (views : List (View Q V T R N X)) (w : View Q V T R N X) → w.claims ≡ []
       → AreClaimedOnce next len views → AreClaimedOnce next len (views ++ w ∷ [])
   claims_new_view next len views w empty ok =
       let kept : (f : Claim → ℕ) → claimed f (views ++ w ∷ []) ≡ claimed f views =
-      λ f. let e = total_push (λ (u : View Q V T R X). total f u.claims) views w in let s : total f w.claims ≡ 0 = ap (total f) empty in
+      λ f. let e = total_push (λ (u : View Q V T R N X). total f u.claims) views w in let s : total f w.claims ≡ 0 = ap (total f) empty in
       omega arith in record {
         once = λ q n. let a = kept (waits q n) in let b = kept (holds_at q n) in let c = ok.once q n in omega arith;
         turns = λ q. kept (holds q) ∙ ok.turns q ∙ sym (kept (holds_at q (len q)));
@@ -90,7 +90,7 @@ module _ {Q V T R X : Type 0} where
       }
 
   -- a list that has another function for its lengths or next numbers, with the same values
-  pub claims_same : (next next' len len' : Queue → ℕ) (views : List (View Q V T R X)) → ((q : Queue) → next' q ≡ next q)
+  pub claims_same : (next next' len len' : Queue → ℕ) (views : List (View Q V T R N X)) → ((q : Queue) → next' q ≡ next q)
       → ((q : Queue) → len' q ≡ len q) → AreClaimedOnce next len views → AreClaimedOnce next' len' views
   claims_same next next' len len' views n l ok = record {
     once = λ q k. let a : once_below k (next' q) ≡ once_below k (next q) = ap (once_below k) (n q) in
@@ -102,7 +102,7 @@ module _ {Q V T R X : Type 0} where
   }
 
   -- the next number comes into hand
-  pub claims_draw : (next next' len : Queue → ℕ) (views : List (View Q V T R X)) (id : ℕ) (v w : View Q V T R X) (q : Queue)
+  pub claims_draw : (next next' len : Queue → ℕ) (views : List (View Q V T R N X)) (id : ℕ) (v w : View Q V T R N X) (q : Queue)
       → get_elem? views id ≡ some v → w.claims ≡ claim q (next q) false ∷ v.claims
       → ((q' : Queue) → next' q' ≡ next q' + cond (same_queue q q') 1 0) → AreClaimedOnce next len views
       → AreClaimedOnce next' len (set views id w)
@@ -120,7 +120,7 @@ module _ {Q V T R X : Type 0} where
       }
 
   -- a turn whose number waits in a view is held by nobody
-  pub turn_free : (next len : Queue → ℕ) (views : List (View Q V T R X)) (id : ℕ) (v : View Q V T R X) (q : Queue) (n : ℕ)
+  pub turn_free : (next len : Queue → ℕ) (views : List (View Q V T R N X)) (id : ℕ) (v : View Q V T R N X) (q : Queue) (n : ℕ)
       (others : List Claim) → get_elem? views id ≡ some v → v.claims ≡ claim q n false ∷ others → n ≡ len q → AreClaimedOnce next len views
       → claimed (holds q) views ≡ 0
   turn_free next len views id v q n others at mine is ok =
@@ -133,7 +133,7 @@ module _ {Q V T R X : Type 0} where
       let g = ok.turns q in omega arith
 
   -- the turn is taken
-  pub claims_look : (next len : Queue → ℕ) (views : List (View Q V T R X)) (id : ℕ) (v w : View Q V T R X) (q : Queue) (n : ℕ)
+  pub claims_look : (next len : Queue → ℕ) (views : List (View Q V T R N X)) (id : ℕ) (v w : View Q V T R N X) (q : Queue) (n : ℕ)
       (others : List Claim) → get_elem? views id ≡ some v → v.claims ≡ claim q n false ∷ others → w.claims ≡ claim q n true ∷ others
       → n ≡ len q → n < limit_of q → AreClaimedOnce next len views → AreClaimedOnce next len (set views id w)
   claims_look next len views id v w q n others at mine new is early ok =
@@ -172,7 +172,7 @@ module _ {Q V T R X : Type 0} where
           go ne false = refl
 
   -- the number of a held turn is the one shown, and nobody else holds the turn
-  pub turn_mine : (next len : Queue → ℕ) (views : List (View Q V T R X)) (id : ℕ) (v : View Q V T R X) (q : Queue) (n : ℕ)
+  pub turn_mine : (next len : Queue → ℕ) (views : List (View Q V T R N X)) (id : ℕ) (v : View Q V T R N X) (q : Queue) (n : ℕ)
       (others : List Claim) → get_elem? views id ≡ some v → v.claims ≡ claim q n true ∷ others → AreClaimedOnce next len views → (n ≡ len q)
       × (claimed (holds q) views ≡ 1) × (n < limit_of q)
   turn_mine next len views id v q n others at mine ok =
@@ -185,7 +185,7 @@ module _ {Q V T R X : Type 0} where
       (is, (let a = ok.once q n in let b = once_le n (next q) in let c = ok.turns q in omega arith), ok.early q n (omega arith))
 
   -- the turn is passed, and the tickets that the item issues come into hand
-  pub claims_pass : (next next' len len' : Queue → ℕ) (views : List (View Q V T R X)) (id : ℕ) (v w : View Q V T R X) (q : Queue) (n : ℕ)
+  pub claims_pass : (next next' len len' : Queue → ℕ) (views : List (View Q V T R N X)) (id : ℕ) (v w : View Q V T R N X) (q : Queue) (n : ℕ)
       (others new : List Claim) → get_elem? views id ≡ some v → v.claims ≡ claim q n true ∷ others → w.claims ≡ new ++ others
       → ((q' : Queue) → len' q' ≡ len q' + cond (same_queue q q') 1 0)
       → ((q' : Queue) (n' : ℕ) → total (waits q' n') new + once_below n' (next q') ≡ once_below n' (next' q'))
@@ -220,6 +220,6 @@ module _ {Q V T R X : Type 0} where
       }
 
   -- what a view that nobody's turn is with can't hold
-  pub holds_none : (q : Queue) (views : List (View Q V T R X)) (j : ℕ) (u : View Q V T R X) → get_elem? views j ≡ some u
+  pub holds_none : (q : Queue) (views : List (View Q V T R N X)) (j : ℕ) (u : View Q V T R N X) → get_elem? views j ≡ some u
       → claimed (holds q) views ≡ 0 → total (holds q) u.claims ≡ 0
   holds_none q views j u at none_holds = let a = claimed_one (holds q) views j u at in omega arith

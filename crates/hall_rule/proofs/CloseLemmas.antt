@@ -23,7 +23,6 @@ use Rattle.hall_rule.specs.Steps.{HasGrown}
 use Rattle.hall_rule.proofs.ShareStep.{closes}
 use Rattle.hall_rule.proofs.TurnLemmas.{register_slot, desk_slot, lane_slot}
 use Rattle.hall_rule.specs.declared.slot.RegisterSlot.{RegisterSlot}
-use Rattle.hall_rule.specs.declared.slot.DeskSlot.{DeskSlot}
 use Rattle.hall_rule.specs.declared.slot.LaneSlot.{LaneSlot}
 use Rattle.hall_rule.specs.Closes.{HasClosed}
 
@@ -51,10 +50,10 @@ two_taken f g h len n one two long count full = (
       subst (λ (x : ℕ). get_or (set f 0 false) x false ≡ false) zero_now (get_or-set_same f 0 false false (omega arith)))),
 )
 
-module _ {service : Service} {M N P : Type 0} (m : Machines service M N P) (start : Start M N P) where
+module _ {service : Service} {M N P E : Type 0} (m : Machines service M N P E) (start : Start M N E) where
   -- the slots at the end stand for one history
-  pub record AtEnd (v : HallView service M N P) (xs : List (HallSlot service M N P)) : Type 0 where
-    pub seen : SeenLists service
+  pub record AtEnd (v : HallView service M N E) (xs : List (HallSlot service M N P)) : Type 0 where
+    pub seen : SeenLists service N
     pub grown : HasGrown m start v seen
     pub all_seen : entries seen.register ≡ entries v.seen.register
     pub named : (e : Entry service.Asked service.Verdict) → IsIn seen.register (Entered e) → 0 < times e.by (names v)
@@ -62,7 +61,7 @@ module _ {service : Service} {M N P : Type 0} (m : Machines service M N P) (star
     pub there : (q : Queue) → IsQueue (length start.owners) q → (s : HallSlot service M N P) × (get_elem? xs (slot_of q) ≡ some s)
         × StandsFor m q s start seen
 
-  pub at_end : (passes : ℕ) (s : HallState service M N P) (xs : List (HallSlot service M N P)) (id : ℕ) (v : HallView service M N P)
+  pub at_end : (passes : ℕ) (s : HallState service M N P E) (xs : List (HallSlot service M N P)) (id : ℕ) (v : HallView service M N E)
       → FollowsRule m passes start s → get_elem? s.views id ≡ some v
       → ((k : ℕ) (y : HallSlot service M N P) → get_elem? s.homes k ≡ some (some y) → get_elem? xs k ≡ some y)
       → v.live ≡ true → v.claims ≡ [] → v.guests ≡ [] → length (names v) ≡ passes → AtEnd v xs
@@ -76,23 +75,23 @@ module _ {service : Service} {M N P : Type 0} (m : Machines service M N P) (star
         there = λ q is. let h = e.5 q is in (h.0, same (slot_of q) h.0 h.1, h.2);
       }
 
-  pub end_register : (v : HallView service M N P) (xs : List (HallSlot service M N P)) → AtEnd v xs
+  pub end_register : (v : HallView service M N E) (xs : List (HallSlot service M N P)) → AtEnd v xs
       → (d : RegisterSlot M service.Asked service.Verdict) × (get_elem? xs 0 ≡ some (AtRegister d))
   end_register v xs e = let h = e.there OfRegister tt in let d = register_slot m start h.0 e.seen h.2 in (d.0, h.1 ∙ ap some d.1)
 
-  pub end_desk : (v : HallView service M N P) (xs : List (HallSlot service M N P)) → AtEnd v xs → (d : DeskSlot P)
+  pub end_desk : (v : HallView service M N E) (xs : List (HallSlot service M N P)) → AtEnd v xs → (d : P)
       × (get_elem? xs 1 ≡ some (AtDesk d))
   end_desk v xs e = let h = e.there OfDesk tt in let d = desk_slot m start h.0 e.seen h.2 in (d.0, h.1 ∙ ap some d.1)
 
-  pub end_lane : (v : HallView service M N P) (xs : List (HallSlot service M N P)) (lane : ℕ) → lane < length start.owners → AtEnd v xs
+  pub end_lane : (v : HallView service M N E) (xs : List (HallSlot service M N P)) (lane : ℕ) → lane < length start.owners → AtEnd v xs
       → (d : LaneSlot N service.Reply) × (get_elem? xs (lane + 2) ≡ some (AtLane d))
   end_lane v xs lane is e = let h = e.there (OfLane lane) is in let d = lane_slot m start lane h.0 e.seen h.2 in (d.0, h.1 ∙ ap some d.1)
 
-  pub has_closed : (v : HallView service M N P) (xs : List (HallSlot service M N P)) (d : RegisterSlot M service.Asked service.Verdict)
-      (k : DeskSlot P) (owners : List N) → AtEnd v xs → get_elem? xs 0 ≡ some (AtRegister d) → get_elem? xs 1 ≡ some (AtDesk k)
+  pub has_closed : (v : HallView service M N E) (xs : List (HallSlot service M N P)) (d : RegisterSlot M service.Asked service.Verdict)
+      (k : P) (owners : List N) → AtEnd v xs → get_elem? xs 0 ≡ some (AtRegister d) → get_elem? xs 1 ≡ some (AtDesk k)
       → length owners ≡ length start.owners
       → ((lane : ℕ) → lane < length start.owners → (s : LaneSlot N service.Reply) × (get_elem? xs (lane + 2) ≡ some (AtLane s))
-      × (get_elem? owners lane ≡ some s.owner)) → HasClosed m start v d.register owners k.desk
+      × (get_elem? owners lane ≡ some s.owner)) → HasClosed m start v d.register owners k
   has_closed v xs d k owners e register desk count lanes =
       let r = e.there OfRegister tt in
       let w = e.there OfDesk tt in record {
@@ -110,12 +109,11 @@ module _ {service : Service} {M N P : Type 0} (m : Machines service M N P) (star
             (o.0.owner, o.2, subst (λ s. StandsFor m (OfLane lane) s start e.seen) (slot_is xs (lane + 2) h.0 (AtLane o.0) h.1 o.1) h.2);
       }
 
-  pub closed_with : (v : HallView service M N P) (xs : List (HallSlot service M N P)) → AtEnd v xs
+  pub closed_with : (v : HallView service M N E) (xs : List (HallSlot service M N P)) → AtEnd v xs
       → (register : M) (desk : P) (owners : List N)
       → ((d : RegisterSlot M service.Asked service.Verdict) × (get_elem? xs 0 ≡ some (AtRegister d)) × (register ≡ d.register))
-      → ((d : DeskSlot P) × (get_elem? xs 1 ≡ some (AtDesk d)) × (desk ≡ d.desk)) → length owners ≡ length start.owners
+      → get_elem? xs 1 ≡ some (AtDesk desk) → length owners ≡ length start.owners
       → ((lane : ℕ) → lane < length start.owners → (d : LaneSlot N service.Reply) × (get_elem? xs (lane + 2) ≡ some (AtLane d))
       × (get_elem? owners lane ≡ some d.owner)) → HasClosed m start v register owners desk
   closed_with v xs e register desk owners r d count lanes =
-      subst (λ (x : M × P). HasClosed m start v x.0 owners x.1) (λ i. (sym r.2 i, sym d.2 i))
-      (has_closed v xs r.0 d.0 owners e r.1 d.1 count lanes)
+      subst (λ (x : M). HasClosed m start v x owners desk) (sym r.2) (has_closed v xs r.0 desk owners e r.1 d count lanes)

@@ -22,24 +22,24 @@ use Rattle.hall_rule.proofs.WordSteps.{words_register_draw, words_desk_draw}
 use Rattle.hall_rule.proofs.ClaimSteps.{claimed_set, claims_draw}
 use Rattle.hall_rule.proofs.FitLemmas.{names_stay, few_claims, views_set}
 
-next_register : (service : Service) (d k : ℕ) (h : SeenLists service) (q : Queue)
+next_register : (service : Service) {N : Type 0} (d k : ℕ) (h : SeenLists service N) (q : Queue)
     → next_of service (d + 1) k h q ≡ next_of service d k h q + cond (same_queue OfRegister q) 1 0
 next_register service d k h OfRegister = refl
 next_register service d k h OfDesk = omega arith
 next_register service d k h (OfLane l) = omega arith
 
-next_desk : (service : Service) (d k : ℕ) (h : SeenLists service) (q : Queue)
+next_desk : (service : Service) {N : Type 0} (d k : ℕ) (h : SeenLists service N) (q : Queue)
     → next_of service d (k + 1) h q ≡ next_of service d k h q + cond (same_queue OfDesk q) 1 0
 next_desk service d k h OfRegister = omega arith
 next_desk service d k h OfDesk = refl
 next_desk service d k h (OfLane l) = omega arith
 
-alive_one : {Q V T R X : Type 0} (v : View Q V T R X) → v.live ≡ true → alive v ≡ 1
+alive_one : {Q V T R N X : Type 0} (v : View Q V T R N X) → v.live ≡ true → alive v ≡ 1
 alive_one v live = ap (λ b. cond {A = ℕ} b 1 0) live
 
-module _ {service : Service} {M N P : Type 0} (m : Machines service M N P) (start : Start M N P) where
+module _ {service : Service} {M N P E : Type 0} (m : Machines service M N P E) (start : Start M N E) where
   -- a new number of the register or the desk changes nothing else
-  drawn_view : (q : Queue) (n : ℕ) (h : SeenLists service) (v : HallView service M N P) → v.live ≡ true
+  drawn_view : (q : Queue) (n : ℕ) (h : SeenLists service N) (v : HallView service M N E) → v.live ≡ true
       → numbers OfRegister (claim q n false) + total (numbers OfRegister) v.claims ≤ 1
       → numbers OfDesk (claim q n false) + total (numbers OfDesk) v.claims ≤ 1 → IsViewOf m start h v
       → IsViewOf m start h (record v { claims = claim q n false ∷ v.claims })
@@ -60,10 +60,10 @@ module _ {service : Service} {M N P : Type 0} (m : Machines service M N P) (star
     idle = λ dead. absurd (true≢false (sym live ∙ dead));
   }
 
-module _ {service : Service} {M N P : Type 0} (m : Machines service M N P) (passes : ℕ) (start : Start M N P) where
+module _ {service : Service} {M N P E : Type 0} (m : Machines service M N P E) (passes : ℕ) (start : Start M N E) where
   -- homes stay where no turn is taken or passed
-  pub homes_stay : (h : SeenLists service) (views : List (HallView service M N P)) (homes : List (maybe.Option (HallSlot service M N P)))
-      (id : ℕ) (v w : HallView service M N P) → get_elem? views id ≡ some v
+  pub homes_stay : (h : SeenLists service N) (views : List (HallView service M N E)) (homes : List (maybe.Option (HallSlot service M N P)))
+      (id : ℕ) (v w : HallView service M N E) → get_elem? views id ≡ some v
       → ((q : Queue) → total (holds q) w.claims ≡ total (holds q) v.claims) → AreAtHome m start h views homes
       → AreAtHome m start h (set views id w) homes
   homes_stay h views homes id v w at same ok = record {
@@ -71,7 +71,7 @@ module _ {service : Service} {M N P : Type 0} (m : Machines service M N P) (pass
     home = λ q is unheld. ok.home q is (let e = claimed_set (holds q) views id v w at in let f = same q in omega arith);
   }
 
-  pub draws_register : (slots id : ℕ) (me : HallHand service M N P) → me.0.live ≡ true → total (numbers OfRegister) me.0.claims ≡ 0
+  pub draws_register : (slots id : ℕ) (me : HallHand service M N P E) → me.0.live ≡ true → total (numbers OfRegister) me.0.claims ≡ 0
       → Allows (FollowsRule m passes start) slots id me 0 (λ n. (n + 1) % 2 ^ 64) (HasDrawn OfRegister (step slots 0 1 0 none) me)
   draws_register slots id me live empty s r deep at views_are =
       let n : ℕ = get_or s.words 0 0 in
@@ -80,7 +80,7 @@ module _ {service : Service} {M N P : Type 0} (m : Machines service M N P) (pass
       let most = r.names_once.few in
       let short = r.lists_are.short OfRegister in
       let all = r.claims_once.register_drawn in
-      let w : HallView service M N P = record me.0 { claims = claim OfRegister n false ∷ me.0.claims } in
+      let w : HallView service M N E = record me.0 { claims = claim OfRegister n false ∷ me.0.claims } in
       let f = r.views_are id me.0 at in (
         w,
         keeps,
@@ -104,7 +104,7 @@ module _ {service : Service} {M N P : Type 0} (m : Machines service M N P) (pass
         (refl, refl),
       )
 
-  pub draws_desk : (slots id : ℕ) (me : HallHand service M N P) → me.0.live ≡ true → total (numbers OfDesk) me.0.claims ≡ 0
+  pub draws_desk : (slots id : ℕ) (me : HallHand service M N P E) → me.0.live ≡ true → total (numbers OfDesk) me.0.claims ≡ 0
       → Allows (FollowsRule m passes start) slots id me 1 (λ n. (n + 1) % 2 ^ 64) (HasDrawn OfDesk (step slots 1 1 0 none) me)
   draws_desk slots id me live empty s r deep at views_are =
       let n : ℕ = get_or s.words 1 0 in
@@ -113,7 +113,7 @@ module _ {service : Service} {M N P : Type 0} (m : Machines service M N P) (pass
       let most = r.names_once.few in
       let short = r.lists_are.short OfDesk in
       let all = r.claims_once.desk_drawn in
-      let w : HallView service M N P = record me.0 { claims = claim OfDesk n false ∷ me.0.claims } in
+      let w : HallView service M N E = record me.0 { claims = claim OfDesk n false ∷ me.0.claims } in
       let f = r.views_are id me.0 at in (
         w,
         keeps,

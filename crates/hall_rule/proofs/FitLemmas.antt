@@ -30,16 +30,16 @@ below_once x n one = go (nat_lt x n) refl
     go true e = ltb-true x n e
     go false e = let z : once_below x n ≡ 0 = ap (λ (c : Bool). cond {A = ℕ} c 1 0) e in absurd (omega arith)
 
-module _ {Q V T R X : Type 0} where
-  pub number_named : (v : View Q V T R X) → v.live ≡ true → 1 ≤ times v.number (names v)
+module _ {Q V T R N X : Type 0} where
+  pub number_named : (v : View Q V T R N X) → v.live ≡ true → 1 ≤ times v.number (names v)
   number_named v e = subst (λ b. 1 ≤ times v.number (cond b (v.number ∷ (v.spare ++ v.joined)) [])) (sym e)
       (let h = times_here v.number (v.spare ++ v.joined) in omega arith)
 
-  pub spare_named : (v : View Q V T R X) (x : ℕ) → v.live ≡ true → times x v.spare ≤ times x (names v)
+  pub spare_named : (v : View Q V T R N X) (x : ℕ) → v.live ≡ true → times x v.spare ≤ times x (names v)
   spare_named v x e = subst (λ b. times x v.spare ≤ times x (cond b (v.number ∷ (v.spare ++ v.joined)) [])) (sym e)
       (let h = times_append x v.spare v.joined in omega arith)
 
-  pub spare_apart : (v : View Q V T R X) (x : ℕ) → v.live ≡ true → times x (names v) ≤ 1 → 0 < times x v.spare → v.number ≢ x
+  pub spare_apart : (v : View Q V T R N X) (x : ℕ) → v.live ≡ true → times x (names v) ≤ 1 → 0 < times x v.spare → v.number ≢ x
   spare_apart v x e most some_spare same =
       let twice : times x v.spare + 1 ≤ times x (names v) =
       subst (λ b. times x v.spare + 1 ≤ times x (cond b (v.number ∷ (v.spare ++ v.joined)) [])) (sym e)
@@ -47,7 +47,7 @@ module _ {Q V T R X : Type 0} where
       (let h = times_append x v.spare v.joined in let k = times_here x (v.spare ++ v.joined) in omega arith)) in
       omega arith
 
-  pub alive_named : (v : View Q V T R X) → alive v ≤ length (names v)
+  pub alive_named : (v : View Q V T R N X) → alive v ≤ length (names v)
   alive_named v = go v.live
     where
       go : (b : Bool) → cond b 1 0 ≤ length (cond b (v.number ∷ (v.spare ++ v.joined)) [])
@@ -55,47 +55,47 @@ module _ {Q V T R X : Type 0} where
       go false = omega arith
 
   -- names that stay are named as before
-  pub names_stay : (passes : ℕ) (views : List (View Q V T R X)) (id : ℕ) (v w : View Q V T R X) → get_elem? views id ≡ some v
+  pub names_stay : (passes : ℕ) (views : List (View Q V T R N X)) (id : ℕ) (v w : View Q V T R N X) → get_elem? views id ≡ some v
       → names w ≡ names v → AreNamedOnce passes views → AreNamedOnce passes (set views id w)
   names_stay passes views id v w at same ok = record {
     few = ok.few;
-    named = λ x. let e = total_set (λ (u : View Q V T R X). times x (names u)) views id v w at in let f = ok.named x in
+    named = λ x. let e = total_set (λ (u : View Q V T R N X). times x (names u)) views id v w at in let f = ok.named x in
         let g : times x (names w) ≡ times x (names v) = ap (times x) same in omega arith;
-    all_names = let e = total_set (λ (u : View Q V T R X). length (names u)) views id v w at in let f = ok.all_names in
+    all_names = let e = total_set (λ (u : View Q V T R N X). length (names u)) views id v w at in let f = ok.all_names in
         let g : length (names w) ≡ length (names v) = ap length same in omega arith;
   }
 
   -- a name stands once, and is below `passes`
-  pub named_once : (passes : ℕ) (views : List (View Q V T R X)) (id : ℕ) (v : View Q V T R X) (x : ℕ) → get_elem? views id ≡ some v
+  pub named_once : (passes : ℕ) (views : List (View Q V T R N X)) (id : ℕ) (v : View Q V T R N X) (x : ℕ) → get_elem? views id ≡ some v
       → AreNamedOnce passes views → times x (names v) ≤ 1
-  named_once passes views id v x at ok = let a = total_one (λ (u : View Q V T R X). times x (names u)) views id v at in
+  named_once passes views id v x at ok = let a = total_one (λ (u : View Q V T R N X). times x (names u)) views id v at in
       let b = ok.named x in let c = once_le x passes in omega arith
 
-  pub number_below : (passes : ℕ) (views : List (View Q V T R X)) (id : ℕ) (v : View Q V T R X) → get_elem? views id ≡ some v
+  pub number_below : (passes : ℕ) (views : List (View Q V T R N X)) (id : ℕ) (v : View Q V T R N X) → get_elem? views id ≡ some v
       → v.live ≡ true → AreNamedOnce passes views → v.number < passes
   number_below passes views id v at live ok =
-      let a = number_named v live in let b = total_one (λ (u : View Q V T R X). times v.number (names u)) views id v at in
+      let a = number_named v live in let b = total_one (λ (u : View Q V T R N X). times v.number (names u)) views id v at in
       let c = ok.named v.number in below_once v.number passes (omega arith)
 
   -- another view doesn't have this pass's number
-  pub others_apart : (passes : ℕ) (views : List (View Q V T R X)) (id j : ℕ) (v u : View Q V T R X) (x : ℕ) → get_elem? views id ≡ some v
+  pub others_apart : (passes : ℕ) (views : List (View Q V T R N X)) (id j : ℕ) (v u : View Q V T R N X) (x : ℕ) → get_elem? views id ≡ some v
       → j ≢ id → get_elem? views j ≡ some u → v.live ≡ true → AreNamedOnce passes views → 0 < times x (names u) → v.number ≢ x
   others_apart passes views id j v u x at other there live ok named same =
-      let a = total_two (λ (w : View Q V T R X). times x (names w)) views j id u v other there at in let b = ok.named x in
+      let a = total_two (λ (w : View Q V T R N X). times x (names w)) views j id u v other there at in let b = ok.named x in
       let c = once_le x passes in
       let d : 1 ≤ times x (names v) = subst (λ y. 1 ≤ times y (names v)) same (number_named v live) in omega arith
 
   -- no more register numbers are in hand than there are passes
-  pub few_claims : (q : Queue) (passes : ℕ) (views : List (View Q V T R X)) → AreNamedOnce passes views
-      → ((i : ℕ) (v : View Q V T R X) → get_elem? views i ≡ some v → total (numbers q) v.claims ≤ alive v)
+  pub few_claims : (q : Queue) (passes : ℕ) (views : List (View Q V T R N X)) → AreNamedOnce passes views
+      → ((i : ℕ) (v : View Q V T R N X) → get_elem? views i ≡ some v → total (numbers q) v.claims ≤ alive v)
       → claimed (numbers q) views ≤ passes
   few_claims q passes views ok one =
-      let le = total_le (λ (v : View Q V T R X). total (numbers q) v.claims) (λ (v : View Q V T R X). length (names v)) views
+      let le = total_le (λ (v : View Q V T R N X). total (numbers q) v.claims) (λ (v : View Q V T R N X). length (names v)) views
       (λ i v at. let a = one i v at in let b = alive_named v in omega arith) in
       let all = ok.all_names in omega arith
 
-  pub views_set : (F : View Q V T R X → Type 0) (views : List (View Q V T R X)) (id : ℕ) (w : View Q V T R X)
-      → ((j : ℕ) (u : View Q V T R X) → j ≢ id → get_elem? views j ≡ some u → F u) → F w → (j : ℕ) (u : View Q V T R X)
+  pub views_set : (F : View Q V T R N X → Type 0) (views : List (View Q V T R N X)) (id : ℕ) (w : View Q V T R N X)
+      → ((j : ℕ) (u : View Q V T R N X) → j ≢ id → get_elem? views j ≡ some u → F u) → F w → (j : ℕ) (u : View Q V T R N X)
       → get_elem? (set views id w) j ≡ some u → F u
   views_set F views id w others mine j u e =
       ⊎_elim
@@ -103,14 +103,14 @@ module _ {Q V T R X : Type 0} where
       (λ (x : (j ≢ id) × (get_elem? views j ≡ some u)). others j u x.0 x.1)
       (at_set views id j w u e)
 
-  pub same_views : (vs : List (View Q V T R X)) (i : ℕ) (v : View Q V T R X) → get_elem? vs i ≡ some v → set vs i v ≡ vs
+  pub same_views : (vs : List (View Q V T R N X)) (i : ℕ) (v : View Q V T R N X) → get_elem? vs i ≡ some v → set vs i v ≡ vs
   same_views [] i v e = refl
   same_views (x ∷ vs) zero v e = ap (λ l. l ∷ vs) (sym (some-injective x v e))
   same_views (x ∷ vs) (suc i) v e = ap (λ l. x ∷ l) (same_views vs i v e)
 
-module _ {service : Service} {M N P : Type 0} (m : Machines service M N P) (start : Start M N P) where
+module _ {service : Service} {M N P E : Type 0} (m : Machines service M N P E) (start : Start M N E) where
   -- another's item doesn't change what the rule says of a view
-  pub view_on : (h h' : SeenLists service) (u : HallView service M N P) → GrowsFrom h' h
+  pub view_on : (h h' : SeenLists service N) (u : HallView service M N E) → GrowsFrom h' h
       → ((x : ℕ) → 0 < times x (names u) → own x h'.register ≡ own x h.register)
       → ((q : Queue) → 0 < total (holds q) u.claims → SameList q h h') → (0 < total (holds OfDesk) u.claims → GrowsUncut h' h)
       → IsViewOf m start h u → IsViewOf m start h' u
@@ -132,7 +132,7 @@ module _ {service : Service} {M N P : Type 0} (m : Machines service M N P) (star
   }
 
   -- a view that has seen the whole history
-  pub view_seeing : (h h' : SeenLists service) (v : HallView service M N P) (claims : List Claim) → v.live ≡ true → IsViewOf m start h v
+  pub view_seeing : (h h' : SeenLists service N) (v : HallView service M N E) (claims : List Claim) → v.live ≡ true → IsViewOf m start h v
       → IsLegal service (world_of m start) (history_of service h')
       → ((x : ℕ) → v.live ≡ true → 0 < times x v.spare → own x h'.register ≡ [])
       → total (numbers OfRegister) claims ≤ alive v → total (numbers OfDesk) claims ≤ alive v → total busy claims ≤ 1
@@ -155,7 +155,7 @@ module _ {service : Service} {M N P : Type 0} (m : Machines service M N P) (star
   }
 
   -- what a look tells of the history
-  pub grown : (h : SeenLists service) (v : HallView service M N P) → v.live ≡ true
+  pub grown : (h : SeenLists service N) (v : HallView service M N E) → v.live ≡ true
       → IsLegal service (world_of m start) (history_of service h) → IsViewOf m start h v → HasGrown m start v h
   grown h v live legal f = record {
     start_is = f.start_is live;

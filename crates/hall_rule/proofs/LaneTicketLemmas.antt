@@ -58,11 +58,11 @@ from_first count lanes = claims_up count 0 lanes ∙ ap (claims_from count 0) (l
 no_claims : (count : ℕ → ℕ) (lane lanes : ℕ) → lane ≡ lanes → claims_from count lane (lanes - lane) ≡ []
 no_claims count lane lanes all = ap (claims_from count lane) (let e : lanes - lane ≡ 0 = omega arith in e)
 
-module _ {service : Service} {M N P : Type 0} (m : Machines service M N P) (start : Start M N P) where
+module _ {service : Service} {M N P E : Type 0} (m : Machines service M N P E) (start : Start M N E) where
   -- ---- it begins
 
   pub lanes_begin_entry : (before : List (RegisterItem service.Asked service.Verdict)) (e : Entry service.Asked service.Verdict)
-      (v : HallView service M N P) (task : service.Task) → MayServe m start before e v → service.turns e.asked e.verdict ≡ each_lane task
+      (v : HallView service M N E) (task : service.Task) → MayServe m start before e v → service.turns e.asked e.verdict ≡ each_lane task
       → IsServingLanes m start (count_of service before) (part_of e.place Only task) 0 [] v v
   lanes_begin_entry before e v task may is =
       let mine : v.claims ≡ claims_from (count_of service before) 0 (service.lanes - 0) ++ [] =
@@ -79,18 +79,18 @@ module _ {service : Service} {M N P : Type 0} (m : Machines service M N P) (star
         kept = λ q held. same_list_refl q v.seen;
       }
 
-  pub lanes_begin_cut : (place : ℕ) (v w : HallView service M N P) → (d : HasDrawnCut m start place v w)
+  pub lanes_begin_cut : (place : ℕ) (v w : HallView service M N E) → (d : HasDrawnCut m start place v w)
       → IsServingLanes m start (count_of service d.before.register) (cut_of (drawn d.before.register) (places d.before.register)) 0 v.claims
       w w
   lanes_begin_cut place v w d =
       let t = d.turned in
       let item : RegisterItem service.Asked service.Verdict = DrawnCut (drawn d.before.register) (places d.before.register) in
       let count : ℕ → ℕ = count_of service d.before.register in
-      let seen : w.seen ≡ t.seen = ap (λ (x : HallView service M N P). x.seen) t.is in
+      let seen : w.seen ≡ t.seen = ap (λ (x : HallView service M N E). x.seen) t.is in
       let here : w.seen.register ≡ d.before.register ++ item ∷ [] =
-      ap (λ (h : SeenLists service). h.register) seen ∙ sym t.same ∙ ap (λ (h : SeenLists service). h.register ++ item ∷ []) d.before_is in
+      ap (λ (h : SeenLists service N). h.register) seen ∙ sym t.same ∙ ap (λ (h : SeenLists service N). h.register ++ item ∷ []) d.before_is in
       let fresh : w ≡ seeing w w.claims w.seen =
-      subst (λ (x : HallView service M N P). x ≡ seeing x x.claims x.seen) (sym t.is) refl in record {
+      subst (λ (x : HallView service M N E). x ≡ seeing x x.claims x.seen) (sym t.is) refl in record {
         is = fresh ∙ (λ i. seeing w (d.is_claims i) w.seen) ∙ (λ i. seeing w (from_first count service.lanes i ++ v.claims) w.seen);
         few = omega arith;
         tickets = λ l below. ap (λ (register : List (RegisterItem service.Asked service.Verdict)). slice_get (issued service l register)
@@ -99,17 +99,17 @@ module _ {service : Service} {M N P : Type 0} (m : Machines service M N P) (star
         passed = λ l under. absurd (omega (arith, under));
         longer = begins_refl w.seen;
         own_same = λ x named. refl;
-        legal = subst (λ (h : SeenLists service). IsLegal service (world_of m start) (history_of service h)) (sym seen) t.legal;
+        legal = subst (λ (h : SeenLists service N). IsLegal service (world_of m start) (history_of service h)) (sym seen) t.legal;
         kept = λ q held. same_list_refl q w.seen;
       }
 
   -- ---- it goes on
 
-  module _ (count : ℕ → ℕ) (ticket : Ticket service.Task) (lane : ℕ) (others : List Claim) (v w : HallView service M N P)
+  module _ (count : ℕ → ℕ) (ticket : Ticket service.Task) (lane : ℕ) (others : List Claim) (v w : HallView service M N E)
       (s : IsServingLanes m start count ticket lane others v w) where
     next_claim : lane < service.lanes
         → w.claims ≡ claim (OfLane lane) (count lane) false ∷ (claims_from count (lane + 1) (service.lanes - (lane + 1)) ++ others)
-    next_claim below = ap (λ (x : HallView service M N P). x.claims) s.is
+    next_claim below = ap (λ (x : HallView service M N E). x.claims) s.is
         ∙ ap (λ cs. cs ++ others) (claims_next count lane service.lanes below)
 
     others_are : lane < service.lanes → others_of w.claims ≡ claims_from count (lane + 1) (service.lanes - (lane + 1)) ++ others
@@ -120,9 +120,9 @@ module _ {service : Service} {M N P : Type 0} (m : Machines service M N P) (star
 
     pub is_pass : IsPass start v → IsPass start w
     is_pass pass = record {
-      live = ap (λ (x : HallView service M N P). x.live) s.is ∙ pass.live;
-      no_guests = ap (λ (x : HallView service M N P). x.guests) s.is;
-      begun = ap (λ (x : HallView service M N P). x.start) s.is ∙ pass.begun;
+      live = ap (λ (x : HallView service M N E). x.live) s.is ∙ pass.live;
+      no_guests = ap (λ (x : HallView service M N E). x.guests) s.is;
+      begun = ap (λ (x : HallView service M N E). x.start) s.is ∙ pass.begun;
     }
 
     -- of the tickets that wait none is held
@@ -163,12 +163,12 @@ module _ {service : Service} {M N P : Type 0} (m : Machines service M N P) (star
         to_skip = refl;
       }
 
-    pub lanes_go_on : (u : HallView service M N P) (item : LaneItem service.Task service.Reply) → lane < service.lanes
-        → ticket_of item ≡ ticket → IsIn (lane_of u.seen.lanes lane) item → HasTurned m start (at_lane lane item) (others_of w.claims) w u → GrowsFrom u.seen w.seen
+    pub lanes_go_on : (u : HallView service M N E) (item : LaneItem service.Task service.Reply) (owner : N) → lane < service.lanes
+        → ticket_of item ≡ ticket → IsIn (lane_of u.seen.lanes lane) item → HasTurned m start (at_lane lane item owner) (others_of w.claims) w u → GrowsFrom u.seen w.seen
         → IsServingLanes m start count ticket (lane + 1) others v u
-    lanes_go_on u item below told here t longer =
-        let seen : u.seen ≡ t.seen = ap (λ (x : HallView service M N P). x.seen) t.is in
-        let same_names : names v ≡ names w = ap (λ (x : HallView service M N P). names x) (sym s.is) in record {
+    lanes_go_on u item owner below told here t longer =
+        let seen : u.seen ≡ t.seen = ap (λ (x : HallView service M N E). x.seen) t.is in
+        let same_names : names v ≡ names w = ap (λ (x : HallView service M N E). names x) (sym s.is) in record {
           is = t.is ∙ (λ i. seeing (s.is i) (others_are below i) (sym seen i));
           few = omega arith;
           tickets = λ l under. ap (λ (register : List (RegisterItem service.Asked service.Verdict)). slice_get (issued service l register)
@@ -181,8 +181,8 @@ module _ {service : Service} {M N P : Type 0} (m : Machines service M N P) (star
           longer = begins_trans u.seen w.seen v.seen longer s.longer;
           own_same = λ x named.
               let here = subst (λ ns. 0 < times x ns) same_names named in
-              ap (λ (h : SeenLists service). own x h.register) seen ∙ t.own_after x here ∙ t.own_before x here ∙ s.own_same x named;
-          legal = subst (λ (h : SeenLists service). IsLegal service (world_of m start) (history_of service h)) (sym seen) t.legal;
+              ap (λ (h : SeenLists service N). own x h.register) seen ∙ t.own_after x here ∙ t.own_before x here ∙ s.own_same x named;
+          legal = subst (λ (h : SeenLists service N). IsLegal service (world_of m start) (history_of service h)) (sym seen) t.legal;
           kept = λ q held. same_list_trans q v.seen w.seen u.seen (s.kept q held) (still q held seen);
         }
       where
@@ -196,7 +196,7 @@ module _ {service : Service} {M N P : Type 0} (m : Machines service M N P) (star
     lanes_end all = s.is ∙ (λ i. seeing v (no_claims count lane service.lanes all i ++ others) w.seen)
 
   pub served_by_each : (before : List (RegisterItem service.Asked service.Verdict)) (e : Entry service.Asked service.Verdict)
-      (task : service.Task) (v w : HallView service M N P) → service.turns e.asked e.verdict ≡ each_lane task
+      (task : service.Task) (v w : HallView service M N E) → service.turns e.asked e.verdict ≡ each_lane task
       → IsServingLanes m start (count_of service before) (part_of e.place Only task) service.lanes [] v w
       → HasServed m start e (by_register e.verdict) v w
   served_by_each before e task v w is s = record {

@@ -59,11 +59,12 @@ with_ticket : {T R U : Type 0} (f : LaneItem T R → U) (news : LaneNews R) (fou
     → option_map f (lane_item found news) ≡ option_map f (lane_item (Some ticket) news)
 with_ticket f news found ticket is = ap (λ t. option_map f (lane_item t news)) is
 
-pub slots_tell : {service : Service} {M N P : Type 0} (m : Machines service M N P) (seen : SeenLists service) (by lane n : ℕ) (owner : N)
+pub slots_tell : {service : Service} {M N P E : Type 0} (m : Machines service M N P E) (seen : SeenLists service N) (by lane n : ℕ) (owner : N)
     → SlotsTell m seen by lane n owner
-slots_tell {service} m seen by lane n owner =
+slots_tell {service} {N = N} m seen by lane n owner =
     let found : Option (Ticket service.Task) = slice_get (issued service lane seen.register) n in
-    let f : LaneItem service.Task service.Reply → Item service.Asked service.Verdict service.Task service.Reply = at_lane lane in
+    let f : LaneItem service.Task service.Reply → Item service.Asked service.Verdict service.Task service.Reply N =
+    λ i. at_lane lane i owner in
     record {
       done = λ place part task reply ticket. with_ticket f (Acts (Done reply)) found (part_of place part task) ticket;
       short = λ place part task ticket. with_ticket f (Acts Short) found (part_of place part task) ticket;
@@ -71,9 +72,9 @@ slots_tell {service} m seen by lane n owner =
       cut = λ number place found_some ticket. with_ticket f (CutsLane found_some) found (cut_of number place) ticket;
     }
 
-module _ {service : Service} {M N P : Type 0} (m : Machines service M N P) (start : Start M N P) where
+module _ {service : Service} {M N P E : Type 0} (m : Machines service M N P E) (start : Start M N E) where
   -- whether it is to be skipped is known from the lists as they are when the turn comes
-  reached_as_told : (h seen : SeenLists service) (place : ℕ) (part : Part) (skip : Bool) (y : Outcome service.Reply) → GrowsFrom h seen
+  reached_as_told : (h seen : SeenLists service N) (place : ℕ) (part : Part) (skip : Bool) (y : Outcome service.Reply) → GrowsFrom h seen
       → IsToSkip service (history_of service seen) place part skip → is_skipped y ≡ skip
       → IsReached service (history_of service h) place part y
   reached_as_told h seen place Only skip y on told same = tt
@@ -86,13 +87,13 @@ module _ {service : Service} {M N P : Type 0} (m : Machines service M N P) (star
         ∙ told.3,
   )
 
-  ticket_on : (h seen : SeenLists service) (lane n : ℕ) (ticket : Ticket service.Task) → GrowsFrom h seen
+  ticket_on : (h seen : SeenLists service N) (lane n : ℕ) (ticket : Ticket service.Task) → GrowsFrom h seen
       → slice_get (issued service lane seen.register) n ≡ Some ticket → slice_get (issued service lane h.register) n ≡ Some ticket
   ticket_on h seen lane n ticket on is = ap (λ (register : List (RegisterItem service.Asked service.Verdict)). slice_get
       (issued service lane register) n) on.register.1 ∙ ticket_stays service lane n ticket seen.register on.register.0 is
 
   -- the ticket in hand is the lane's next when its turn has come
-  pub is_next : (lane n place : ℕ) (part : Part) (task : service.Task) (skip : Bool) (first taken : HallHand service M N P)
+  pub is_next : (lane n place : ℕ) (part : Part) (task : service.Task) (skip : Bool) (first taken : HallHand service M N P E)
       → MayAct service start lane n place part task skip first.0
       → (t : HasTaken m start (claim (OfLane lane) n false) (others_of first.0.claims) first taken)
       → IsNext service (history_of service t.seen) lane (part_of place part task)
@@ -102,17 +103,17 @@ module _ {service : Service} {M N P : Type 0} (m : Machines service M N P) (star
       (subst (λ (k : ℕ). slice_get (issued service lane t.seen.register) k ≡ Some (part_of place part task)) t.shown ticket)
 
   -- the owner has acted in its turn
-  lane_ready : (me : HallHand service M N P) (v : HallView service M N P) (h : SeenLists service) (lane n : ℕ) (others : List Claim)
+  lane_ready : (me : HallHand service M N P E) (v : HallView service M N E) (h : SeenLists service N) (lane n : ℕ) (others : List Claim)
       (more : List (ℕ × HallSlot service M N P)) (d d' : LaneSlot N service.Reply) (i : LaneItem service.Task service.Reply)
       → me ≡ (seeing v (claim (OfLane lane) n true ∷ others) h, (slot_of (OfLane lane), AtLane d') ∷ more) → IsPass start v
       → and_then d'.news (lane_item (slice_get (issued service lane h.register) n)) ≡ Some i
-      → lane < length start.owners → length h.lanes ≡ length start.owners → IsOwnerOf m start lane (lane_of h.lanes lane) d.owner
+      → lane < length start.owners → length h.lanes ≡ length start.owners → IsOwnerOf m start h lane d.owner
       → slice_get (issued service lane h.register) n ≡ Some (ticket_of i) → IsReachedBy service (history_of service h) i
       → IsLegalLaneItem service (m.owner d.owner) i → (is_cut_of_lane i ≡ true → 0 < total (holds OfDesk) others)
       → m.owner d'.owner ≡ objects_step service (m.owner d.owner) i → MarksLane m lane i d.owner d'.owner
-      → IsReadyToPass m start (at_lane lane i) me
+      → IsReadyToPass m start (at_lane lane i d'.owner) me
   lane_ready me v h lane n others more d d' i is pass news there count stands ticket reached may cuts went marks =
-      subst (IsReadyToPass m start (at_lane lane i)) (sym is) record {
+      subst (IsReadyToPass m start (at_lane lane i d'.owner)) (sym is) record {
         number = n;
         others = others;
         slot = AtLane d';
@@ -123,17 +124,15 @@ module _ {service : Service} {M N P : Type 0} (m : Machines service M N P) (star
         there = there;
         is_claim = refl;
         is_slot = refl;
-        news = ap (option_map (at_lane lane)) news;
+        news = ap (option_map (λ x. at_lane lane x d'.owner)) news;
         by = record { of_others = λ x ne h'. refl };
         next = (ticket, reached, subst (λ (o : service.Objects). IsLegalLaneItem service o i) stands.now may);
-        stands = subst (λ (items : LaneList service). IsOwnerOf m start lane items d'.owner)
-            (sym (lane_set_same h.lanes lane (lane_of h.lanes lane ++ i ∷ []) (omega arith)))
-            (owner_pushed_on m start lane (lane_of h.lanes lane) d.owner d'.owner i stands went marks);
+        stands = owner_pushed_on m start h lane d.owner d'.owner (omega arith) stands i went marks;
         cuts = cuts;
       }
 
   -- what is true of a turn of a lane, from the ticket on
-  module _ (lane n : ℕ) (first taken back : HallHand service M N P) (d d' : LaneSlot N service.Reply)
+  module _ (lane n : ℕ) (first taken back : HallHand service M N P E) (d d' : LaneSlot N service.Reply)
       (t : HasTaken m start (claim (OfLane lane) n false) (others_of first.0.claims) first taken) (here : t.slot ≡ AtLane d)
       (mine : back ≡ (
         seeing first.0 (claim (OfLane lane) n true ∷ others_of first.0.claims) t.seen,
@@ -146,8 +145,8 @@ module _ {service : Service} {M N P : Type 0} (m : Machines service M N P) (star
           → IsLegalOutcome service (m.owner d.owner) part task (plain_outcome outcome)
           → m.owner d'.owner ≡ objects_step service (m.owner d.owner) (Passed place part task (plain_outcome outcome))
           → is_skipped (plain_outcome outcome) ≡ skip
-          → ((o : service.Objects) → m.OwnerIsSince d.owner lane o → m.OwnerIsSince d'.owner lane o)
-          → IsReadyToPass m start (at_lane lane (Passed place part task (plain_outcome outcome))) back
+          → ((was : N) → m.OwnerIsSince d.owner lane was → m.OwnerIsSince d'.owner lane was)
+          → IsReadyToPass m start (at_lane lane (Passed place part task (plain_outcome outcome)) d'.owner) back
       lane_done place part task skip outcome may news answered went skips marks =
           let ticket = ticket_on t.seen first.0.seen lane n (part_of place part task) t.grown.begins may.ticket in
           lane_ready back first.0 t.seen lane n (others_of first.0.claims) first.1 d d' (Passed place part task (plain_outcome outcome))
@@ -161,7 +160,7 @@ module _ {service : Service} {M N P : Type 0} (m : Machines service M N P) (star
       pub lane_cut_done : (cut place : ℕ) (found : Bool) → MayCutLane service start lane n cut place first.0
           → d'.news ≡ Some (CutsLane found) → m.owner d'.owner ≡ m.owner d.owner
           → MarksLane m lane (WasCut cut place found) d.owner d'.owner
-          → IsReadyToPass m start (at_lane lane (WasCut cut place found)) back
+          → IsReadyToPass m start (at_lane lane (WasCut cut place found) d'.owner) back
       lane_cut_done cut place found may news went marks =
           let ticket = ticket_on t.seen first.0.seen lane n (cut_of cut place) t.grown.begins may.ticket in
           lane_ready back first.0 t.seen lane n (others_of first.0.claims) first.1 d d' (WasCut cut place found) mine may.pass
@@ -169,14 +168,14 @@ module _ {service : Service} {M N P : Type 0} (m : Machines service M N P) (star
           (lane_stands m start lane n (others_of first.0.claims) first taken d t here) ticket tt tt (λ _. may.desk) went marks
 
   -- the item of a turn lies in the lane's list
-  module _ (lane n : ℕ) (item : LaneItem service.Task service.Reply) (first taken back : HallHand service M N P)
-      (w : HallView service M N P)
+  module _ (lane n : ℕ) (item : LaneItem service.Task service.Reply) (owner : N) (first taken back : HallHand service M N P E)
+      (w : HallView service M N E)
       (pass : IsPass start first.0) (there : lane < length start.owners)
       (t : HasTaken m start (claim (OfLane lane) n false) (others_of first.0.claims) first taken)
       (mine : back.0 ≡ seeing first.0 (claim (OfLane lane) n true ∷ others_of first.0.claims) t.seen)
-      (p : HasPassed m start (at_lane lane item) back.0 w) where
-    whole : (tu : HasTurned m start (at_lane lane item) (others_of first.0.claims) first.0 w) × (tu.before ≡ t.seen)
-    whole = turned m start (at_lane lane item) n (others_of first.0.claims) first taken back w pass.no_guests t mine p
+      (p : HasPassed m start (at_lane lane item owner) back.0 w) where
+    whole : (tu : HasTurned m start (at_lane lane item owner) (others_of first.0.claims) first.0 w) × (tu.before ≡ t.seen)
+    whole = turned m start (at_lane lane item owner) n (others_of first.0.claims) first taken back w pass.no_guests t mine p
 
     in_list : IsIn (lane_of w.seen.lanes lane) item
     in_list =
@@ -184,8 +183,8 @@ module _ {service : Service} {M N P : Type 0} (m : Machines service M N P) (star
         let tu = whole in
         let before : LaneList service = lane_of t.seen.lanes lane in
         let list : lane_of w.seen.lanes lane ≡ before ++ item ∷ [] =
-        ap (λ (x : HallView service M N P). lane_of x.seen.lanes lane) tu.0.is ∙ sym tu.0.same
-        ∙ ap (λ (h : SeenLists service). lane_of (set h.lanes lane (lane_of h.lanes lane ++ item ∷ [])) lane) tu.1
+        ap (λ (x : HallView service M N E). lane_of x.seen.lanes lane) tu.0.is ∙ sym tu.0.same.0
+        ∙ ap (λ (h : SeenLists service N). lane_of (set h.lanes lane (lane_of h.lanes lane ++ item ∷ [])) lane) tu.1
         ∙ lane_set_same t.seen.lanes lane (before ++ item ∷ []) (omega arith) in
         subst (λ (l : LaneList service). IsIn l item) (sym list) (in_back before (item ∷ []) item (inl refl))
 
@@ -193,40 +192,41 @@ module _ {service : Service} {M N P : Type 0} (m : Machines service M N P) (star
     grew =
         let count = t.sized in
         let tu = whole in
-        subst (λ (h : SeenLists service). GrowsFrom h first.0.seen) (sym (ap (λ (x : HallView service M N P). x.seen) tu.0.is))
-        (begins_trans tu.0.seen (pushed tu.0.before (at_lane lane item)) first.0.seen tu.0.longer
-        (subst (λ (h : SeenLists service). GrowsFrom (pushed h (at_lane lane item)) first.0.seen) (sym tu.1)
-        (begins_trans (pushed t.seen (at_lane lane item)) t.seen first.0.seen (begins_pushed t.seen (at_lane lane item) (omega arith))
+        subst (λ (h : SeenLists service N). GrowsFrom h first.0.seen) (sym (ap (λ (x : HallView service M N E). x.seen) tu.0.is))
+        (begins_trans tu.0.seen (pushed tu.0.before (at_lane lane item owner)) first.0.seen tu.0.longer
+        (subst (λ (h : SeenLists service N). GrowsFrom (pushed h (at_lane lane item owner)) first.0.seen) (sym tu.1)
+        (begins_trans (pushed t.seen (at_lane lane item owner)) t.seen first.0.seen (begins_pushed t.seen (at_lane lane item owner) (omega arith))
         t.grown.begins)))
 
-  pub lane_acted : (lane n place : ℕ) (part : Part) (task : service.Task) (skip : Bool) (outcome : Outcome service.Reply)
-      (first taken back : HallHand service M N P) (w : HallView service M N P) → MayAct service start lane n place part task skip first.0
+  pub lane_acted : (lane n place : ℕ) (part : Part) (task : service.Task) (skip : Bool) (outcome : Outcome service.Reply) (owner : N)
+      (first taken back : HallHand service M N P E) (w : HallView service M N E) → MayAct service start lane n place part task skip first.0
       → (t : HasTaken m start (claim (OfLane lane) n false) (others_of first.0.claims) first taken)
       → back.0 ≡ seeing first.0 (claim (OfLane lane) n true ∷ others_of first.0.claims) t.seen
-      → HasPassed m start (at_lane lane (Passed place part task outcome)) back.0 w
+      → HasPassed m start (at_lane lane (Passed place part task outcome) owner) back.0 w
       → (k : HasActed m start lane place part task outcome first.0 w) × (k.turned.before ≡ t.seen)
-  lane_acted lane n place part task skip outcome first taken back w may t mine p =
+  lane_acted lane n place part task skip outcome owner first taken back w may t mine p =
       let item : LaneItem service.Task service.Reply = Passed place part task outcome in (
         record {
-          turned = (whole lane n item first taken back w may.pass may.there t mine p).0;
-          longer = grew lane n item first taken back w may.pass may.there t mine p;
-          here = in_list lane n item first taken back w may.pass may.there t mine p;
+          owner = owner;
+          turned = (whole lane n item owner first taken back w may.pass may.there t mine p).0;
+          longer = grew lane n item owner first taken back w may.pass may.there t mine p;
+          here = in_list lane n item owner first taken back w may.pass may.there t mine p;
         },
-        (whole lane n item first taken back w may.pass may.there t mine p).1,
+        (whole lane n item owner first taken back w may.pass may.there t mine p).1,
       )
 
-  pub lane_was_cut : (lane n cut place : ℕ) (found : Bool) (first taken back : HallHand service M N P) (w : HallView service M N P)
+  pub lane_was_cut : (lane n cut place : ℕ) (found : Bool) (owner : N) (first taken back : HallHand service M N P E) (w : HallView service M N E)
       → MayCutLane service start lane n cut place first.0
       → (t : HasTaken m start (claim (OfLane lane) n false) (others_of first.0.claims) first taken)
       → back.0 ≡ seeing first.0 (claim (OfLane lane) n true ∷ others_of first.0.claims) t.seen
-      → HasPassed m start (at_lane lane (WasCut cut place found)) back.0 w
-      → (k : HasCutLane m start lane cut place found first.0 w) × (k.turned.before ≡ t.seen)
-  lane_was_cut lane n cut place found first taken back w may t mine p =
+      → HasPassed m start (at_lane lane (WasCut cut place found) owner) back.0 w
+      → (k : HasCutLane m start lane cut place found owner first.0 w) × (k.turned.before ≡ t.seen)
+  lane_was_cut lane n cut place found owner first taken back w may t mine p =
       let item : LaneItem service.Task service.Reply = WasCut cut place found in (
         record {
-          turned = (whole lane n item first taken back w may.pass may.there t mine p).0;
-          longer = grew lane n item first taken back w may.pass may.there t mine p;
-          here = in_list lane n item first taken back w may.pass may.there t mine p;
+          turned = (whole lane n item owner first taken back w may.pass may.there t mine p).0;
+          longer = grew lane n item owner first taken back w may.pass may.there t mine p;
+          here = in_list lane n item owner first taken back w may.pass may.there t mine p;
         },
-        (whole lane n item first taken back w may.pass may.there t mine p).1,
+        (whole lane n item owner first taken back w may.pass may.there t mine p).1,
       )

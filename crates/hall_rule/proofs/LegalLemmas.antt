@@ -24,7 +24,8 @@ use Rattle.lane_histories.proofs.Tickets.{ticket_stays, next_by_number}
 use Rattle.lane_histories.proofs.Lists.{in_longer}
 
 -- the lists with one item more of a lane are those of the history with it
-module _ (service : Service) (h : SeenLists service) (lane : ℕ) (i : LaneItem service.Task service.Reply) (is : lane < length h.lanes) where
+module _ (service : Service) {N : Type 0} (h : SeenLists service N) (lane : ℕ) (i : LaneItem service.Task service.Reply) (owner : N)
+    (is : lane < length h.lanes) where
   abbrev new : List (LaneItem service.Task service.Reply)
   new = lane_of h.lanes lane ++ i ∷ []
 
@@ -35,39 +36,39 @@ module _ (service : Service) (h : SeenLists service) (lane : ℕ) (i : LaneItem 
       (λ ne. lane_set_other h.lanes lane l new (λ e. ne (sym e))
       ∙ sym (ap (λ (b : Bool). cond b new (lane_of h.lanes l)) (ne_eqb lane l ne)))
 
-  pub history_with : history_of service (pushed h (at_lane lane i)) ≡ with_lane_item (history_of service h) lane i
+  pub history_with : history_of service (pushed h (at_lane lane i owner)) ≡ with_lane_item (history_of service h) lane i
   history_with k = record { register = h.register; lane = λ l. lanes_with l k; keepings = h.keepings }
 
-module _ (service : Service) (world : World service) (lanes : ℕ) where
-  next_ticket : (n lane : ℕ) (h : SeenLists service) (i : LaneItem service.Task service.Reply) → n ≡ length (lane_of h.lanes lane)
+module _ (service : Service) {N : Type 0} (world : World service) (lanes : ℕ) where
+  next_ticket : (n lane : ℕ) (h : SeenLists service N) (i : LaneItem service.Task service.Reply) → n ≡ length (lane_of h.lanes lane)
       → slice_get (issued service lane h.register) n ≡ Some (ticket_of i) → IsLegal service world (history_of service h)
       → IsNext service (history_of service h) lane (ticket_of i)
   next_ticket n lane h i here ticket legal = next_by_number service (history_of service h) lane (ticket_of i) (legal.in_order lane)
       (subst (λ (k : ℕ). slice_get (issued service lane h.register) k ≡ Some (ticket_of i)) here ticket)
 
-  pub legal_pushed : (n : ℕ) (h : SeenLists service) (item : Item service.Asked service.Verdict service.Task service.Reply)
+  pub legal_pushed : (n : ℕ) (h : SeenLists service N) (item : Item service.Asked service.Verdict service.Task service.Reply N)
       → IsQueue (length h.lanes) (queue_of item) → n ≡ len_of h (queue_of item) → MayJoinList service world lanes n h item
       → IsLegal service world (history_of service h) → SecondsFollow service (history_of service h).lane
       → IsLegal service world (history_of service (pushed h item))
   legal_pushed n h (at_register e) is here may legal seconds = register_pushed service world (history_of service h) legal e may.0
   legal_pushed n h (at_desk k) is here may legal seconds = keeping_pushed service world (history_of service h) legal k
-  legal_pushed n h (at_lane lane i) is here may legal seconds =
-      subst (IsLegal service world) (sym (history_with service h lane i is))
+  legal_pushed n h (at_lane lane i owner) is here may legal seconds =
+      subst (IsLegal service world) (sym (history_with service h lane i owner is))
       (lane_pushed service world (history_of service h) legal lane i (next_ticket n lane h i here may.0 legal) seconds
       may.1 may.2)
 
-  pub seconds_pushed_by : (n : ℕ) (h : SeenLists service) (item : Item service.Asked service.Verdict service.Task service.Reply)
+  pub seconds_pushed_by : (n : ℕ) (h : SeenLists service N) (item : Item service.Asked service.Verdict service.Task service.Reply N)
       → IsQueue (length h.lanes) (queue_of item) → n ≡ len_of h (queue_of item) → MayJoinList service world lanes n h item
       → IsLegal service world (history_of service h) → SecondsFollow service (history_of service h).lane
       → SecondsFollow service (history_of service (pushed h item)).lane
   seconds_pushed_by n h (at_register e) is here may legal seconds = seconds
   seconds_pushed_by n h (at_desk k) is here may legal seconds = seconds
-  seconds_pushed_by n h (at_lane lane i) is here may legal seconds =
-      subst (λ (g : History service). SecondsFollow service g.lane) (sym (history_with service h lane i is))
+  seconds_pushed_by n h (at_lane lane i owner) is here may legal seconds =
+      subst (λ (g : History service). SecondsFollow service g.lane) (sym (history_with service h lane i owner is))
       (seconds_pushed service world (history_of service h) legal lane i (next_ticket n lane h i here may.0 legal) seconds
       may.1)
 
-  reached_on : (h seen : SeenLists service) → GrowsFrom h seen → (i : LaneItem service.Task service.Reply)
+  reached_on : (h seen : SeenLists service N) → GrowsFrom h seen → (i : LaneItem service.Task service.Reply)
       → IsReachedBy service (history_of service seen) i → IsReachedBy service (history_of service h) i
   reached_on h seen on (Passed place Only task y) r = tt
   reached_on h seen on (Passed place First task y) r = tt
@@ -76,7 +77,7 @@ module _ (service : Service) (world : World service) (lanes : ℕ) where
   reached_on h seen on (WasCut number at found) r = tt
 
   -- what may come next behind the lists as a pass has seen them may come behind those of the hall
-  pub may_come_on : (n : ℕ) (h seen : SeenLists service) (item : Item service.Asked service.Verdict service.Task service.Reply)
+  pub may_come_on : (n : ℕ) (h seen : SeenLists service N) (item : Item service.Asked service.Verdict service.Task service.Reply N)
       → GrowsFrom h seen → SameList (queue_of item) seen h → MayJoinList service world lanes n seen item
       → MayJoinList service world lanes n h item
   may_come_on n h seen (at_register e) on same may = (
@@ -85,31 +86,31 @@ module _ (service : Service) (world : World service) (lanes : ℕ) where
     may.1,
   )
   may_come_on n h seen (at_desk k) on same may = tt
-  may_come_on n h seen (at_lane lane i) on same may = (
+  may_come_on n h seen (at_lane lane i owner) on same may = (
     ap (λ (register : List (RegisterItem service.Asked service.Verdict)). slice_get (issued service lane register) n) on.register.1
         ∙ ticket_stays service lane n (ticket_of i) seen.register on.register.0 may.0,
     reached_on h seen on i may.1,
     subst (λ (items : List (LaneItem service.Task service.Reply)). IsLegalLaneItem service
-        (objects_after service (world.objects lane) items) i) same may.2,
+        (objects_after service (world.objects lane) items) i) same.0 may.2,
   )
 
-module _ (service : Service) (world : World service) where
-  nothing_lane : (n l : ℕ) → (history_of service (nothing n)).lane l ≡ []
-  nothing_lane n l = lane_nothing n l
+module _ (service : Service) {N : Type 0} (world : World service) where
+  nothing_lane : (owners : List N) (l : ℕ) → (history_of service (nothing owners)).lane l ≡ []
+  nothing_lane owners l = lane_nothing (length owners) l
 
-  pub legal_nothing : (n : ℕ) → IsLegal service world (history_of service (nothing n))
-  legal_nothing n = record {
+  pub legal_nothing : (owners : List N) → IsLegal service world (history_of service (nothing owners))
+  legal_nothing owners = record {
     register = tt;
     lanes = λ l. subst (λ (items : List (LaneItem service.Task service.Reply)). Rattle.lane_histories.specs.Legal.IsLegalLane service
-        (world.objects l) items) (sym (nothing_lane n l)) tt;
-    in_order = λ l. subst (λ (items : List (LaneItem service.Task service.Reply)). StartsWith [] (tickets items)) (sym (nothing_lane n l))
+        (world.objects l) items) (sym (nothing_lane owners l)) tt;
+    in_order = λ l. subst (λ (items : List (LaneItem service.Task service.Reply)). StartsWith [] (tickets items)) (sym (nothing_lane owners l))
         ([], refl);
     pairs = λ a b place task next x y first second. absurd
         (subst (λ (items : List (LaneItem service.Task service.Reply)). Rattle.lane_histories.specs.Histories.IsIn items
-        (Passed place First task x)) (nothing_lane n a) first);
+        (Passed place First task x)) (nothing_lane owners a) first);
   }
 
-  pub seconds_nothing : (n : ℕ) → SecondsFollow service (history_of service (nothing n)).lane
-  seconds_nothing n a b place next y second = absurd
+  pub seconds_nothing : (owners : List N) → SecondsFollow service (history_of service (nothing owners)).lane
+  seconds_nothing owners a b place next y second = absurd
       (subst (λ (items : List (LaneItem service.Task service.Reply)). Rattle.lane_histories.specs.Histories.IsIn items
-      (Passed place (Second a) next y)) (nothing_lane n b) second)
+      (Passed place (Second a) next y)) (nothing_lane owners b) second)

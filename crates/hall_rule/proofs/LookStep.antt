@@ -27,17 +27,17 @@ use Rattle.hall_rule.proofs.WordSteps.{same_words}
 use Rattle.hall_rule.proofs.ClaimSteps.{claimed_set, claims_stay, turn_free, claims_look}
 use Rattle.hall_rule.proofs.FitLemmas.{named_once, names_stay, views_set, same_views, view_seeing, grown}
 
-module _ {service : Service} {M N P : Type 0} (m : Machines service M N P) (passes : ℕ) (start : Start M N P) where
+module _ {service : Service} {M N P E : Type 0} (m : Machines service M N P E) (passes : ℕ) (start : Start M N E) where
   -- a load that changes no view keeps the rule
-  pub stays : (s : HallState service M N P) (i id : ℕ) (v : HallView service M N P) → FollowsRule m passes start s
+  pub stays : (s : HallState service M N P E) (i id : ℕ) (v : HallView service M N E) → FollowsRule m passes start s
       → get_elem? s.views id ≡ some v → FollowsRule m passes start
       (record { words = set s.words i (get_or s.words i 0); homes = s.homes; views = set s.views id v })
-  stays s i id v r at = subst (λ (x : List ℕ × List (HallView service M N P)). FollowsRule m passes start
+  stays s i id v r at = subst (λ (x : List ℕ × List (HallView service M N E)). FollowsRule m passes start
       (record { words = x.0; homes = s.homes; views = x.1 })) (λ k. (sym (same_words s.words i) k, sym (same_views s.views id v at) k)) r
 
   -- the slot is out, and no other turn is taken
-  homes_taken : (h : SeenLists service) (views : List (HallView service M N P)) (homes : List (maybe.Option (HallSlot service M N P)))
-      (id : ℕ) (v w : HallView service M N P) (q : Queue) (n : ℕ) (others : List Claim)
+  homes_taken : (h : SeenLists service N) (views : List (HallView service M N E)) (homes : List (maybe.Option (HallSlot service M N P)))
+      (id : ℕ) (v w : HallView service M N E) (q : Queue) (n : ℕ) (others : List Claim)
       → get_elem? views id ≡ some v → v.claims ≡ claim q n false ∷ others → w.claims ≡ claim q n true ∷ others
       → AreAtHome m start h views homes → AreAtHome m start h (set views id w) (set homes (slot_of q) none)
   homes_taken h views homes id v w q n others at mine new ok = record {
@@ -55,7 +55,7 @@ module _ {service : Service} {M N P : Type 0} (m : Machines service M N P) (pass
         (same_or_apart q q');
   }
 
-  pub looks : (slots id : ℕ) (me : HallHand service M N P) (q : Queue) (n : ℕ) (others : List Claim) → me.0.live ≡ true
+  pub looks : (slots id : ℕ) (me : HallHand service M N P E) (q : Queue) (n : ℕ) (others : List Claim) → me.0.live ≡ true
       → IsQueue (length start.owners) q → me.0.claims ≡ claim q n false ∷ others → cond (is_desk q) 0 1 + total busy others ≤ 1
       → Allows (FollowsRule m passes start) slots id me (word_of q) (λ n. n) (HasLooked m (step slots (word_of q) 0 0 none) me)
   looks slots id me q n others live is mine room s r deep at views_are =
@@ -79,17 +79,17 @@ module _ {service : Service} {M N P : Type 0} (m : Machines service M N P) (pass
             (sym mine) ((λ e lt. absurd (other e)), λ _. refl),
       ))
     where
-      takes_turn : get_or s.words (word_of q) 0 ≡ n → n < limit_of q → (w : HallView service M N P) × (a : Act (HallSlot service M N P))
+      takes_turn : get_or s.words (word_of q) 0 ≡ n → n < limit_of q → (w : HallView service M N E) × (a : Act (HallSlot service M N P))
           × Valid s.homes me.1 a × FollowsRule m passes start (stepped s (word_of q) (get_or s.words (word_of q) 0) id me.1 w a)
           × HasLooked m (step slots (word_of q) 0 0 none) me (get_or s.words (word_of q) 0) (w, carried_after me.1 a)
       takes_turn mine_now early =
-          let h : SeenLists service = r.history in
+          let h : SeenLists service N = r.history in
           let here : n ≡ len_of h q = sym mine_now ∙ r.words_show.shows q is in
           let free = turn_free (next_of service r.register_next r.desk_next h) (len_of h) s.views id me.0 q n others at mine here
           r.claims_once in
           let home = r.homes_are.home q is free in
           let claims : List Claim = claim q n true ∷ others in
-          let w : HallView service M N P = seeing me.0 claims h in
+          let w : HallView service M N E = seeing me.0 claims h in
           let f = r.views_are id me.0 at in
           let register : total (numbers OfRegister) me.0.claims ≡ total (numbers OfRegister) claims =
           ap (total (numbers OfRegister)) mine in
@@ -138,7 +138,7 @@ module _ {service : Service} {M N P : Type 0} (m : Machines service M N P) (pass
           )
 
   -- a look with nothing in hand
-  pub counts : (slots id : ℕ) (me : HallHand service M N P) → me.0.live ≡ true
+  pub counts : (slots id : ℕ) (me : HallHand service M N P E) → me.0.live ≡ true
       → Allows (FollowsRule m passes start) slots id me 2 (λ n. n) (HasCounted (step slots 2 0 0 none) me)
   counts slots id me live s r deep at views_are =
       let begun = starts_length r.history.register me.0.seen.register ((r.views_are id me.0 at).begins live).register in
@@ -146,7 +146,7 @@ module _ {service : Service} {M N P : Type 0} (m : Machines service M N P) (pass
       (me.0, keeps, tt, stays s 2 id me.0 r at, (refl, omega arith))
 
   -- a load before a split: what the rule says of spare numbers holds of what was seen
-  pub spares : (slots id : ℕ) (me : HallHand service M N P) → me.0.live ≡ true
+  pub spares : (slots id : ℕ) (me : HallHand service M N P E) → me.0.live ≡ true
       → Allows (FollowsRule m passes start) slots id me 0 (λ n. n) (HasSpared (step slots 0 0 0 none) me)
   spares slots id me live s r deep at views_are =
       let f = r.views_are id me.0 at in
@@ -159,12 +159,12 @@ module _ {service : Service} {M N P : Type 0} (m : Machines service M N P) (pass
       )
 
   -- the load after a join tells what the hall's lists are, and what the guest had seen of them
-  pub learns : (slots id : ℕ) (me : HallHand service M N P) → me.0.live ≡ true
+  pub learns : (slots id : ℕ) (me : HallHand service M N P E) → me.0.live ≡ true
       → Allows (FollowsRule m passes start) slots id me 0 (λ n. n) (HasLearnt m (step slots 0 0 0 none) me)
   learns slots id me live s r deep at views_are =
-      let h : SeenLists service = r.history in
+      let h : SeenLists service N = r.history in
       let f = r.views_are id me.0 at in
-      let w : HallView service M N P = seeing me.0 me.0.claims h in (
+      let w : HallView service M N E = seeing me.0 me.0.claims h in (
         w,
         keeps,
         tt,

@@ -27,7 +27,7 @@ use Rattle.hall_rule.specs.Steps.{HasPassed, others_of, head_news, PassesTurn}
 use Rattle.hall_rule.specs.WholeTurns.{IsBy, MayJoinList, IsReadyToPass}
 use Rattle.hall_rule.proofs.Sums.{total_two, total_append, once_le}
 use Rattle.hall_rule.proofs.QueueLemmas.{limit_small, Apart, same_self, same_or_apart, slot_in}
-use Rattle.hall_rule.proofs.SeenLemmas.{begins_trans, begins_pushed, begins_pushed_both, goes_pushed, goes_pushed_both, pushed_other}
+use Rattle.hall_rule.proofs.SeenLemmas.{begins_trans, begins_pushed, begins_pushed_both, goes_pushed, goes_pushed_both, pushed_other, was_pushed}
 use Rattle.hall_rule.proofs.SeenLemmas.{len_pushed, same_len, same_pushed, same_list_trans}
 use Rattle.hall_rule.proofs.ClaimLemmas.{issued_hold, issued_hold_at, issued_busy, issued_register, issued_desk, issued_at_register}
 use Rattle.hall_rule.proofs.ClaimLemmas.{issued_at_desk, issued_at_lane, count_pushed}
@@ -37,8 +37,8 @@ use Rattle.hall_rule.proofs.LegalLemmas.{legal_pushed, seconds_pushed_by, may_co
 use Rattle.hall_rule.proofs.StandingLemmas.{stands_on}
 use Rattle.hall_rule.proofs.FitLemmas.{spare_apart, names_stay, named_once, number_below, others_apart, views_set, view_on, view_seeing}
 
-module _ {Q V T R : Type 0} where
-  len_with : (h : Lists Q V T R) (item : Item Q V T R) → IsQueue (length h.lanes) (queue_of item) → (q : Queue)
+module _ {Q V T R N : Type 0} where
+  len_with : (h : Lists Q V T R N) (item : Item Q V T R N) → IsQueue (length h.lanes) (queue_of item) → (q : Queue)
       → len_of (pushed h item) q ≡ len_of h q + cond (same_queue (queue_of item) q) 1 0
   len_with h item is q = ⊎_elim
       (λ (e : queue_of item ≡ q). subst (λ (x : Queue). len_of (pushed h item) x ≡ len_of h x + cond (same_queue (queue_of item) x) 1 0) e
@@ -48,15 +48,15 @@ module _ {Q V T R : Type 0} where
       (same_or_apart (queue_of item) q)
 
   -- what the pass has seen and the item have the same entries of a pass as the hall's list
-  own_pushed : (h seen : Lists Q V T R) (item : Item Q V T R) (x : ℕ) → SameList (queue_of item) seen h
+  own_pushed : (h seen : Lists Q V T R N) (item : Item Q V T R N) (x : ℕ) → SameList (queue_of item) seen h
       → own x h.register ≡ own x seen.register → own x (pushed h item).register ≡ own x (pushed seen item).register
   own_pushed h seen (at_register e) x same old = ap (λ register. own x (register ++ e ∷ [])) (sym same)
   own_pushed h seen (at_desk k) x same old = old
-  own_pushed h seen (at_lane lane i) x same old = old
+  own_pushed h seen (at_lane lane i owner) x same old = old
 
-module _ (service : Service) where
+module _ (service : Service) {N : Type 0} where
   -- the tickets that an item issues are those between the old and the new next numbers
-  issued_next : (d k : ℕ) (h seen : SeenLists service) (item : Item service.Asked service.Verdict service.Task service.Reply)
+  issued_next : (d k : ℕ) (h seen : SeenLists service N) (item : Item service.Asked service.Verdict service.Task service.Reply N)
       → SameList (queue_of item) seen h
       → (q : Queue) (n : ℕ) → total (waits q n) (issued_by service seen item) + once_below n (next_of service d k h q)
       ≡ once_below n (next_of service d k (pushed h item) q)
@@ -77,48 +77,49 @@ module _ (service : Service) where
   issued_next d k h seen (at_desk w) same OfRegister n = omega arith
   issued_next d k h seen (at_desk w) same OfDesk n = omega arith
   issued_next d k h seen (at_desk w) same (OfLane l) n = omega arith
-  issued_next d k h seen (at_lane lane i) same OfRegister n = omega arith
-  issued_next d k h seen (at_lane lane i) same OfDesk n = omega arith
-  issued_next d k h seen (at_lane lane i) same (OfLane l) n = omega arith
+  issued_next d k h seen (at_lane lane i owner) same OfRegister n = omega arith
+  issued_next d k h seen (at_lane lane i owner) same OfDesk n = omega arith
+  issued_next d k h seen (at_lane lane i owner) same (OfLane l) n = omega arith
 
-  module _ (seen : SeenLists service) where
-    new_hold : (item : Item service.Asked service.Verdict service.Task service.Reply) (q : Queue)
+  module _ (seen : SeenLists service N) where
+    new_hold : (item : Item service.Asked service.Verdict service.Task service.Reply N) (q : Queue)
         → total (holds q) (issued_by service seen item) ≡ 0
     new_hold (at_register e) q = issued_hold q (count_of service seen.register) (lanes_issued service e)
     new_hold (at_desk k) q = refl
-    new_hold (at_lane lane i) q = refl
+    new_hold (at_lane lane i owner) q = refl
 
-    new_hold_at : (item : Item service.Asked service.Verdict service.Task service.Reply) (q : Queue) (n : ℕ)
+    new_hold_at : (item : Item service.Asked service.Verdict service.Task service.Reply N) (q : Queue) (n : ℕ)
         → total (holds_at q n) (issued_by service seen item) ≡ 0
     new_hold_at (at_register e) q n = issued_hold_at q n (count_of service seen.register) (lanes_issued service e)
     new_hold_at (at_desk k) q n = refl
-    new_hold_at (at_lane lane i) q n = refl
+    new_hold_at (at_lane lane i owner) q n = refl
 
-    pub new_busy : (item : Item service.Asked service.Verdict service.Task service.Reply) → total busy (issued_by service seen item) ≡ 0
+    pub new_busy : (item : Item service.Asked service.Verdict service.Task service.Reply N) → total busy (issued_by service seen item) ≡ 0
     new_busy (at_register e) = issued_busy (count_of service seen.register) (lanes_issued service e)
     new_busy (at_desk k) = refl
-    new_busy (at_lane lane i) = refl
+    new_busy (at_lane lane i owner) = refl
 
-    pub new_register : (item : Item service.Asked service.Verdict service.Task service.Reply)
+    pub new_register : (item : Item service.Asked service.Verdict service.Task service.Reply N)
         → total (numbers OfRegister) (issued_by service seen item) ≡ 0
     new_register (at_register e) = issued_register (count_of service seen.register) (lanes_issued service e)
     new_register (at_desk k) = refl
-    new_register (at_lane lane i) = refl
+    new_register (at_lane lane i owner) = refl
 
-    pub new_desk : (item : Item service.Asked service.Verdict service.Task service.Reply)
+    pub new_desk : (item : Item service.Asked service.Verdict service.Task service.Reply N)
         → total (numbers OfDesk) (issued_by service seen item) ≡ 0
     new_desk (at_register e) = issued_desk (count_of service seen.register) (lanes_issued service e)
     new_desk (at_desk k) = refl
-    new_desk (at_lane lane i) = refl
+    new_desk (at_lane lane i owner) = refl
 
-module _ {service : Service} {M N P : Type 0} (m : Machines service M N P) (passes : ℕ) (start : Start M N P) where
-  history_pushed : (n : ℕ) (h : SeenLists service) (number : ℕ) (item : Item service.Asked service.Verdict service.Task service.Reply)
+module _ {service : Service} {M N P E : Type 0} (m : Machines service M N P E) (passes : ℕ) (start : Start M N E) where
+  history_pushed : (n : ℕ) (h : SeenLists service N) (number : ℕ) (item : Item service.Asked service.Verdict service.Task service.Reply N)
       → IsQueue (length h.lanes) (queue_of item) → IsBy number item → number < passes → n ≡ len_of h (queue_of item)
       → n < limit_of (queue_of item)
       → MayJoinList service (world_of m start) (length start.owners) n h item → IsHallHistory m passes start h
       → IsHallHistory m passes start (pushed h item)
   history_pushed n h number item is by below here early may ok = record {
     count = (begins_pushed h item is).sized ∙ ok.count;
+    was_count = was_pushed h item ∙ ok.was_count;
     legal = legal_pushed service (world_of m start) (length start.owners) n h item is here may ok.legal ok.seconds;
     seconds = seconds_pushed_by service (world_of m start) (length start.owners) n h item is here may ok.legal ok.seconds;
     short = λ q. ⊎_elim
@@ -135,21 +136,21 @@ no_cut true never = absurd (never refl)
 no_cut false never = refl
 
 -- a turn is held once at most
-pub one_holder : {Q V T R X : Type 0} (next len : Queue → ℕ) (views : List (View Q V T R X)) → AreClaimedOnce next len views → (q : Queue)
+pub one_holder : {Q V T R N X : Type 0} (next len : Queue → ℕ) (views : List (View Q V T R N X)) → AreClaimedOnce next len views → (q : Queue)
     → claimed (holds q) views ≤ 1
 one_holder next len views ok q = let a = ok.turns q in let b = ok.once q (len q) in let c = once_le (len q) (next q) in omega arith
 
 -- the desk's own item is no cut
-desk_uncut : {Q V T R : Type 0} (item : Item Q V T R) → queue_of item ≡ OfDesk → is_cut item ≡ false
+desk_uncut : {Q V T R N : Type 0} (item : Item Q V T R N) → queue_of item ≡ OfDesk → is_cut item ≡ false
 desk_uncut (at_register e) is = absurd (cc)
 desk_uncut (at_desk k) is = refl
-desk_uncut (at_lane lane i) is = absurd (cc)
+desk_uncut (at_lane lane i owner) is = absurd (cc)
 
-module _ {service : Service} {M N P : Type 0} (m : Machines service M N P) (passes : ℕ) (start : Start M N P) where
+module _ {service : Service} {M N P E : Type 0} (m : Machines service M N P E) (passes : ℕ) (start : Start M N E) where
   -- the slot is at home again, and its machine stands for the list with the item
-  homes_back : (h : SeenLists service) (item : Item service.Asked service.Verdict service.Task service.Reply)
-      (views : List (HallView service M N P)) (homes : List (maybe.Option (HallSlot service M N P))) (id : ℕ) (v w : HallView service M N P)
-      (n : ℕ) (seen : SeenLists service) (others : List Claim) (sl : HallSlot service M N P)
+  homes_back : (h : SeenLists service N) (item : Item service.Asked service.Verdict service.Task service.Reply N)
+      (views : List (HallView service M N E)) (homes : List (maybe.Option (HallSlot service M N P))) (id : ℕ) (v w : HallView service M N E)
+      (n : ℕ) (seen : SeenLists service N) (others : List Claim) (sl : HallSlot service M N P)
       → get_elem? views id ≡ some v → v.claims ≡ claim (queue_of item) n true ∷ others → w.claims ≡ issued_by service seen item ++ others
       → (is_cut item ≡ true → 0 < total (holds OfDesk) others) → IsQueue (length h.lanes) (queue_of item)
       → IsQueue (length start.owners) (queue_of item)
@@ -186,7 +187,7 @@ module _ {service : Service} {M N P : Type 0} (m : Machines service M N P) (pass
             (same_or_apart q q');
       }
 
-  pub passes_turn : (slots id : ℕ) (me : HallHand service M N P) (item : Item service.Asked service.Verdict service.Task service.Reply)
+  pub passes_turn : (slots id : ℕ) (me : HallHand service M N P E) (item : Item service.Asked service.Verdict service.Task service.Reply N)
       → IsReadyToPass m start item me
       → Allows (FollowsRule m passes start) slots id me (word_of (queue_of item)) (λ n. (n + 1) % 2 ^ 64)
       (PassesTurn m (step slots (word_of (queue_of item)) 1 0 none) me)
@@ -203,9 +204,9 @@ module _ {service : Service} {M N P : Type 0} (m : Machines service M N P) (pass
       let by = ready.by in
       let next = ready.next in
       let stands = ready.stands in
-      let h : SeenLists service = r.history in
-      let h' : SeenLists service = pushed h item in
-      let seen : SeenLists service = me.0.seen in
+      let h : SeenLists service N = r.history in
+      let h' : SeenLists service N = pushed h item in
+      let seen : SeenLists service N = me.0.seen in
       let q : Queue = queue_of item in
       let f = r.views_are id me.0 at in
       let is : IsQueue (length h.lanes) q = subst (λ k. IsQueue k q) (sym r.lists_are.count) is_hall in
@@ -229,7 +230,7 @@ module _ {service : Service} {M N P : Type 0} (m : Machines service M N P) (pass
       ap (total (holds OfDesk)) mine in
       let new : List Claim = issued_by service seen item in
       let claims : List Claim = new ++ others in
-      let w : HallView service M N P = seeing me.0 claims h' in
+      let w : HallView service M N E = seeing me.0 claims h' in
       let short = r.lists_are.short q in
       let early = turn.2 in
       let small = limit_small q in
@@ -269,7 +270,7 @@ module _ {service : Service} {M N P : Type 0} (m : Machines service M N P) (pass
                   (λ x named. unmoved x (others_apart passes s.views id j me.0 u x at other there live r.names_once named))
                   (λ q' held_there. ⊎_elim
                   (λ (e : q ≡ q').
-                  let two = total_two (λ (v : HallView service M N P). total (holds q) v.claims) s.views j id u me.0 other there at in
+                  let two = total_two (λ (v : HallView service M N E). total (holds q) v.claims) s.views j id u me.0 other there at in
                   let one = turn.1 in
                   let theirs : 0 < total (holds q) u.claims = subst (λ (x : Queue). 0 < total (holds x) u.claims) (sym e) held_there in
                   absurd (omega arith))
@@ -277,7 +278,7 @@ module _ {service : Service} {M N P : Type 0} (m : Machines service M N P) (pass
                   (same_or_apart q q'))
                   (λ theirs. goes_pushed h item is (no_cut (is_cut item) (λ cut.
                   let c = ready.cuts cut in
-                  let two = total_two (λ (v : HallView service M N P). total (holds OfDesk) v.claims) s.views j id u me.0 other there at in
+                  let two = total_two (λ (v : HallView service M N E). total (holds OfDesk) v.claims) s.views j id u me.0 other there at in
                   let one = one_holder (next_of service r.register_next r.desk_next h) (len_of h) s.views r.claims_once OfDesk in
                   omega arith)))
                   (r.views_are j u there))
@@ -291,10 +292,10 @@ module _ {service : Service} {M N P : Type 0} (m : Machines service M N P) (pass
             },
         λ item' is_item.
             let both : Some item ≡ Some item' = sym news ∙ sym
-            (ap (λ (x : List Claim × List (ℕ × HallSlot service M N P)). head_news service seen me.0.number x.0 x.1)
+            (ap (λ (x : List Claim × List (ℕ × HallSlot service M N P)). head_news m seen me.0.number x.0 x.1)
             (λ k. (mine k, carried k))) ∙ is_item in
             let it : item ≡ item' = cc in
-            subst (λ (x : Item service.Asked service.Verdict service.Task service.Reply). (start' : Start M N P) × (rest me.1 ≡ rest me.1)
+            subst (λ (x : Item service.Asked service.Verdict service.Task service.Reply N). (start' : Start M N E) × (rest me.1 ≡ rest me.1)
             × HasPassed m start' x me.0 w) it (
               start,
               refl,

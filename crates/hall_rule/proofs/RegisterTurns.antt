@@ -52,9 +52,9 @@ register_by register number (Asks asked verdict) x ne =
 register_by register number Draws x ne = refl
 register_by register number (Cuts found) x ne = refl
 
-module _ {service : Service} {M N P : Type 0} (m : Machines service M N P) (start : Start M N P) where
+module _ {service : Service} {M N P E : Type 0} (m : Machines service M N P E) (start : Start M N E) where
   -- the register has acted in its turn
-  register_ready : (me : HallHand service M N P) (v : HallView service M N P) (h : SeenLists service) (n : ℕ) (others : List Claim)
+  register_ready : (me : HallHand service M N P E) (v : HallView service M N E) (h : SeenLists service N) (n : ℕ) (others : List Claim)
       (more : List (ℕ × HallSlot service M N P)) (d d' : RegisterSlot M service.Asked service.Verdict)
       (w : RegisterNews service.Asked service.Verdict)
       → me ≡ (seeing v (claim OfRegister n true ∷ others) h, (slot_of OfRegister, AtRegister d') ∷ more) → IsPass start v
@@ -88,7 +88,7 @@ module _ {service : Service} {M N P : Type 0} (m : Machines service M N P) (star
       }
 
   -- what is true of a turn of the register, from the number that was drawn on
-  module _ (n : ℕ) (v : HallView service M N P) (first taken back : HallHand service M N P)
+  module _ (n : ℕ) (v : HallView service M N E) (first taken back : HallHand service M N P E)
       (d d' : RegisterSlot M service.Asked service.Verdict)
       (may : MayDraw start v) (is : first.0 ≡ record v { claims = claim OfRegister n false ∷ v.claims })
       (t : HasTaken m start (claim OfRegister n false) v.claims first taken) (here : t.slot ≡ AtRegister d)
@@ -131,7 +131,7 @@ module _ {service : Service} {M N P : Type 0} (m : Machines service M N P) (star
         marks
 
   -- the register's answer to a request, and where it stands in the list
-  pub register_decided : (n place : ℕ) (v : HallView service M N P) (first taken back : HallHand service M N P) (w : HallView service M N P)
+  pub register_decided : (n place : ℕ) (v : HallView service M N E) (first taken back : HallHand service M N P E) (w : HallView service M N E)
       (d : RegisterSlot M service.Asked service.Verdict) (asked : service.Asked) (verdict : service.Verdict)
       → MayDraw start v → first.0 ≡ record v { claims = claim OfRegister n false ∷ v.claims }
       → (t : HasTaken m start (claim OfRegister n false) v.claims first taken) → t.slot ≡ AtRegister d
@@ -161,7 +161,7 @@ module _ {service : Service} {M N P : Type 0} (m : Machines service M N P) (star
       )
 
   -- the cut that was drawn, and its tickets
-  pub has_drawn_cut : (n place : ℕ) (v : HallView service M N P) (first taken back : HallHand service M N P) (w : HallView service M N P)
+  pub has_drawn_cut : (n place : ℕ) (v : HallView service M N E) (first taken back : HallHand service M N P E) (w : HallView service M N E)
       → MayDraw start v → first.0 ≡ record v { claims = claim OfRegister n false ∷ v.claims }
       → (t : HasTaken m start (claim OfRegister n false) v.claims first taken)
       → back.0 ≡ seeing first.0 (claim OfRegister n true ∷ v.claims) t.seen
@@ -175,14 +175,14 @@ module _ {service : Service} {M N P : Type 0} (m : Machines service M N P) (star
           turned = tu.0;
           before_is = tu.1;
           place_is = placed;
-          is_claims = ap (λ (x : HallView service M N P). x.claims) tu.0.is
-              ∙ ap (λ (h : SeenLists service). issued_by service h (at_register item) ++ v.claims) tu.1;
+          is_claims = ap (λ (x : HallView service M N E). x.claims) tu.0.is
+              ∙ ap (λ (h : SeenLists service N). issued_by service h (at_register item) ++ v.claims) tu.1;
         },
         refl,
       )
 
-  pub has_cut_register : (n place : ℕ) (found : Bool) (v : HallView service M N P) (first taken back : HallHand service M N P)
-      (w : HallView service M N P) → MayDraw start v → first.0 ≡ record v { claims = claim OfRegister n false ∷ v.claims }
+  pub has_cut_register : (n place : ℕ) (found : Bool) (v : HallView service M N E) (first taken back : HallHand service M N P E)
+      (w : HallView service M N E) → MayDraw start v → first.0 ≡ record v { claims = claim OfRegister n false ∷ v.claims }
       → (t : HasTaken m start (claim OfRegister n false) v.claims first taken)
       → back.0 ≡ seeing first.0 (claim OfRegister n true ∷ v.claims) t.seen
       → HasPassed m start (at_register (RegisterCut (places t.seen.register) found)) back.0 w
@@ -195,13 +195,13 @@ module _ {service : Service} {M N P : Type 0} (m : Machines service M N P) (star
           turned = tu.0;
           before_is = tu.1;
           place_is = placed;
-          is_claims = ap (λ (x : HallView service M N P). x.claims) tu.0.is;
+          is_claims = ap (λ (x : HallView service M N E). x.claims) tu.0.is;
         },
         refl,
       )
 
   -- so many places were given at most before it, and tickets of a lane
-  pub room_left : (n : ℕ) (others : List Claim) (me me' : HallHand service M N P)
+  pub room_left : (n : ℕ) (others : List Claim) (me me' : HallHand service M N P E)
       → (t : HasTaken m start (claim OfRegister n false) others me me') → (places t.seen.register < 2 ^ 61)
       × ((l : ℕ) → count_of service t.seen.register l < 2 ^ 62)
   room_left n others me me' t =

@@ -6,18 +6,19 @@ use mathlib.Core.Option.{some, some-ne-none, some-injective}
 use mathlib.Core.Logic.{dite}
 use native.Mathlib.Decide.{ℕ_discrete}
 use lib.ListN.{get_elem?}
-use Rattle.atomic_table.proofs.Lists.{at_longer}
+use Rattle.atomic_table.proofs.Lists.{at_longer, set_else}
 use Rattle.lane_histories.proofs.Lists.{all_both, in_front, nothing_more, starts_itself}
 use Rattle.lane_histories.specs.Histories.{IsIn, StartsWith, Ticket, entries, own, ticket_of, tickets}
 use Rattle.lane_histories.specs.declared.items.Entry.{Entry}
 use Rattle.lane_histories.specs.declared.items.RegisterItem.{RegisterItem}
 use Rattle.lane_histories.specs.declared.items.LaneItem.{LaneItem}
+use Rattle.lane_histories.specs.declared.items.LaneItem.TheVariants.{Passed, WasCut}
 use Rattle.lane_histories.specs.declared.items.RegisterItem.TheVariants.{Entered, DrawnCut, RegisterCut}
 use Rattle.hall_rule.specs.declared.queue.Queue.{Queue}
 use Rattle.hall_rule.specs.declared.queue.Queue.TheVariants.{OfRegister, OfDesk, OfLane}
 use Rattle.hall_rule.specs.declared.view.Lists.{Lists}
 use Rattle.hall_rule.specs.Queues.{IsQueue}
-use Rattle.hall_rule.specs.Seen.{GrowsBy, IsNoRegisterCut, IsNoLaneCut, GrowsFrom, GrowsUncut, nothing, len_of, SameList, lane_of, Item}
+use Rattle.hall_rule.specs.Seen.{GrowsBy, IsNoRegisterCut, IsNoLaneCut, GrowsFrom, GrowsUncut, cut_with, nothing, len_of, SameList, lane_of, Item}
 use Rattle.hall_rule.specs.Seen.{at_register, at_desk, at_lane, queue_of, is_cut, pushed}
 use Rattle.hall_rule.proofs.QueueLemmas.{Apart}
 
@@ -181,8 +182,50 @@ module _ {T R : Type 0} where
   tickets_longer xs front t starts here = subst (λ (ts : List (Ticket T)). IsIn ts t)
       (sym (ap (λ (l : List (LaneItem T R)). tickets l) starts.1 ∙ tickets_append front starts.0)) (in_front (tickets front) (tickets starts.0) t here)
 
-module _ {Q V T R : Type 0} where
-  pub begins_refl : (h : Lists Q V T R) → GrowsFrom h h
+-- ---- the owners as they were at the last cuts
+
+module _ {N : Type 0} where
+  set_same : (was were : List N) (lane : ℕ) (owner : N) → get_elem? was lane ≡ get_elem? were lane
+      → get_elem? (set was lane owner) lane ≡ get_elem? (set were lane owner) lane
+  set_same [] [] lane owner same = refl
+  set_same [] (y ∷ were) zero owner same = absurd (some-ne-none y (sym same))
+  set_same [] (y ∷ were) (suc lane) owner same = set_same [] were lane owner same
+  set_same (x ∷ was) [] zero owner same = absurd (some-ne-none x same)
+  set_same (x ∷ was) [] (suc lane) owner same = set_same was [] lane owner same
+  set_same (x ∷ was) (y ∷ were) zero owner same = refl
+  set_same (x ∷ was) (y ∷ were) (suc lane) owner same = set_same was were lane owner same
+
+  pub there_below : (was : List N) (lane : ℕ) (x : N) → get_elem? was lane ≡ some x → lane < length was
+  there_below [] lane x at = absurd (some-ne-none x (sym at))
+  there_below (y ∷ was) zero x at = omega arith
+  there_below (y ∷ was) (suc lane) x at = let more = there_below was lane x at in omega arith
+
+module _ {T R N : Type 0} where
+  -- no other lane's
+  cut_other : (was : List N) (lane other : ℕ) (i : LaneItem T R) (owner : N) → other ≢ lane
+      → get_elem? (cut_with was lane i owner) other ≡ get_elem? was other
+  cut_other was lane other (Passed place part task y) owner ne = refl
+  cut_other was lane other (WasCut number at true) owner ne = set_else was lane other owner ne
+  cut_other was lane other (WasCut number at false) owner ne = refl
+
+  cut_length : (was : List N) (lane : ℕ) (i : LaneItem T R) (owner : N) → length (cut_with was lane i owner) ≡ length was
+  cut_length was lane (Passed place part task y) owner = refl
+  cut_length was lane (WasCut number at true) owner = length-set was lane owner
+  cut_length was lane (WasCut number at false) owner = refl
+
+  cut_none : (was : List N) (lane : ℕ) (i : LaneItem T R) (owner : N) → IsNoLaneCut i → cut_with was lane i owner ≡ was
+  cut_none was lane (Passed place part task y) owner none = refl
+  cut_none was lane (WasCut number at found) owner none = absurd (cc)
+
+  -- a lane's is after a cut what it is after the same cut elsewhere
+  cut_same : (was were : List N) (lane : ℕ) (i : LaneItem T R) (owner : N) → get_elem? was lane ≡ get_elem? were lane
+      → get_elem? (cut_with was lane i owner) lane ≡ get_elem? (cut_with were lane i owner) lane
+  cut_same was were lane (Passed place part task y) owner same = same
+  cut_same was were lane (WasCut number at true) owner same = set_same was were lane owner same
+  cut_same was were lane (WasCut number at false) owner same = same
+
+module _ {Q V T R N : Type 0} where
+  pub begins_refl : (h : Lists Q V T R N) → GrowsFrom h h
   begins_refl h = record {
     sized = refl;
     register = starts_itself h.register;
@@ -190,7 +233,7 @@ module _ {Q V T R : Type 0} where
     keepings = starts_itself h.keepings;
   }
 
-  pub begins_trans : (a b c : Lists Q V T R) → GrowsFrom a b → GrowsFrom b c → GrowsFrom a c
+  pub begins_trans : (a b c : Lists Q V T R N) → GrowsFrom a b → GrowsFrom b c → GrowsFrom a c
   begins_trans a b c x y = record {
     sized = x.sized ∙ y.sized;
     register = starts_trans a.register b.register c.register x.register y.register;
@@ -198,15 +241,15 @@ module _ {Q V T R : Type 0} where
     keepings = starts_trans a.keepings b.keepings c.keepings x.keepings y.keepings;
   }
 
-  pub begins_nothing : (h : Lists Q V T R) (n : ℕ) → length h.lanes ≡ n → GrowsFrom h (nothing n)
-  begins_nothing h n sized = record {
-    sized = sized ∙ sym (length_replicate n []);
+  pub begins_nothing : (h : Lists Q V T R N) (owners : List N) → length h.lanes ≡ length owners → GrowsFrom h (nothing owners)
+  begins_nothing h owners sized = record {
+    sized = sized ∙ sym (length_replicate (length owners) []);
     register = (h.register, refl);
-    lanes = λ lane. subst (StartsWith (lane_of h.lanes lane)) (sym (lane_nothing n lane)) (lane_of h.lanes lane, refl);
+    lanes = λ lane. subst (StartsWith (lane_of h.lanes lane)) (sym (lane_nothing (length owners) lane)) (lane_of h.lanes lane, refl);
     keepings = (h.keepings, refl);
   }
 
-  pub begins_pushed : (h : Lists Q V T R) (item : Item Q V T R) → IsQueue (length h.lanes) (queue_of item) → GrowsFrom (pushed h item) h
+  pub begins_pushed : (h : Lists Q V T R N) (item : Item Q V T R N) → IsQueue (length h.lanes) (queue_of item) → GrowsFrom (pushed h item) h
   begins_pushed h (at_register e) is = record {
     sized = refl;
     register = starts_front h.register (e ∷ []);
@@ -221,7 +264,7 @@ module _ {Q V T R : Type 0} where
         (lane_of h.lanes lane);
     keepings = starts_front h.keepings (k ∷ []);
   }
-  begins_pushed h (at_lane lane i) is = record {
+  begins_pushed h (at_lane lane i owner) is = record {
     sized = length-set h.lanes lane (lane_of h.lanes lane ++ i ∷ []);
     register = starts_itself h.register;
     lanes = λ other. dite (ℕ_discrete other lane)
@@ -233,55 +276,65 @@ module _ {Q V T R : Type 0} where
   }
 
   -- the other lists stay
-  pub pushed_other : (h : Lists Q V T R) (item : Item Q V T R) (q : Queue) → Apart (queue_of item) q → SameList q h (pushed h item)
+  pub pushed_other : (h : Lists Q V T R N) (item : Item Q V T R N) (q : Queue) → Apart (queue_of item) q → SameList q h (pushed h item)
   pushed_other h (at_register e) OfRegister apart = absurd (apart.words refl)
   pushed_other h (at_register e) OfDesk apart = refl
-  pushed_other h (at_register e) (OfLane l) apart = refl
+  pushed_other h (at_register e) (OfLane l) apart = (refl, refl)
   pushed_other h (at_desk k) OfRegister apart = refl
   pushed_other h (at_desk k) OfDesk apart = absurd (apart.words refl)
-  pushed_other h (at_desk k) (OfLane l) apart = refl
-  pushed_other h (at_lane lane i) OfRegister apart = refl
-  pushed_other h (at_lane lane i) OfDesk apart = refl
-  pushed_other h (at_lane lane i) (OfLane l) apart = sym
-      (lane_set_other h.lanes lane l (lane_of h.lanes lane ++ i ∷ []) (λ e. apart.words (ap (λ x. x + 4) e)))
+  pushed_other h (at_desk k) (OfLane l) apart = (refl, refl)
+  pushed_other h (at_lane lane i owner) OfRegister apart = refl
+  pushed_other h (at_lane lane i owner) OfDesk apart = refl
+  pushed_other h (at_lane lane i owner) (OfLane l) apart =
+      let ne : l ≢ lane = λ e. apart.words (ap (λ x. x + 4) e) in
+      (sym (lane_set_other h.lanes lane l (lane_of h.lanes lane ++ i ∷ []) ne), sym (cut_other h.was lane l i owner ne))
 
-  pub len_pushed : (h : Lists Q V T R) (item : Item Q V T R) → IsQueue (length h.lanes) (queue_of item)
+  -- as many owners
+  pub was_pushed : (h : Lists Q V T R N) (item : Item Q V T R N) → length (pushed h item).was ≡ length h.was
+  was_pushed h (at_register e) = refl
+  was_pushed h (at_desk k) = refl
+  was_pushed h (at_lane lane i owner) = cut_length h.was lane i owner
+
+  pub len_pushed : (h : Lists Q V T R N) (item : Item Q V T R N) → IsQueue (length h.lanes) (queue_of item)
       → len_of (pushed h item) (queue_of item) ≡ len_of h (queue_of item) + 1
   len_pushed h (at_register e) is = length-append h.register (e ∷ [])
   len_pushed h (at_desk k) is = length-append h.keepings (k ∷ [])
-  len_pushed h (at_lane lane i) is = ap length (lane_set_same h.lanes lane (lane_of h.lanes lane ++ i ∷ []) is)
+  len_pushed h (at_lane lane i owner) is = ap length (lane_set_same h.lanes lane (lane_of h.lanes lane ++ i ∷ []) is)
       ∙ length-append (lane_of h.lanes lane) (i ∷ [])
 
-  pub same_len : (q : Queue) (a b : Lists Q V T R) → SameList q a b → len_of a q ≡ len_of b q
+  pub same_len : (q : Queue) (a b : Lists Q V T R N) → SameList q a b → len_of a q ≡ len_of b q
   same_len OfRegister a b e = ap length e
   same_len OfDesk a b e = ap length e
-  same_len (OfLane l) a b e = ap length e
+  same_len (OfLane l) a b e = ap length e.0
 
-  pub same_list_sym : (q : Queue) (a b : Lists Q V T R) → SameList q a b → SameList q b a
+  pub same_list_sym : (q : Queue) (a b : Lists Q V T R N) → SameList q a b → SameList q b a
   same_list_sym OfRegister a b e = sym e
   same_list_sym OfDesk a b e = sym e
-  same_list_sym (OfLane l) a b e = sym e
+  same_list_sym (OfLane l) a b e = (sym e.0, sym e.1)
 
-  pub same_list_trans : (q : Queue) (a b c : Lists Q V T R) → SameList q a b → SameList q b c → SameList q a c
+  pub same_list_trans : (q : Queue) (a b c : Lists Q V T R N) → SameList q a b → SameList q b c → SameList q a c
   same_list_trans OfRegister a b c d e = d ∙ e
   same_list_trans OfDesk a b c d e = d ∙ e
-  same_list_trans (OfLane l) a b c d e = d ∙ e
+  same_list_trans (OfLane l) a b c d e = (d.0 ∙ e.0, d.1 ∙ e.1)
 
-  pub same_list_refl : (q : Queue) (a : Lists Q V T R) → SameList q a a
+  pub same_list_refl : (q : Queue) (a : Lists Q V T R N) → SameList q a a
   same_list_refl OfRegister a = refl
   same_list_refl OfDesk a = refl
-  same_list_refl (OfLane l) a = refl
+  same_list_refl (OfLane l) a = (refl, refl)
 
   -- one item more on the same list is the same list
-  pub same_pushed : (s h : Lists Q V T R) (item : Item Q V T R) → length h.lanes ≡ length s.lanes → IsQueue (length h.lanes) (queue_of item)
+  pub same_pushed : (s h : Lists Q V T R N) (item : Item Q V T R N) → length h.lanes ≡ length s.lanes → IsQueue (length h.lanes) (queue_of item)
       → SameList (queue_of item) s h → SameList (queue_of item) (pushed s item) (pushed h item)
   same_pushed s h (at_register e) sized is same = ap (λ l. l ++ e ∷ []) same
   same_pushed s h (at_desk k) sized is same = ap (λ l. l ++ k ∷ []) same
-  same_pushed s h (at_lane lane i) sized is same = lane_set_same s.lanes lane (lane_of s.lanes lane ++ i ∷ []) (omega arith)
-      ∙ ap (λ l. l ++ i ∷ []) same ∙ sym (lane_set_same h.lanes lane (lane_of h.lanes lane ++ i ∷ []) is)
+  same_pushed s h (at_lane lane i owner) sized is same = (
+    lane_set_same s.lanes lane (lane_of s.lanes lane ++ i ∷ []) (omega arith) ∙ ap (λ l. l ++ i ∷ []) same.0
+        ∙ sym (lane_set_same h.lanes lane (lane_of h.lanes lane ++ i ∷ []) is),
+    cut_same s.was h.was lane i owner same.1,
+  )
 
   -- what the pass had seen and the item begin what the hall has after the item
-  pub begins_pushed_both : (h s : Lists Q V T R) (item : Item Q V T R) → IsQueue (length h.lanes) (queue_of item) → GrowsFrom h s
+  pub begins_pushed_both : (h s : Lists Q V T R N) (item : Item Q V T R N) → IsQueue (length h.lanes) (queue_of item) → GrowsFrom h s
       → SameList (queue_of item) s h → GrowsFrom (pushed h item) (pushed s item)
   begins_pushed_both h s (at_register e) is b same =
       record { sized = b.sized; register = starts_same _ _ (ap (λ l. l ++ e ∷ []) (sym same)); lanes = b.lanes; keepings = b.keepings }
@@ -292,7 +345,7 @@ module _ {Q V T R : Type 0} where
     keepings = starts_same _
         _ (ap (λ l. l ++ k ∷ []) (sym same));
   }
-  begins_pushed_both h s (at_lane lane i) is b same =
+  begins_pushed_both h s (at_lane lane i owner) is b same =
       let new : List (LaneItem T R) = lane_of h.lanes lane ++ i ∷ [] in
       let seen : List (LaneItem T R) = lane_of s.lanes lane ++ i ∷ [] in
       let sized = b.sized in record {
@@ -300,7 +353,7 @@ module _ {Q V T R : Type 0} where
         register = b.register;
         lanes = λ other. dite (ℕ_discrete other lane)
             (λ e. subst (λ (x : ℕ). StartsWith (lane_of (set h.lanes lane new) x) (lane_of (set s.lanes lane seen) x)) (sym e)
-            (starts_same _ _ (sym (same_pushed s h (at_lane lane i) b.sized is same))))
+            (starts_same _ _ (sym (same_pushed s h (at_lane lane i owner) b.sized is same).0)))
             (λ ne. subst (λ (x : List (LaneItem T R) × List (LaneItem T R)). StartsWith x.0 x.1)
             (λ k. (sym (lane_set_other h.lanes lane other new ne) k, sym (lane_set_other s.lanes lane other seen ne) k))
             (b.lanes other));
@@ -309,35 +362,39 @@ module _ {Q V T R : Type 0} where
 
   -- ---- lists that go on without a cut
 
-  pub goes_refl : (h : Lists Q V T R) → GrowsUncut h h
+  pub goes_refl : (h : Lists Q V T R N) → GrowsUncut h h
   goes_refl h = record {
     longer = begins_refl h;
     register = grows_all IsNoRegisterCut h.register;
     lanes = λ lane. grows_all IsNoLaneCut (lane_of h.lanes lane);
+    was = refl;
   }
 
-  pub goes_trans : (a b c : Lists Q V T R) → GrowsUncut a b → GrowsUncut b c → GrowsUncut a c
+  pub goes_trans : (a b c : Lists Q V T R N) → GrowsUncut a b → GrowsUncut b c → GrowsUncut a c
   goes_trans a b c x y = record {
     longer = begins_trans a b c x.longer y.longer;
     register = grows_trans IsNoRegisterCut a.register b.register c.register x.register y.register;
     lanes = λ lane. grows_trans IsNoLaneCut (lane_of a.lanes lane) (lane_of b.lanes lane) (lane_of c.lanes lane) (x.lanes lane)
         (y.lanes lane);
+    was = x.was ∙ y.was;
   }
 
-  pub goes_pushed : (h : Lists Q V T R) (item : Item Q V T R) → IsQueue (length h.lanes) (queue_of item) → is_cut item ≡ false
+  pub goes_pushed : (h : Lists Q V T R N) (item : Item Q V T R N) → IsQueue (length h.lanes) (queue_of item) → is_cut item ≡ false
       → GrowsUncut (pushed h item) h
   goes_pushed h (at_register e) is uncut = record {
     longer = begins_pushed h (at_register e) is;
     register = grows_one IsNoRegisterCut h.register e uncut;
     lanes = λ lane. grows_all IsNoLaneCut (lane_of h.lanes lane);
+    was = refl;
   }
   goes_pushed h (at_desk k) is uncut = record {
     longer = begins_pushed h (at_desk k) is;
     register = grows_all IsNoRegisterCut h.register;
     lanes = λ lane. grows_all IsNoLaneCut (lane_of h.lanes lane);
+    was = refl;
   }
-  goes_pushed h (at_lane lane i) is uncut = record {
-    longer = begins_pushed h (at_lane lane i) is;
+  goes_pushed h (at_lane lane i owner) is uncut = record {
+    longer = begins_pushed h (at_lane lane i owner) is;
     register = grows_all IsNoRegisterCut h.register;
     lanes = λ other. dite (ℕ_discrete other lane)
         (λ e. subst (λ (x : ℕ). GrowsBy IsNoLaneCut (lane_of (set h.lanes lane (lane_of h.lanes lane ++ i ∷ [])) x) (lane_of h.lanes x))
@@ -345,30 +402,34 @@ module _ {Q V T R : Type 0} where
         (subst (λ l. GrowsBy IsNoLaneCut l (lane_of h.lanes lane)) (sym (lane_set_same h.lanes lane (lane_of h.lanes lane ++ i ∷ []) is))
         (grows_one IsNoLaneCut (lane_of h.lanes lane) i uncut)))
         (λ ne. grows_same IsNoLaneCut _ _ (lane_set_other h.lanes lane other (lane_of h.lanes lane ++ i ∷ []) ne));
+    was = cut_none h.was lane i owner uncut;
   }
 
   -- the same item joins both
-  pub goes_pushed_both : (h s : Lists Q V T R) (item : Item Q V T R) → IsQueue (length h.lanes) (queue_of item) → GrowsUncut h s
+  pub goes_pushed_both : (h s : Lists Q V T R N) (item : Item Q V T R N) → IsQueue (length h.lanes) (queue_of item) → GrowsUncut h s
       → SameList (queue_of item) s h → GrowsUncut (pushed h item) (pushed s item)
   goes_pushed_both h s (at_register e) is g same = record {
     longer = begins_pushed_both h s (at_register e) is g.longer same;
     register = grows_same IsNoRegisterCut _ _ (ap (λ l. l ++ e ∷ []) (sym same));
     lanes = g.lanes;
+    was = g.was;
   }
   goes_pushed_both h s (at_desk k) is g same = record {
     longer = begins_pushed_both h s (at_desk k) is g.longer same;
     register = g.register;
     lanes = g.lanes;
+    was = g.was;
   }
-  goes_pushed_both h s (at_lane lane i) is g same =
+  goes_pushed_both h s (at_lane lane i owner) is g same =
       let new : List (LaneItem T R) = lane_of h.lanes lane ++ i ∷ [] in
       let seen : List (LaneItem T R) = lane_of s.lanes lane ++ i ∷ [] in record {
-        longer = begins_pushed_both h s (at_lane lane i) is g.longer same;
+        longer = begins_pushed_both h s (at_lane lane i owner) is g.longer same;
         register = g.register;
         lanes = λ other. dite (ℕ_discrete other lane)
             (λ e. subst (λ (x : ℕ). GrowsBy IsNoLaneCut (lane_of (set h.lanes lane new) x) (lane_of (set s.lanes lane seen) x)) (sym e)
-            (grows_same IsNoLaneCut _ _ (sym (same_pushed s h (at_lane lane i) g.longer.sized is same))))
+            (grows_same IsNoLaneCut _ _ (sym (same_pushed s h (at_lane lane i owner) g.longer.sized is same).0)))
             (λ ne. subst (λ (x : List (LaneItem T R) × List (LaneItem T R)). GrowsBy IsNoLaneCut x.0 x.1)
             (λ k. (sym (lane_set_other h.lanes lane other new ne) k, sym (lane_set_other s.lanes lane other seen ne) k))
             (g.lanes other));
+        was = ap (λ was. cut_with was lane i owner) g.was;
       }

@@ -42,25 +42,25 @@ either_named : (a b : ℕ) → 0 < a + b → (0 < a) ⊎ (0 < b)
 either_named zero b h = inr (omega arith)
 either_named (suc a) b h = inl (omega arith)
 
-module _ {Q V T R X : Type 0} where
-  shared_times : (v : View Q V T R X) (y : ℕ) (ys : List ℕ) (x : ℕ) → v.live ≡ true → v.spare ≡ y ∷ ys
+module _ {Q V T R N X : Type 0} where
+  shared_times : (v : View Q V T R N X) (y : ℕ) (ys : List ℕ) (x : ℕ) → v.live ≡ true → v.spare ≡ y ∷ ys
       → times x (names v) ≡ times x (names (left_by_split v)) + times x (names (given_by_split v))
   shared_times v y ys x live spare =
       subst (λ (z : Bool × List ℕ). times x (cond z.0 (v.number ∷ (z.1 ++ v.joined)) [])
       ≡ times x (cond z.0 (v.number ∷ (tail_of z.1 ++ v.joined)) []) + times x (head_or_zero z.1 ∷ []))
       (λ i. (sym live i, sym spare i)) (omega arith)
 
-  shared_length : (v : View Q V T R X) (y : ℕ) (ys : List ℕ) → v.live ≡ true → v.spare ≡ y ∷ ys
+  shared_length : (v : View Q V T R N X) (y : ℕ) (ys : List ℕ) → v.live ≡ true → v.spare ≡ y ∷ ys
       → length (names v) ≡ length (names (left_by_split v)) + length (names (given_by_split v))
   shared_length v y ys live spare =
       subst (λ (z : Bool × List ℕ). length (cond z.0 (v.number ∷ (z.1 ++ v.joined)) [])
       ≡ length (cond z.0 (v.number ∷ (tail_of z.1 ++ v.joined)) []) + length (head_or_zero z.1 ∷ []))
       (λ i. (sym live i, sym spare i)) (omega arith)
 
-  kept_spare : (v : View Q V T R X) (y : ℕ) (ys : List ℕ) (x : ℕ) → v.spare ≡ y ∷ ys → times x (tail_of v.spare) ≤ times x v.spare
+  kept_spare : (v : View Q V T R N X) (y : ℕ) (ys : List ℕ) (x : ℕ) → v.spare ≡ y ∷ ys → times x (tail_of v.spare) ≤ times x v.spare
   kept_spare v y ys x spare = subst (λ z. times x (tail_of z) ≤ times x z) (sym spare) (omega arith)
 
-  pub merged_times : (v w : View Q V T R X) (x : ℕ) → v.live ≡ true → w.live ≡ true
+  pub merged_times : (v w : View Q V T R N X) (x : ℕ) → v.live ≡ true → w.live ≡ true
       → times x (names (merged v w)) ≡ times x (names v) + times x (names w)
   merged_times v w x a b =
       let p = times_append x (v.spare ++ w.spare) ((v.joined ++ w.number ∷ []) ++ w.joined) in
@@ -73,7 +73,7 @@ module _ {Q V T R X : Type 0} where
       ≡ times x (cond z.0 (v.number ∷ (v.spare ++ v.joined)) []) + times x (cond z.1 (w.number ∷ (w.spare ++ w.joined)) []))
       (λ i. (sym a i, sym b i)) (omega arith)
 
-  merged_length : (v w : View Q V T R X) → v.live ≡ true → w.live ≡ true → length (names (merged v w)) ≡ length (names v) + length (names w)
+  merged_length : (v w : View Q V T R N X) → v.live ≡ true → w.live ≡ true → length (names (merged v w)) ≡ length (names v) + length (names w)
   merged_length v w a b =
       let p = length-append (v.spare ++ w.spare) ((v.joined ++ w.number ∷ []) ++ w.joined) in
       let q = length-append v.spare w.spare in
@@ -85,25 +85,25 @@ module _ {Q V T R X : Type 0} where
       ≡ length (cond z.0 (v.number ∷ (v.spare ++ v.joined)) []) + length (cond z.1 (w.number ∷ (w.spare ++ w.joined)) []))
       (λ i. (sym a i, sym b i)) (omega arith)
 
-  no_guests : (v : View Q V T R X) (x : ℕ) → v.guests ≡ [] → 0 < times x v.guests → ⊥
+  no_guests : (v : View Q V T R N X) (x : ℕ) → v.guests ≡ [] → 0 < times x v.guests → ⊥
   no_guests v x empty some_guest = let z : times x v.guests ≡ 0 = ap (times x) empty in omega arith
 
-module _ {service : Service} {M N P : Type 0} (m : Machines service M N P) (passes : ℕ) (start : Start M N P) where
+module _ {service : Service} {M N P E : Type 0} (m : Machines service M N P E) (passes : ℕ) (start : Start M N E) where
   -- a new view with nothing in hand takes no turn
-  homes_new_view : (h : SeenLists service) (views : List (HallView service M N P)) (homes : List (maybe.Option (HallSlot service M N P)))
-      (w : HallView service M N P) → w.claims ≡ [] → AreAtHome m start h views homes → AreAtHome m start h (views ++ w ∷ []) homes
+  homes_new_view : (h : SeenLists service N) (views : List (HallView service M N E)) (homes : List (maybe.Option (HallSlot service M N P)))
+      (w : HallView service M N E) → w.claims ≡ [] → AreAtHome m start h views homes → AreAtHome m start h (views ++ w ∷ []) homes
   homes_new_view h views homes w empty ok = record {
     count = ok.count;
-    home = λ q is unheld. ok.home q is (let e = total_push (λ (u : HallView service M N P). total (holds q) u.claims) views w in
+    home = λ q is unheld. ok.home q is (let e = total_push (λ (u : HallView service M N E). total (holds q) u.claims) views w in
         let s : total (holds q) w.claims ≡ 0 = ap (total (holds q)) empty in omega arith);
   }
 
-  pub splits : (id : ℕ) (v : HallView service M N P) (y : ℕ) (ys : List ℕ) → v.live ≡ true → v.guests ≡ [] → v.spare ≡ y ∷ ys
-      → Splits (λ (s : HallState service M N P). FollowsRule m passes start s) id v (left_by_split v) (given_by_split v)
+  pub splits : (id : ℕ) (v : HallView service M N E) (y : ℕ) (ys : List ℕ) → v.live ≡ true → v.guests ≡ [] → v.spare ≡ y ∷ ys
+      → Splits (λ (s : HallState service M N P E). FollowsRule m passes start s) id v (left_by_split v) (given_by_split v)
   splits id v y ys live empty spare s r at =
-      let l : HallView service M N P = left_by_split v in
-      let w : HallView service M N P = given_by_split v in
-      let vs : List (HallView service M N P) = set s.views id l in
+      let l : HallView service M N E = left_by_split v in
+      let w : HallView service M N E = given_by_split v in
+      let vs : List (HallView service M N E) = set s.views id l in
       let f = r.views_are id v at in
       let mine : (x : ℕ) → 0 < times x (names v) → own x r.history.register ≡ own x v.seen.register =
       λ x named. ⊎_elim (λ guest. absurd (no_guests v x empty guest)) (λ same. same) (f.owns x named) in record {
@@ -115,11 +115,11 @@ module _ {service : Service} {M N P : Type 0} (m : Machines service M N P) (pass
             (claims_stay (next_of service r.register_next r.desk_next r.history) (len_of r.history) s.views id v l at refl r.claims_once);
         names_once = record {
           few = r.names_once.few;
-          named = λ x. let e = total_set (λ (u : HallView service M N P). times x (names u)) s.views id v l at in
-              let g = total_push (λ (u : HallView service M N P). times x (names u)) vs w in let c = shared_times v y ys x live spare in
+          named = λ x. let e = total_set (λ (u : HallView service M N E). times x (names u)) s.views id v l at in
+              let g = total_push (λ (u : HallView service M N E). times x (names u)) vs w in let c = shared_times v y ys x live spare in
               let d = r.names_once.named x in omega arith;
-          all_names = let e = total_set (λ (u : HallView service M N P). length (names u)) s.views id v l at in
-              let g = total_push (λ (u : HallView service M N P). length (names u)) vs w in let c = shared_length v y ys live spare in
+          all_names = let e = total_set (λ (u : HallView service M N E). length (names u)) s.views id v l at in
+              let g = total_push (λ (u : HallView service M N E). length (names u)) vs w in let c = shared_length v y ys live spare in
               let d = r.names_once.all_names in omega arith;
         };
         lists_are = r.lists_are;
@@ -163,11 +163,11 @@ module _ {service : Service} {M N P : Type 0} (m : Machines service M N P) (pass
       }
 
   -- a view that no pass has, for the note
-  pub notes : (id : ℕ) (v : HallView service M N P)
-      → Splits (λ (s : HallState service M N P). FollowsRule m passes start s) id v v (note_of v)
+  pub notes : (id : ℕ) (v : HallView service M N E)
+      → Splits (λ (s : HallState service M N P E). FollowsRule m passes start s) id v v (note_of v)
   notes id v s r at =
-      let w : HallView service M N P = note_of v in
-      let vs : List (HallView service M N P) = set s.views id v in record {
+      let w : HallView service M N E = note_of v in
+      let vs : List (HallView service M N E) = set s.views id v in record {
         history = r.history;
         register_next = r.register_next;
         desk_next = r.desk_next;
@@ -176,8 +176,8 @@ module _ {service : Service} {M N P : Type 0} (m : Machines service M N P) (pass
             (claims_stay (next_of service r.register_next r.desk_next r.history) (len_of r.history) s.views id v v at refl r.claims_once);
         names_once = let ok = names_stay passes s.views id v v at refl r.names_once in record {
           few = ok.few;
-          named = λ x. let g = total_push (λ (u : HallView service M N P). times x (names u)) vs w in let d = ok.named x in omega arith;
-          all_names = let g = total_push (λ (u : HallView service M N P). length (names u)) vs w in let d = ok.all_names in omega arith;
+          named = λ x. let g = total_push (λ (u : HallView service M N E). times x (names u)) vs w in let d = ok.named x in omega arith;
+          all_names = let g = total_push (λ (u : HallView service M N E). length (names u)) vs w in let d = ok.all_names in omega arith;
         };
         lists_are = r.lists_are;
         homes_are = homes_new_view r.history vs s.homes w refl
@@ -204,12 +204,12 @@ module _ {service : Service} {M N P : Type 0} (m : Machines service M N P) (pass
             (at_snoc vs w u j there);
       }
 
-  pub joins : (id : ℕ) (v : HallView service M N P) (other : ℕ) (w : HallView service M N P) → v.live ≡ true → w.live ≡ true → w.claims ≡ []
-      → v.guests ≡ [] → w.guests ≡ [] → Joins (λ (s : HallState service M N P). FollowsRule m passes start s) id v other w (merged v w)
+  pub joins : (id : ℕ) (v : HallView service M N E) (other : ℕ) (w : HallView service M N E) → v.live ≡ true → w.live ≡ true → w.claims ≡ []
+      → v.guests ≡ [] → w.guests ≡ [] → Joins (λ (s : HallState service M N P E). FollowsRule m passes start s) id v other w (merged v w)
       spent_view
   joins id v other w live lives bare empty empties s r at apart there =
-      let b : HallView service M N P = merged v w in
-      let vs : List (HallView service M N P) = set s.views id b in
+      let b : HallView service M N E = merged v w in
+      let vs : List (HallView service M N E) = set s.views id b in
       let there' : get_elem? s.views other ≡ some w = sym (set_else s.views id other b apart) ∙ there in
       let f = r.views_are id v at in
       let g = r.views_are other w there' in record {
@@ -222,11 +222,11 @@ module _ {service : Service} {M N P : Type 0} (m : Machines service M N P) (pass
             r.claims_once);
         names_once = record {
           few = r.names_once.few;
-          named = λ x. let e = total_set (λ (u : HallView service M N P). times x (names u)) s.views id v b at in
-              let k = total_set (λ (u : HallView service M N P). times x (names u)) vs other w spent_view there in
+          named = λ x. let e = total_set (λ (u : HallView service M N E). times x (names u)) s.views id v b at in
+              let k = total_set (λ (u : HallView service M N E). times x (names u)) vs other w spent_view there in
               let c = merged_times v w x live lives in let d = r.names_once.named x in omega arith;
-          all_names = let e = total_set (λ (u : HallView service M N P). length (names u)) s.views id v b at in
-              let k = total_set (λ (u : HallView service M N P). length (names u)) vs other w spent_view there in
+          all_names = let e = total_set (λ (u : HallView service M N E). length (names u)) s.views id v b at in
+              let k = total_set (λ (u : HallView service M N E). length (names u)) vs other w spent_view there in
               let c = merged_length v w live lives in let d = r.names_once.all_names in omega arith;
         };
         lists_are = r.lists_are;
@@ -272,15 +272,17 @@ module _ {service : Service} {M N P : Type 0} (m : Machines service M N P) (pass
             };
       }
 
-len_nothing : (Q V T R : Type 0) (n : ℕ) (q : Queue) → (let h : Lists Q V T R = nothing n in len_of h q ≡ 0)
-len_nothing Q V T R n OfRegister = refl
-len_nothing Q V T R n OfDesk = refl
-len_nothing Q V T R n (OfLane l) = ap length (lane_nothing {E = LaneItem T R} n l)
+len_nothing : (Q V T R : Type 0) {N : Type 0} (owners : List N) (q : Queue)
+    → (let h : Lists Q V T R N = nothing owners in len_of h q ≡ 0)
+len_nothing Q V T R owners OfRegister = refl
+len_nothing Q V T R owners OfDesk = refl
+len_nothing Q V T R owners (OfLane l) = ap length (lane_nothing {E = LaneItem T R} (length owners) l)
 
-next_nothing : (service : Service) (n : ℕ) (q : Queue) → (let h : SeenLists service = nothing n in next_of service 0 0 h q ≡ 0)
-next_nothing service n OfRegister = refl
-next_nothing service n OfDesk = refl
-next_nothing service n (OfLane l) = refl
+next_nothing : (service : Service) {N : Type 0} (owners : List N) (q : Queue)
+    → (let h : SeenLists service N = nothing owners in next_of service 0 0 h q ≡ 0)
+next_nothing service owners OfRegister = refl
+next_nothing service owners OfDesk = refl
+next_nothing service owners (OfLane l) = refl
 
 at_home : {X : Type 0} (xs : List X) (i : ℕ) (x : X) → get_elem? xs i ≡ some x → get_elem? (map some xs) i ≡ some (some x)
 at_home [] i x e = absurd (some-ne-none x (sym e))
@@ -295,17 +297,17 @@ length_homes : {X : Type 0} (xs : List X) → length (map (λ x. let o : maybe.O
 length_homes [] = refl
 length_homes (x ∷ xs) = ap suc (length_homes xs)
 
-module _ {service : Service} {M N P : Type 0} (m : Machines service M N P) (passes : ℕ) (start : Start M N P) where
+module _ {service : Service} {M N P E : Type 0} (m : Machines service M N P E) (passes : ℕ) (start : Start M N E) where
   -- a hall in which nothing was done
   pub opens : (words : List ℕ) (slots : List (HallSlot service M N P)) → 1 ≤ passes → passes < 2 ^ 32
       → length words ≡ length start.owners + 4 → ((i : ℕ) → get_or words i 0 ≡ 0) → length slots ≡ length start.owners + 2
       → ((q : Queue) → IsQueue (length start.owners) q → (s : HallSlot service M N P) × (get_elem? slots (slot_of q) ≡ some s)
-      × StandsFor m q s start (nothing (length start.owners)))
-      → FollowsRule m passes start (opening words slots (first_view passes (length start.owners) start))
+      × StandsFor m q s start (nothing start.owners))
+      → FollowsRule m passes start (opening words slots (first_view passes start.owners start))
   opens words slots some_pass few count zeros slot_count stands =
-      let n : ℕ = length start.owners in
-      let h : SeenLists service = nothing n in
-      let first : HallView service M N P = first_view passes n start in record {
+      let owners : List N = start.owners in
+      let h : SeenLists service N = nothing owners in
+      let first : HallView service M N E = first_view passes owners start in record {
         history = h;
         register_next = 0;
         desk_next = 0;
@@ -314,10 +316,10 @@ module _ {service : Service} {M N P : Type 0} (m : Machines service M N P) (pass
           register_next_is = zeros 0;
           desk_next_is = zeros 1;
           shows = λ q is. zeros (word_of q)
-              ∙ sym (len_nothing service.Asked service.Verdict service.Task service.Reply n q);
+              ∙ sym (len_nothing service.Asked service.Verdict service.Task service.Reply owners q);
         };
-        claims_once = claims_same (λ _. 0) (next_of service 0 0 h) (λ _. 0) (len_of h) (first ∷ []) (next_nothing service n)
-            (len_nothing service.Asked service.Verdict service.Task service.Reply n) record {
+        claims_once = claims_same (λ _. 0) (next_of service 0 0 h) (λ _. 0) (len_of h) (first ∷ []) (next_nothing service owners)
+            (len_nothing service.Asked service.Verdict service.Task service.Reply owners) record {
               once = λ q k. omega arith;
               turns = λ q. refl;
               early = λ q k held. let z : 0 < 0 = held in absurd (omega arith);
@@ -335,10 +337,11 @@ module _ {service : Service} {M N P : Type 0} (m : Machines service M N P) (pass
           all_names = let a = length-append (upward 1 (passes - 1)) [] in let b = length_upward 1 (passes - 1) in omega arith;
         };
         lists_are = record {
-          count = length_replicate n [];
-          legal = legal_nothing service (world_of m start) n;
-          seconds = seconds_nothing service (world_of m start) n;
-          short = λ q. let z = len_nothing service.Asked service.Verdict service.Task service.Reply n q in omega arith;
+          count = length_replicate (length owners) [];
+          was_count = refl;
+          legal = legal_nothing service (world_of m start) owners;
+          seconds = seconds_nothing service (world_of m start) owners;
+          short = λ q. let z = len_nothing service.Asked service.Verdict service.Task service.Reply owners q in omega arith;
           strangers = λ x _. refl;
         };
         homes_are = record {
@@ -348,7 +351,7 @@ module _ {service : Service} {M N P : Type 0} (m : Machines service M N P) (pass
         views_are = only (IsViewOf m start h) first record {
           start_is = λ _. refl;
           begins = λ _. begins_refl h;
-          legal = λ _. legal_nothing service (world_of m start) n;
+          legal = λ _. legal_nothing service (world_of m start) owners;
           owns = λ x _. inr refl;
           guest_begins = λ _. begins_refl h;
           guest_owns = λ x guest. let z : 0 < 0 = guest in absurd (omega arith);
@@ -363,22 +366,22 @@ module _ {service : Service} {M N P : Type 0} (m : Machines service M N P) (pass
         };
       }
     where
-      only : (F : HallView service M N P → Type 0) (v : HallView service M N P) → F v → (j : ℕ) (u : HallView service M N P)
+      only : (F : HallView service M N E → Type 0) (v : HallView service M N E) → F v → (j : ℕ) (u : HallView service M N E)
           → get_elem? (v ∷ []) j ≡ some u → F u
       only F v h zero u e = subst F (some-injective v u e) h
       only F v h (suc j) u e = absurd (some-ne-none u (sym e))
 
   -- ---- where a pass has every name
 
-  module _ (s : HallState service M N P) (r : FollowsRule m passes start s) (id : ℕ) (v : HallView service M N P)
+  module _ (s : HallState service M N P E) (r : FollowsRule m passes start s) (id : ℕ) (v : HallView service M N E)
       (at : get_elem? s.views id ≡ some v) (whole : length (names v) ≡ passes) where
-    abbrev h : SeenLists service
+    abbrev h : SeenLists service N
     h = r.history
 
     -- the others are spent
-    others_spent : (j : ℕ) (u : HallView service M N P) → j ≢ id → get_elem? s.views j ≡ some u → u.live ≡ false
+    others_spent : (j : ℕ) (u : HallView service M N E) → j ≢ id → get_elem? s.views j ≡ some u → u.live ≡ false
     others_spent j u other there =
-        go u.live refl (let a = total_two (λ (z : HallView service M N P). length (names z)) s.views j id u v other there at in
+        go u.live refl (let a = total_two (λ (z : HallView service M N E). length (names z)) s.views j id u v other there at in
         let b = r.names_once.all_names in let c = alive_named u in omega arith)
       where
         go : (b : Bool) → u.live ≡ b → alive u ≡ 0 → u.live ≡ false
@@ -388,7 +391,7 @@ module _ {service : Service} {M N P : Type 0} (m : Machines service M N P) (pass
     -- each number is one of its names
     all_named : (x : ℕ) → x < passes → 0 < times x (names v)
     all_named x below =
-        let only = total_only (λ (z : HallView service M N P). times x (names z)) s.views id v at
+        let only = total_only (λ (z : HallView service M N E). times x (names z)) s.views id v at
         (λ j u other there. ap (λ (b : Bool). times x (cond b (u.number ∷ (u.spare ++ u.joined)) [])) (others_spent j u other there)) in
         let once = r.names_once.named x in
         let one = once_yes x passes below in omega arith
@@ -408,9 +411,9 @@ module _ {service : Service} {M N P : Type 0} (m : Machines service M N P) (pass
 
     -- nothing is in hand
     nobody_claims : v.claims ≡ [] → (f : Claim → ℕ) → claimed f s.views ≡ 0
-    nobody_claims bare f = total_zero (λ (u : HallView service M N P). total f u.claims) s.views
+    nobody_claims bare f = total_zero (λ (u : HallView service M N E). total f u.claims) s.views
         (λ j u there. dite (ℕ_discrete j id)
-        (λ same. ap (total f) (ap (λ (z : HallView service M N P). z.claims)
+        (λ same. ap (total f) (ap (λ (z : HallView service M N E). z.claims)
         (some-injective u v (sym there ∙ ap (get_elem? s.views) same ∙ at)) ∙ bare))
         (λ other. ap (total f) ((r.views_are j u there).idle (others_spent j u other there))))
 
@@ -426,7 +429,7 @@ module _ {service : Service} {M N P : Type 0} (m : Machines service M N P) (pass
 
     -- each machine is at home, and stands for its list of one history, which goes on from what the pass has seen
     pub closes : v.live ≡ true → v.claims ≡ [] → v.guests ≡ []
-        → (g : SeenLists service) × HasGrown m start v g
+        → (g : SeenLists service N) × HasGrown m start v g
         × (entries g.register ≡ entries v.seen.register)
         × ((e : Entry service.Asked service.Verdict) → IsIn g.register (Entered e) → 0 < times e.by (names v))
         × ((l : ℕ) → tickets (lane_of g.lanes l) ≡ issued service l g.register)
@@ -441,18 +444,18 @@ module _ {service : Service} {M N P : Type 0} (m : Machines service M N P) (pass
       λ q is. r.homes_are.home q is (nobody_claims bare (holds q)),
     )
 
-module _ {service : Service} {M N P : Type 0} (m : Machines service M N P) (start : Start M N P) where
+module _ {service : Service} {M N P E : Type 0} (m : Machines service M N P E) (start : Start M N E) where
   -- the load after a join tells what the two had seen
-  pub joined_as : (v w : HallView service M N P) (k : ℕ) (me me' : HallHand service M N P) → v.live ≡ true → w.live ≡ true
+  pub joined_as : (v w : HallView service M N E) (k : ℕ) (me me' : HallHand service M N P E) → v.live ≡ true → w.live ≡ true
       → v.start ≡ Some start → me.0 ≡ merged v w → HasLearnt m (step k k k k none) me k me' → HasJoined m start v w me'.0 × (me'.1 ≡ me.1)
   joined_as v w k me me' live lives begun is told =
-      let starts : Some told.1 ≡ Some start = sym told.3.start_is ∙ ap (λ (x : HallView service M N P). x.start) is ∙ begun in
+      let starts : Some told.1 ≡ Some start = sym told.3.start_is ∙ ap (λ (x : HallView service M N E). x.start) is ∙ begun in
       let same : told.1 ≡ start = cc in
-      let g = subst (λ (x : Start M N P × HallView service M N P). HasGrown m x.0 x.1 told.0) (λ i. (same i, is i)) told.3 in
+      let g = subst (λ (x : Start M N E × HallView service M N E). HasGrown m x.0 x.1 told.0) (λ i. (same i, is i)) told.3 in
       let apart : (x : ℕ) → times x (names (merged v w)) ≤ 1 =
-      λ x. subst (λ (z : HallView service M N P). times x (names z) ≤ 1) is (told.4 x) in
+      λ x. subst (λ (z : HallView service M N E). times x (names z) ≤ 1) is (told.4 x) in
       let now : me'.0 ≡ seeing (merged v w) v.claims told.0 =
-      ap (λ (x : HallHand service M N P). x.0) told.2 ∙ (λ i. seeing (is i) (is i).claims told.0) in (
+      ap (λ (x : HallHand service M N P E). x.0) told.2 ∙ (λ i. seeing (is i) (is i).claims told.0) in (
         record {
           seen = told.0;
           is = now;
@@ -463,8 +466,8 @@ module _ {service : Service} {M N P : Type 0} (m : Machines service M N P) (star
               ⊎_elim (λ (guest : 0 < times x (names w)). let most = apart x in absurd (omega arith)) (λ e. e) (g.owns x (omega arith));
           theirs_same = g.guest_owns;
           legal = g.legal;
-          both_names = λ x. ap (λ (z : HallView service M N P). times x (names z)) now ∙ merged_times v w x live lives;
-          as_many = ap (λ (z : HallView service M N P). length (names z)) now ∙ merged_length v w live lives;
+          both_names = λ x. ap (λ (z : HallView service M N E). times x (names z)) now ∙ merged_times v w x live lives;
+          as_many = ap (λ (z : HallView service M N E). length (names z)) now ∙ merged_length v w live lives;
         },
-        ap (λ (x : HallHand service M N P). x.1) told.2,
+        ap (λ (x : HallHand service M N P E). x.1) told.2,
       )

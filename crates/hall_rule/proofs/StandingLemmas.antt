@@ -1,11 +1,11 @@
 -- A machine that stands for its list stands for it still as the lists grow.
-use Rattle.std.proofs.Common.{◌≡◌, inl, inr, ⊎_elim, ℕ, true, false, [], ◌∷◌, ◌++◌, refl, sym, ap, ◌∙◌, subst, arith}
+use Rattle.std.proofs.Common.{◌≡◌, inl, inr, ⊎_elim, ℕ, ◌<◌, true, false, [], ◌∷◌, ◌++◌, refl, replicate, set, sym, ap, ◌∙◌, subst, arith}
 use Rattle.std.specs.List.{AllByRecursion}
 use Rattle.std.specs.Prelude.{length}
 use mathlib.Core.Option.{some}
 use lib.ListN.{get_elem?}
 use Rattle.lane_histories.specs.Services.{Service}
-use Rattle.lane_histories.specs.Histories.{IsIn, LaneList, RegisterList, drawn, objects_step, places, register_after}
+use Rattle.lane_histories.specs.Histories.{IsIn, LaneList, RegisterList, drawn, objects_after, objects_step, places, register_after}
 use Rattle.lane_histories.specs.Histories.{register_at, register_step}
 use Rattle.lane_histories.specs.Legal.{IsPrefix, IsLegalRegister, IsLegalRegisterItem}
 use Rattle.lane_histories.specs.Cuts.{GoesOn, IsEntry, IsNoCut, register_cut}
@@ -26,11 +26,12 @@ use Rattle.hall_rule.specs.declared.queue.Queue.TheVariants.{OfRegister, OfDesk,
 use Rattle.hall_rule.specs.declared.slot.Slot.TheVariants.{Away, AtRegister, AtDesk, AtLane}
 use Rattle.hall_rule.specs.declared.view.Start.{Start}
 use Rattle.hall_rule.specs.Seen.{GrowsFrom, GrowsUncut, IsNoLaneCut, IsNoRegisterCut, SameList, SeenLists, at_desk, history_of, nothing}
-use Rattle.hall_rule.specs.Seen.{pushed}
+use Rattle.hall_rule.specs.Seen.{at_lane, lane_of, pushed}
 use Rattle.hall_rule.specs.Machines.{Machines, objects_in}
 use Rattle.hall_rule.specs.Standing.{HallSlot, IsDeskOf, IsItsKeeping, IsOwnerOf, IsRegisterOf, MarksLane, MarksRegister, StandsFor}
-use Rattle.hall_rule.specs.Standing.{IsFresh, catalogue_cut, lane_cut}
-use Rattle.hall_rule.proofs.SeenLemmas.{goes_pushed, goes_refl, goes_trans}
+use Rattle.hall_rule.specs.Standing.{IsFresh, IsFreshDesk, catalogue_cut, lane_cut}
+use Rattle.atomic_table.proofs.Lists.{set_here}
+use Rattle.hall_rule.proofs.SeenLemmas.{goes_pushed, goes_refl, goes_trans, lane_nothing, lane_set_same, there_below}
 
 -- ---- lists that go on, as histories
 
@@ -43,10 +44,10 @@ no_cut_is_turn : {T R : Type 0} (i : LaneItem T R) → IsNoLaneCut i → IsNoCut
 no_cut_is_turn (Passed place part task y) none = tt
 no_cut_is_turn (WasCut number c found) none = absurd (cc)
 
-pub longer_history : (service : Service) (h g : SeenLists service) → GrowsFrom h g → IsPrefix (history_of service g) (history_of service h)
+pub longer_history : (service : Service) {N : Type 0} (h g : SeenLists service N) → GrowsFrom h g → IsPrefix (history_of service g) (history_of service h)
 longer_history service h g longer = record { register = longer.register; lane = longer.lanes; keepings = longer.keepings }
 
-pub goes_on : (service : Service) (h g : SeenLists service) → GrowsUncut h g → GoesOn (history_of service g) (history_of service h)
+pub goes_on : (service : Service) {N : Type 0} (h g : SeenLists service N) → GrowsUncut h g → GoesOn (history_of service g) (history_of service h)
 goes_on service h g uncut = record {
   longer = record {
     register = (uncut.register.0, uncut.register.1);
@@ -57,7 +58,7 @@ goes_on service h g uncut = record {
   turns = λ l. all_weaker _ _ (uncut.lanes l).0 no_cut_is_turn (uncut.lanes l).2;
 }
 
-module _ {service : Service} {M N P : Type 0} (m : Machines service M N P) (start : Start M N P) where
+module _ {service : Service} {M N P E : Type 0} (m : Machines service M N P E) (start : Start M N E) where
   -- ---- the register, with one item more
 
   cut_before : (items : RegisterList service) (i : RegisterItem service.Asked service.Verdict)
@@ -108,47 +109,72 @@ module _ {service : Service} {M N P : Type 0} (m : Machines service M N P) (star
 
   -- ---- an owner, with one item more of its lane
 
-  owner_since : (lane : ℕ) (items : LaneList service) (old new : N) (i : LaneItem service.Task service.Reply)
-      → IsOwnerOf m start lane items old → MarksLane m lane i old new → m.OwnerIsSince new lane (lane_cut m start lane (items ++ i ∷ []))
-  owner_since lane items old new (Passed place part task y) is marks =
-      let o = objects_in m start.owners lane in
-      subst (m.OwnerIsSince new lane) (sym (objects_cut_stays service o o items (Passed place part task y ∷ []) (tt, tt)))
-      (marks (lane_cut m start lane items) is.since)
-  owner_since lane items old new (WasCut number c true) is marks =
-      let o = objects_in m start.owners lane in
-      subst (m.OwnerIsSince new lane) (is.now ∙ sym (objects_cut_now service o o items number c)) marks
-  owner_since lane items old new (WasCut number c false) is marks =
-      let o = objects_in m start.owners lane in
-      subst (m.OwnerIsSince new lane) (sym (objects_cut_stays service o o items (WasCut number c false ∷ []) (tt, tt)))
-      (marks (lane_cut m start lane items) is.since)
+  module _ (h : SeenLists service N) (lane : ℕ) (old new : N) (there : lane < length h.lanes) (is : IsOwnerOf m start h lane old) where
+    abbrev items : LaneList service
+    items = lane_of h.lanes lane
 
-  pub owner_pushed_on : (lane : ℕ) (items : LaneList service) (old new : N) (i : LaneItem service.Task service.Reply)
-      → IsOwnerOf m start lane items old → m.owner new ≡ objects_step service (m.owner old) i → MarksLane m lane i old new
-      → IsOwnerOf m start lane (items ++ i ∷ []) new
-  owner_pushed_on lane items old new i is went marks = record {
-    now = went ∙ ap (λ (o : service.Objects). objects_step service o i) is.now
-        ∙ sym (objects_push service (objects_in m start.owners lane) items i);
-    since = owner_since lane items old new i is marks;
-  }
+    longer : (i : LaneItem service.Task service.Reply) → lane_of (set h.lanes lane (items ++ i ∷ [])) lane ≡ items ++ i ∷ []
+    longer i = lane_set_same h.lanes lane (items ++ i ∷ []) there
+
+    now_with : (i : LaneItem service.Task service.Reply) → m.owner new ≡ objects_step service (m.owner old) i
+        → m.owner new ≡ objects_after service (objects_in m start.owners lane) (lane_of (set h.lanes lane (items ++ i ∷ [])) lane)
+    now_with i went = went ∙ ap (λ (o : service.Objects). objects_step service o i) is.now
+        ∙ sym (objects_push service (objects_in m start.owners lane) items i)
+        ∙ sym (ap (objects_after service (objects_in m start.owners lane)) (longer i))
+
+    -- its last cut stays
+    had_with : (i : LaneItem service.Task service.Reply) → AllByRecursion IsNoCut (i ∷ [])
+        → m.owner is.was ≡ lane_cut m start lane (lane_of (set h.lanes lane (items ++ i ∷ [])) lane)
+    had_with i none =
+        let o = objects_in m start.owners lane in
+        is.had ∙ sym (objects_cut_stays service o o items (i ∷ []) none) ∙ sym (ap (lane_cut m start lane) (longer i))
+
+    pub owner_pushed_on : (i : LaneItem service.Task service.Reply) → m.owner new ≡ objects_step service (m.owner old) i
+        → MarksLane m lane i old new → IsOwnerOf m start (pushed h (at_lane lane i new)) lane new
+    owner_pushed_on (Passed place part task y) went marks = record {
+      now = now_with (Passed place part task y) went;
+      was = is.was;
+      was_is = is.was_is;
+      had = had_with (Passed place part task y) (tt, tt);
+      since = marks is.was is.since;
+    }
+    owner_pushed_on (WasCut number c true) went marks =
+        let o = objects_in m start.owners lane in record {
+          now = now_with (WasCut number c true) went;
+          was = new;
+          was_is = set_here h.was lane new (there_below h.was lane is.was is.was_is);
+          had = went ∙ is.now ∙ sym (objects_cut_now service o o items number c)
+              ∙ sym (ap (lane_cut m start lane) (longer (WasCut number c true)));
+          since = marks;
+        }
+    owner_pushed_on (WasCut number c false) went marks = record {
+      now = now_with (WasCut number c false) went;
+      was = is.was;
+      was_is = is.was_is;
+      had = had_with (WasCut number c false) (tt, tt);
+      since = marks is.was is.since;
+    }
 
   -- ---- the desk
 
   -- others asked and took turns
-  pub desk_on : (h g : SeenLists service) (d : P) → GrowsUncut h g → h.keepings ≡ g.keepings → IsDeskOf m start g d → IsDeskOf m start h d
+  pub desk_on : (h g : SeenLists service N) (d : P) → GrowsUncut h g → h.keepings ≡ g.keepings → IsDeskOf m start g d → IsDeskOf m start h d
   desk_on h g d goes same is = record {
     since = is.since;
-    world = is.world;
+    register = is.register;
+    owners = is.owners;
     uncut = goes_trans h g (m.note d) goes is.uncut;
     far = subst (λ ks. AllByRecursion (λ k. IsAsFar k.own (m.reach d)) ks) (sym same) is.far;
     kept = λ k here. is.kept k (subst (λ ks. IsIn ks k) same here);
   }
 
   -- its turn is passed with this item
-  pub desk_pushed_on : (h : SeenLists service) (d : P) (k : Keeping) → IsDeskOf m start h d → IsAsFar k.own (m.reach d)
+  pub desk_pushed_on : (h : SeenLists service N) (d : P) (k : Keeping) → IsDeskOf m start h d → IsAsFar k.own (m.reach d)
       → (k.answer ≡ Kept → (k.own ≡ m.reach d) × (k.moment ≡ m.moment d)) → IsDeskOf m start (pushed h (at_desk k)) d
   desk_pushed_on h d k is near own = record {
     since = is.since;
-    world = is.world;
+    register = is.register;
+    owners = is.owners;
     uncut = goes_trans (pushed h (at_desk k)) h (m.note d) (goes_pushed h (at_desk k) tt refl) is.uncut;
     far = all_both _ h.keepings (k ∷ []) is.far (near, tt);
     kept = λ x here ok. ⊎_elim
@@ -158,12 +184,13 @@ module _ {service : Service} {M N P : Type 0} (m : Machines service M N P) (star
   }
 
   -- its note was brought up in its turn, and it reaches no less far
-  pub desk_brought_up : (h g : SeenLists service) (old new : P) → IsDeskOf m start g old → h.keepings ≡ g.keepings
-      → ((first : P) → m.DeskIsSince old first → m.DeskIsSince new first) → m.noted_world new ≡ m.noted_world old → GrowsUncut h (m.note new) → (m.note new).keepings ≡ h.keepings
+  pub desk_brought_up : (h g : SeenLists service N) (old new : P) → IsDeskOf m start g old → h.keepings ≡ g.keepings
+      → ((first : E) → m.DeskIsSince old first → m.DeskIsSince new first) → m.noted_register new ≡ m.noted_register old → m.noted_owners new ≡ m.noted_owners old → GrowsUncut h (m.note new) → (m.note new).keepings ≡ h.keepings
       → IsAsFar (m.reach old) (m.reach new) → IsDeskOf m start h new
-  desk_brought_up h g old new is same since world goes noted far = record {
+  desk_brought_up h g old new is same since register owners goes noted far = record {
     since = since start.desk is.since;
-    world = world ∙ is.world;
+    register = register ∙ is.register;
+    owners = owners ∙ is.owners;
     uncut = goes;
     far = subst (λ ks. AllByRecursion (λ k. IsAsFar k.own (m.reach new)) ks) (sym same)
         (all_weaker _ _ g.keepings (λ (k : Keeping) (near : IsAsFar k.own (m.reach old)).
@@ -173,15 +200,24 @@ module _ {service : Service} {M N P : Type 0} (m : Machines service M N P) (star
 
   -- ---- before anything was done
 
-  pub owner_begun : IsFresh m start → (lane : ℕ) (o : N) → get_elem? start.owners lane ≡ some o → m.owner o ≡ objects_in m start.owners lane
-      → IsOwnerOf m start lane [] o
-  owner_begun fresh lane o there same = record { now = same; since = subst (m.OwnerIsSince o lane) same (fresh.owners lane o there) }
+  pub owner_begun : IsFresh m start → (lane : ℕ) (o : N) → get_elem? start.owners lane ≡ some o
+      → m.owner o ≡ objects_in m start.owners lane → IsOwnerOf m start (nothing start.owners) lane o
+  owner_begun fresh lane o there same =
+      let none : lane_of (replicate (length start.owners) []) lane ≡ (let empty : LaneList service = [] in empty) =
+      lane_nothing (length start.owners) lane in record {
+        now = same ∙ sym (ap (objects_after service (objects_in m start.owners lane)) none);
+        was = o;
+        was_is = there;
+        had = same ∙ sym (ap (lane_cut m start lane) none);
+        since = fresh.owners lane o there;
+      }
 
-  pub desk_begun : IsFresh m start → IsDeskOf m start (nothing (length start.owners)) start.desk
-  desk_begun fresh = record {
-    since = fresh.desk;
-    world = fresh.world;
-    uncut = subst (GrowsUncut (nothing (length start.owners))) (sym fresh.note) (goes_refl (nothing (length start.owners)));
+  pub desk_begun : (desk : P) → IsFreshDesk m start desk → IsDeskOf m start (nothing start.owners) desk
+  desk_begun desk fresh = record {
+    since = fresh.known_by;
+    register = fresh.register;
+    owners = fresh.owners;
+    uncut = subst (GrowsUncut (nothing start.owners)) (sym fresh.note) (goes_refl (nothing start.owners));
     far = tt;
     kept = λ k here _. absurd here;
   }
@@ -189,7 +225,7 @@ module _ {service : Service} {M N P : Type 0} (m : Machines service M N P) (star
   -- ---- whichever
 
   -- a machine at home stands for its list, whatever joins the other lists; the desk, as long as nobody cuts
-  pub stands_on : (q : Queue) (s : HallSlot service M N P) (h h' : SeenLists service) → SameList q h h' → (q ≡ OfDesk → GrowsUncut h' h)
+  pub stands_on : (q : Queue) (s : HallSlot service M N P) (h h' : SeenLists service N) → SameList q h h' → (q ≡ OfDesk → GrowsUncut h' h)
       → StandsFor m q s start h → StandsFor m q s start h'
   stands_on OfRegister Away h h' same goes ok = absurd ok
   stands_on OfRegister (AtRegister d) h h' same goes ok = subst (λ items. IsRegisterOf m start items d.register) same ok
@@ -197,9 +233,15 @@ module _ {service : Service} {M N P : Type 0} (m : Machines service M N P) (star
   stands_on OfRegister (AtLane d) h h' same goes ok = absurd ok
   stands_on OfDesk Away h h' same goes ok = absurd ok
   stands_on OfDesk (AtRegister d) h h' same goes ok = absurd ok
-  stands_on OfDesk (AtDesk d) h h' same goes ok = desk_on h' h d.desk (goes refl) (sym same) ok
+  stands_on OfDesk (AtDesk d) h h' same goes ok = desk_on h' h d (goes refl) (sym same) ok
   stands_on OfDesk (AtLane d) h h' same goes ok = absurd ok
   stands_on (OfLane l) Away h h' same goes ok = absurd ok
   stands_on (OfLane l) (AtRegister d) h h' same goes ok = absurd ok
   stands_on (OfLane l) (AtDesk d) h h' same goes ok = absurd ok
-  stands_on (OfLane l) (AtLane d) h h' same goes ok = subst (λ items. IsOwnerOf m start l items d.owner) same ok
+  stands_on (OfLane l) (AtLane d) h h' same goes ok = record {
+    now = ok.now ∙ ap (objects_after service (objects_in m start.owners l)) same.0;
+    was = ok.was;
+    was_is = sym same.1 ∙ ok.was_is;
+    had = ok.had ∙ ap (lane_cut m start l) same.0;
+    since = ok.since;
+  }

@@ -17,7 +17,7 @@ same_words [] i = refl
 same_words (x ∷ ws) zero = refl
 same_words (x ∷ ws) (suc i) = ap (λ l. x ∷ l) (same_words ws i)
 
-module _ {Q V T R : Type 0} (lanes register_next desk_next : ℕ) (h : Lists Q V T R) (words : List ℕ) where
+module _ {Q V T R N : Type 0} (lanes register_next desk_next : ℕ) (h : Lists Q V T R N) (words : List ℕ) where
   pub words_register_draw : ShowsLengths lanes register_next desk_next h words → register_next + 1 < 2 ^ 64
       → ShowsLengths lanes (register_next + 1) desk_next h (set words 0 ((get_or words 0 0 + 1) % 2 ^ 64))
   words_register_draw ok room =
@@ -45,7 +45,7 @@ module _ {Q V T R : Type 0} (lanes register_next desk_next : ℕ) (h : Lists Q V
             get_or-set_other words 1 (word_of q) next 0 (λ e. absurd (omega (arith, e))) ∙ ok.shows q is;
       }
 
-  pub words_pass : (h' : Lists Q V T R) (q : Queue) → IsQueue lanes q → len_of h q + 1 < 2 ^ 64 → len_of h' q ≡ len_of h q + 1
+  pub words_pass : (h' : Lists Q V T R N) (q : Queue) → IsQueue lanes q → len_of h q + 1 < 2 ^ 64 → len_of h' q ≡ len_of h q + 1
       → ((q' : Queue) → Apart q q' → len_of h' q' ≡ len_of h q')
       → ShowsLengths lanes register_next desk_next h words
       → ShowsLengths lanes register_next desk_next h' (set words (word_of q) ((get_or words (word_of q) 0 + 1) % 2 ^ 64))

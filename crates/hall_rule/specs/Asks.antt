@@ -21,16 +21,16 @@ use Rattle.hall_rule.specs.Rule.{names, HallView, seeing}
 use Rattle.hall_rule.specs.WholeTurns.{IsPass, entry_behind}
 
 -- each ticket of the entry has its item in its lane
-abbrev pub ArePassed : (service : Service) → SeenLists service
+abbrev pub ArePassed : (service : Service) {N : Type 0} → SeenLists service N
     → Entry service.Asked service.Verdict → Type 0
 ArePassed service h e = (lane : ℕ) (ticket : Ticket service.Task)
     → IsIn (tickets_of service lane (Entered e)) ticket
     → IsIn (tickets (lane_of h.lanes lane)) ticket
 
 -- the pass has the tickets of its entry in hand, and nothing else
-pub record MayServe {service : Service} {M N P : Type 0} (m : Machines service M N P)
-    (start : Start M N P) (before : List (RegisterItem service.Asked service.Verdict))
-    (e : Entry service.Asked service.Verdict) (v : HallView service M N P) : Type 0 where
+pub record MayServe {service : Service} {M N P E : Type 0} (m : Machines service M N P E)
+    (start : Start M N E) (before : List (RegisterItem service.Asked service.Verdict))
+    (e : Entry service.Asked service.Verdict) (v : HallView service M N E) : Type 0 where
   pub pass : IsPass start v
   pub fresh : v ≡ seeing v v.claims v.seen
   pub entered : StartsWith v.seen.register (before ++ Entered e ∷ [])
@@ -40,10 +40,10 @@ pub record MayServe {service : Service} {M N P : Type 0} (m : Machines service M
 
 -- every ticket was passed, each entry that is new is another pass's, and this is what the entry's
 -- turns came to
-pub record HasServed {service : Service} {M N P : Type 0} (m : Machines service M N P)
-    (start : Start M N P) (e : Entry service.Asked service.Verdict)
-    (what : What service.Verdict service.Reply) (v w : HallView service M N P) : Type 0 where
-  pub seen : SeenLists service
+pub record HasServed {service : Service} {M N P E : Type 0} (m : Machines service M N P E)
+    (start : Start M N E) (e : Entry service.Asked service.Verdict)
+    (what : What service.Verdict service.Reply) (v w : HallView service M N E) : Type 0 where
+  pub seen : SeenLists service N
   pub is : w ≡ seeing v [] seen
   pub longer : GrowsFrom seen v.seen
   pub own_same : (x : ℕ) → 0 < times x (names v) → own x seen.register ≡ own x v.seen.register
@@ -56,11 +56,11 @@ pub record HasServed {service : Service} {M N P : Type 0} (m : Machines service 
 -- The pass's own entries have grown by this one, which stands at this place, and each of its
 -- tickets was passed; its verdict is one that the register gives there, and the answer is the
 -- place's reply.
-pub record HasAsked {service : Service} {M N P : Type 0} (m : Machines service M N P)
-    (start : Start M N P) (place : ℕ) (asked : service.Asked) (verdict : service.Verdict)
-    (what : What service.Verdict service.Reply) (v w : HallView service M N P) : Type 0 where
-  pub before : SeenLists service
-  pub seen : SeenLists service
+pub record HasAsked {service : Service} {M N P E : Type 0} (m : Machines service M N P E)
+    (start : Start M N E) (place : ℕ) (asked : service.Asked) (verdict : service.Verdict)
+    (what : What service.Verdict service.Reply) (v w : HallView service M N E) : Type 0 where
+  pub before : SeenLists service N
+  pub seen : SeenLists service N
   pub is : w ≡ seeing v [] seen
   pub longer : GrowsFrom seen v.seen
   pub legal : IsLegal service (world_of m start) (history_of service seen)

@@ -65,9 +65,9 @@ abbrev pub count_of : (service : Service) → List (RegisterItem service.Asked s
 count_of service register l = length (issued service l register)
 
 -- the tickets that an item issues behind these lists
-abbrev pub issued_by : (service : Service) → SeenLists service
-    → Item service.Asked service.Verdict service.Task service.Reply → List Claim
+abbrev pub issued_by : (service : Service) {N : Type 0} → SeenLists service N
+    → Item service.Asked service.Verdict service.Task service.Reply N → List Claim
 issued_by service h (at_register e) =
     claims_of (count_of service h.register) (lanes_issued service e)
 issued_by service h (at_desk k) = []
-issued_by service h (at_lane lane i) = []
+issued_by service h (at_lane lane i owner) = []

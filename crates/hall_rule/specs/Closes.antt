@@ -18,10 +18,10 @@ use Rattle.hall_rule.specs.Steps.{HasGrown}
 -- There is one legal history, which begins with all that the last pass had seen. The pass has seen
 -- each of its entries, each of them is of one of its numbers, and each ticket was passed. Each
 -- machine is where its list of it has brought it.
-pub record HasClosed {service : Service} {M N P : Type 0} (m : Machines service M N P)
-    (start : Start M N P) (v : HallView service M N P) (register : M) (owners : List N)
+pub record HasClosed {service : Service} {M N P E : Type 0} (m : Machines service M N P E)
+    (start : Start M N E) (v : HallView service M N E) (register : M) (owners : List N)
     (desk : P) : Type 0 where
-  pub seen : SeenLists service
+  pub seen : SeenLists service N
   pub grown : HasGrown m start v seen
   pub all_seen : entries seen.register ≡ entries v.seen.register
   pub named : (e : Entry service.Asked service.Verdict) → IsIn seen.register (Entered e)
@@ -32,4 +32,4 @@ pub record HasClosed {service : Service} {M N P : Type 0} (m : Machines service 
   pub desk_is : IsDeskOf m start seen desk
   pub count : length owners ≡ length start.owners
   pub owners_are : (lane : ℕ) → lane < length start.owners → (o : N)
-      × (get_elem? owners lane ≡ some o) × IsOwnerOf m start lane (lane_of seen.lanes lane) o
+      × (get_elem? owners lane ≡ some o) × IsOwnerOf m start seen lane o

@@ -9,7 +9,7 @@ abbrev pub register_home : {M N P Q V R : Type 0} → M → Slot M N P Q V R
 register_home register = AtRegister (record { register = register; news = None })
 
 abbrev pub desk_home : {M N P Q V R : Type 0} → P → Slot M N P Q V R
-desk_home desk = AtDesk (record { desk = desk; news = None })
+desk_home desk = AtDesk desk
 
 abbrev pub lane_home : {M N P Q V R : Type 0} → N → Slot M N P Q V R
 lane_home owner = AtLane (record { owner = owner; news = None })

@@ -12,9 +12,9 @@ use Rattle.hall_rule.specs.Rule.{names, HallView}
 
 -- The pass has seen lists that begin with what each of the two had seen, and that have of each no
 -- more entries than it had seen. It has the names of both.
-pub record HasJoined {service : Service} {M N P : Type 0} (m : Machines service M N P)
-    (start : Start M N P) (v w u : HallView service M N P) : Type 0 where
-  pub seen : SeenLists service
+pub record HasJoined {service : Service} {M N P E : Type 0} (m : Machines service M N P E)
+    (start : Start M N E) (v w u : HallView service M N E) : Type 0 where
+  pub seen : SeenLists service N
   pub is : u ≡ record v {
     spare = v.spare ++ w.spare;
     joined = (v.joined ++ w.number ∷ []) ++ w.joined;

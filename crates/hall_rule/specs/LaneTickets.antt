@@ -23,9 +23,9 @@ claims_from count lane (suc n) =
     claim (OfLane lane) (count lane) false ∷ claims_from count (lane + 1) n
 
 -- From `v` on. The tickets lie before other claims, and no entry of these turns is the pass's own.
-pub record IsServingLanes {service : Service} {M N P : Type 0} (m : Machines service M N P)
-    (start : Start M N P) (count : ℕ → ℕ) (ticket : Ticket service.Task) (lane : ℕ)
-    (others : List Claim) (v w : HallView service M N P) : Type 0 where
+pub record IsServingLanes {service : Service} {M N P E : Type 0} (m : Machines service M N P E)
+    (start : Start M N E) (count : ℕ → ℕ) (ticket : Ticket service.Task) (lane : ℕ)
+    (others : List Claim) (v w : HallView service M N E) : Type 0 where
   pub is : w ≡ seeing v (claims_from count lane (service.lanes - lane) ++ others) w.seen
   pub few : lane ≤ service.lanes
   pub tickets : (l : ℕ) → l < service.lanes

@@ -33,35 +33,35 @@ use Rattle.hall_rule.specs.Standing.{HallSlot, StandsFor}
 use Rattle.hall_rule.specs.Claims.{numbers, waits, holds_at, holds, busy, count_of}
 
 -- the next number that will be drawn, or the next ticket that will be issued
-abbrev pub next_of : (service : Service) → ℕ → ℕ → SeenLists service → Queue → ℕ
+abbrev pub next_of : (service : Service) {N : Type 0} → ℕ → ℕ → SeenLists service N → Queue → ℕ
 next_of service register desk h OfRegister = register
 next_of service register desk h OfDesk = desk
 next_of service register desk h (OfLane lane) = count_of service h.register lane
 
-module _ {Q V T R X : Type 0} where
+module _ {Q V T R N X : Type 0} where
   -- the pass's number, those that it may give to others, and those of the passes that were joined
   -- into it
-  abbrev pub names : View Q V T R X → List ℕ
+  abbrev pub names : View Q V T R N X → List ℕ
   names v = cond v.live (v.number ∷ (v.spare ++ v.joined)) []
 
   -- a sum over the claims of all views
-  abbrev pub claimed : (Claim → ℕ) → List (View Q V T R X) → ℕ
+  abbrev pub claimed : (Claim → ℕ) → List (View Q V T R N X) → ℕ
   claimed f views = total (λ v. total f v.claims) views
 
   -- 1 for a view that isn't spent
-  abbrev pub alive : View Q V T R X → ℕ
+  abbrev pub alive : View Q V T R N X → ℕ
   alive v = cond v.live 1 0
 
   -- none of the entries that were seen has a number that the view may give to others
-  abbrev pub AreUnused : View Q V T R X → Type 0
+  abbrev pub AreUnused : View Q V T R N X → Type 0
   AreUnused v = (x : ℕ) → 0 < times x v.spare → own x v.seen.register ≡ []
 
   -- no number stands twice among the names
-  abbrev pub AreApart : View Q V T R X → Type 0
+  abbrev pub AreApart : View Q V T R N X → Type 0
   AreApart v = (x : ℕ) → times x (names v) ≤ 1
 
 -- each list's word shows its length
-pub record ShowsLengths {Q V T R : Type 0} (lanes register_next desk_next : ℕ) (h : Lists Q V T R)
+pub record ShowsLengths {Q V T R N : Type 0} (lanes register_next desk_next : ℕ) (h : Lists Q V T R N)
     (words : List ℕ) : Type 0 where
   pub count : length words ≡ lanes + 4
   pub register_next_is : slice_index words 0 ≡ register_next
@@ -70,8 +70,8 @@ pub record ShowsLengths {Q V T R : Type 0} (lanes register_next desk_next : ℕ)
 
 -- each number that was drawn or issued and not passed is in hand once, and a turn is held only
 -- under the number that the word shows
-pub record AreClaimedOnce {Q V T R X : Type 0} (next len : Queue → ℕ)
-    (views : List (View Q V T R X)) : Type 0 where
+pub record AreClaimedOnce {Q V T R N X : Type 0} (next len : Queue → ℕ)
+    (views : List (View Q V T R N X)) : Type 0 where
   pub once : (q : Queue) (n : ℕ) → claimed (waits q n) views + claimed (holds_at q n)
       views + once_below n (len q) ≡ once_below n (next q)
   pub turns : (q : Queue) → claimed (holds q) views ≡ claimed (holds_at q (len q)) views
@@ -80,34 +80,36 @@ pub record AreClaimedOnce {Q V T R X : Type 0} (next len : Queue → ℕ)
   pub desk_drawn : claimed (numbers OfDesk) views + len OfDesk ≡ next OfDesk
 
 -- each number below `passes` is a name of one view, once
-pub record AreNamedOnce {Q V T R X : Type 0} (passes : ℕ) (views : List (View Q V T R X))
+pub record AreNamedOnce {Q V T R N X : Type 0} (passes : ℕ) (views : List (View Q V T R N X))
     : Type 0 where
   pub few : passes < 2 ^ 32
   pub named : (x : ℕ) → total (λ v. times x (names v)) views ≡ once_below x passes
   pub all_names : total (λ v. length (names v)) views ≡ passes
 
 -- what a pass knows, and what the state of the hall's table is
-abbrev pub HallView : (service : Service) (M N P : Type 0) → Type 0
-HallView service M N P = View service.Asked service.Verdict service.Task service.Reply (Start M N P)
+abbrev pub HallView : (service : Service) (M N E : Type 0) → Type 0
+HallView service M N E =
+    View service.Asked service.Verdict service.Task service.Reply N (Start M N E)
 
-abbrev pub HallState : (service : Service) (M N P : Type 0) → Type 0
-HallState service M N P = State (HallSlot service M N P) (HallView service M N P)
+abbrev pub HallState : (service : Service) (M N P E : Type 0) → Type 0
+HallState service M N P E = State (HallSlot service M N P) (HallView service M N E)
 
 -- a view, and the slots that are out with it
-abbrev pub HallHand : (service : Service) (M N P : Type 0) → Type 0
-HallHand service M N P = Me (HallSlot service M N P) (HallView service M N P)
+abbrev pub HallHand : (service : Service) (M N P E : Type 0) → Type 0
+HallHand service M N P E = Me (HallSlot service M N P) (HallView service M N E)
 
-pub record IsHallHistory {service : Service} {M N P : Type 0} (m : Machines service M N P)
-    (passes : ℕ) (start : Start M N P) (h : SeenLists service) : Type 0 where
+pub record IsHallHistory {service : Service} {M N P E : Type 0} (m : Machines service M N P E)
+    (passes : ℕ) (start : Start M N E) (h : SeenLists service N) : Type 0 where
   pub count : length h.lanes ≡ length start.owners
+  pub was_count : length h.was ≡ length start.owners
   pub legal : IsLegal service (world_of m start) (history_of service h)
   pub seconds : SecondsFollow service (history_of service h).lane
   pub short : (q : Queue) → len_of h q ≤ limit_of q
   pub strangers : (x : ℕ) → passes ≤ x → own x h.register ≡ []
 
 -- what the rule says of one view
-pub record IsViewOf {service : Service} {M N P : Type 0} (m : Machines service M N P)
-    (start : Start M N P) (h : SeenLists service) (v : HallView service M N P) : Type 0 where
+pub record IsViewOf {service : Service} {M N P E : Type 0} (m : Machines service M N P E)
+    (start : Start M N E) (h : SeenLists service N) (v : HallView service M N E) : Type 0 where
   pub start_is : v.live ≡ true → v.start ≡ Some start
   pub begins : v.live ≡ true → GrowsFrom h v.seen
   pub legal : v.live ≡ true → IsLegal service (world_of m start) (history_of service v.seen)
@@ -127,18 +129,18 @@ pub record IsViewOf {service : Service} {M N P : Type 0} (m : Machines service M
   pub idle : v.live ≡ false → v.claims ≡ []
 
 -- a slot whose turn nobody holds is at home, and its machine stands for the list
-pub record AreAtHome {service : Service} {M N P : Type 0} (m : Machines service M N P)
-    (start : Start M N P) (h : SeenLists service) (views : List (HallView service M N P))
+pub record AreAtHome {service : Service} {M N P E : Type 0} (m : Machines service M N P E)
+    (start : Start M N E) (h : SeenLists service N) (views : List (HallView service M N E))
     (homes : List (maybe.Option (HallSlot service M N P))) : Type 0 where
   pub count : length homes ≡ length start.owners + 2
   pub home : (q : Queue) → IsQueue (length start.owners) q → claimed (holds q) views ≡ 0
       → (s : HallSlot service M N P) × (get_elem? homes (slot_of q) ≡ some (some s))
       × StandsFor m q s start h
 
-pub record FollowsRule {service : Service} {M N P : Type 0} (m : Machines service M N P)
-    (passes : ℕ) (start : Start M N P)
-    (s : HallState service M N P) : Type 0 where
-  pub history : SeenLists service
+pub record FollowsRule {service : Service} {M N P E : Type 0} (m : Machines service M N P E)
+    (passes : ℕ) (start : Start M N E)
+    (s : HallState service M N P E) : Type 0 where
+  pub history : SeenLists service N
   pub register_next : ℕ
   pub desk_next : ℕ
   pub words_show : ShowsLengths (length start.owners) register_next desk_next history s.words
@@ -148,7 +150,7 @@ pub record FollowsRule {service : Service} {M N P : Type 0} (m : Machines servic
   pub names_once : AreNamedOnce passes s.views
   pub lists_are : IsHallHistory m passes start history
   pub homes_are : AreAtHome m start history s.views s.homes
-  pub views_are : (id : ℕ) (v : HallView service M N P) → get_elem? s.views id ≡ some v
+  pub views_are : (id : ℕ) (v : HallView service M N E) → get_elem? s.views id ≡ some v
       → IsViewOf m start history v
 
 abbrev pub head_or_zero : List ℕ → ℕ
@@ -159,22 +161,22 @@ abbrev pub tail_of : List ℕ → List ℕ
 tail_of [] = []
 tail_of (x ∷ xs) = xs
 
-module _ {Q V T R X : Type 0} where
-  abbrev pub first_view : ℕ → ℕ → X → View Q V T R X
-  first_view passes lanes start = record {
+module _ {Q V T R N X : Type 0} where
+  abbrev pub first_view : ℕ → List N → X → View Q V T R N X
+  first_view passes owners start = record {
     live = true;
     number = 0;
     spare = upward 1 (passes - 1);
     joined = [];
     claims = [];
     start = Some start;
-    seen = nothing lanes;
+    seen = nothing owners;
     guests = [];
-    guest_seen = nothing lanes;
+    guest_seen = nothing owners;
   }
 
   -- a view that was joined into another
-  abbrev pub spent_view : View Q V T R X
+  abbrev pub spent_view : View Q V T R N X
   spent_view = record {
     live = false;
     number = 0;
@@ -182,16 +184,16 @@ module _ {Q V T R X : Type 0} where
     joined = [];
     claims = [];
     start = None;
-    seen = nothing 0;
+    seen = nothing [];
     guests = [];
-    guest_seen = nothing 0;
+    guest_seen = nothing [];
   }
 
   -- what a pass keeps at a split, and the pass that it gives away
-  abbrev pub left_by_split : View Q V T R X → View Q V T R X
+  abbrev pub left_by_split : View Q V T R N X → View Q V T R N X
   left_by_split v = record v { spare = tail_of v.spare }
 
-  abbrev pub given_by_split : View Q V T R X → View Q V T R X
+  abbrev pub given_by_split : View Q V T R N X → View Q V T R N X
   given_by_split v = record {
     live = true;
     number = head_or_zero v.spare;
@@ -205,7 +207,7 @@ module _ {Q V T R X : Type 0} where
   }
 
   -- a view with no name, which has the lists that a pass has seen
-  abbrev pub note_of : View Q V T R X → View Q V T R X
+  abbrev pub note_of : View Q V T R N X → View Q V T R N X
   note_of v = record {
     live = false;
     number = 0;
@@ -219,7 +221,7 @@ module _ {Q V T R X : Type 0} where
   }
 
   -- two passes are joined; a load then tells what the guest's lists mean
-  abbrev pub merged : View Q V T R X → View Q V T R X → View Q V T R X
+  abbrev pub merged : View Q V T R N X → View Q V T R N X → View Q V T R N X
   merged v w = record {
     live = v.live;
     number = v.number;
@@ -233,5 +235,5 @@ module _ {Q V T R X : Type 0} where
   }
 
   -- the view has seen these lists, and has these claims
-  abbrev pub seeing : View Q V T R X → List Claim → Lists Q V T R → View Q V T R X
+  abbrev pub seeing : View Q V T R N X → List Claim → Lists Q V T R N → View Q V T R N X
   seeing v claims h = record v { claims = claims; seen = h; guests = []; guest_seen = h }

@@ -1,11 +1,12 @@
 -- When a machine in its slot stands for its list.
 --     IsRegisterOf m start items register   as the list leaves it, with marks since its last cut
---     IsOwnerOf m start lane items owner    so of a lane's objects
+--     IsOwnerOf m start h lane owner        so of a lane's objects, since what its owner was at its last cut
 --     IsDeskOf m start h desk               the desk's note and numbers fit the lists
 --     StandsFor m q slot start h            whichever the queue has
 --     MarksRegister, MarksLane              what a turn does to the marks
---     IsFresh m start                       the machines as a hall begins
-use Rattle.std.specs.Prelude.{◌≡◌, ◌⊎◌, ℕ, length, true, false}
+--     IsFresh m start                       the register and the owners as a hall begins
+--     IsFreshDesk m start desk              and its desk
+use Rattle.std.specs.Prelude.{◌≡◌, ◌⊎◌, ℕ, true, false}
 use mathlib.Core.Option.{some}
 use lib.ListN.{get_elem?}
 use Rattle.std.specs.List.{AllByRecursion}
@@ -26,15 +27,15 @@ use Rattle.hall_rule.specs.declared.queue.Queue.TheVariants.{OfRegister, OfDesk,
 use Rattle.hall_rule.specs.declared.slot.Slot.{Slot}
 use Rattle.hall_rule.specs.declared.slot.Slot.TheVariants.{Away, AtRegister, AtDesk, AtLane}
 use Rattle.hall_rule.specs.declared.view.Start.{Start}
-use Rattle.hall_rule.specs.Machines.{Machines, objects_in, world_of}
-use Rattle.hall_rule.specs.Seen.{GrowsUncut, SeenLists, lane_of, nothing}
+use Rattle.hall_rule.specs.Machines.{Machines, objects_in}
+use Rattle.hall_rule.specs.Seen.{GrowsUncut, SeenLists, lane_of, nothing, was_of}
 
 -- what a slot of the hall has
 abbrev pub HallSlot : (service : Service) (M N P : Type 0) → Type 0
 HallSlot service M N P = Slot M N P service.Asked service.Verdict service.Reply
 
-module _ {service : Service} {M N P : Type 0} (m : Machines service M N P)
-    (start : Start M N P) where
+module _ {service : Service} {M N P E : Type 0} (m : Machines service M N P E)
+    (start : Start M N E) where
   -- the catalogue at the register's last cut that found memory, and a lane's objects at its own
   abbrev pub catalogue_cut : RegisterList service → service.Catalogue
   catalogue_cut items =
@@ -47,9 +48,14 @@ module _ {service : Service} {M N P : Type 0} (m : Machines service M N P)
     pub now : m.register register ≡ register_after service (m.register start.register) items
     pub since : m.RegisterIsSince register (catalogue_cut items)
 
-  pub record IsOwnerOf (lane : ℕ) (items : LaneList service) (owner : N) : Type 0 where
-    pub now : m.owner owner ≡ objects_after service (objects_in m start.owners lane) items
-    pub since : m.OwnerIsSince owner lane (lane_cut lane items)
+  pub record IsOwnerOf (h : SeenLists service N) (lane : ℕ) (owner : N) : Type 0 where
+    pub now : m.owner owner
+        ≡ objects_after service (objects_in m start.owners lane) (lane_of h.lanes lane)
+    -- at its last cut
+    pub was : N
+    pub was_is : was_of h lane ≡ some was
+    pub had : m.owner was ≡ lane_cut lane (lane_of h.lanes lane)
+    pub since : m.OwnerIsSince owner lane was
 
   -- this keeping is in the note, or it is the desk's last
   abbrev pub IsItsKeeping : P → Keeping → Type 0
@@ -58,23 +64,28 @@ module _ {service : Service} {M N P : Type 0} (m : Machines service M N P)
 
   -- The note's lists begin those of the hall, and behind them nobody cut. No keeping reaches
   -- farther than the desk, and each that was answered Ok is its own.
-  pub record IsDeskOf (h : SeenLists service) (desk : P) : Type 0 where
+  pub record IsDeskOf (h : SeenLists service N) (desk : P) : Type 0 where
     pub since : m.DeskIsSince desk start.desk
-    pub world : m.noted_world desk ≡ world_of m start
+    pub register : m.noted_register desk ≡ start.register
+    pub owners : m.noted_owners desk ≡ start.owners
     pub uncut : GrowsUncut h (m.note desk)
     pub far : AllByRecursion (λ k. IsAsFar k.own (m.reach desk)) h.keepings
     pub kept : (k : Keeping) → IsIn h.keepings k → k.answer ≡ Kept → IsItsKeeping desk k
 
-  -- Nothing changed since the cuts, and the desk's note is empty.
+  -- nothing changed since the cuts
   pub record IsFresh : Type 0 where
     pub register : m.RegisterIsSince start.register (service.catalogue (m.register start.register))
     pub owners : (lane : ℕ) (o : N) → get_elem? start.owners lane ≡ some o
-        → m.OwnerIsSince o lane (m.owner o)
-    pub desk : m.DeskIsSince start.desk start.desk
-    pub note : m.note start.desk ≡ nothing (length start.owners)
-    pub world : m.noted_world start.desk ≡ world_of m start
+        → m.OwnerIsSince o lane o
 
-module _ {service : Service} {M N P : Type 0} (m : Machines service M N P) where
+  -- the note is empty
+  pub record IsFreshDesk (desk : P) : Type 0 where
+    pub known_by : m.DeskIsSince desk start.desk
+    pub note : m.note desk ≡ nothing start.owners
+    pub register : m.noted_register desk ≡ start.register
+    pub owners : m.noted_owners desk ≡ start.owners
+
+module _ {service : Service} {M N P E : Type 0} (m : Machines service M N P E) where
   -- what was changed is marked; a cut that found memory leaves no mark
   abbrev pub MarksRegister : RegisterItem service.Asked service.Verdict → M → M → Type 0
   MarksRegister (Entered e) old new =
@@ -88,12 +99,12 @@ module _ {service : Service} {M N P : Type 0} (m : Machines service M N P) where
 
   abbrev pub MarksLane : ℕ → LaneItem service.Task service.Reply → N → N → Type 0
   MarksLane lane (Passed place part task outcome) old new =
-      (o : service.Objects) → m.OwnerIsSince old lane o → m.OwnerIsSince new lane o
-  MarksLane lane (WasCut number place true) old new = m.OwnerIsSince new lane (m.owner old)
+      (was : N) → m.OwnerIsSince old lane was → m.OwnerIsSince new lane was
+  MarksLane lane (WasCut number place true) old new = m.OwnerIsSince new lane new
   MarksLane lane (WasCut number place false) old new =
-      (o : service.Objects) → m.OwnerIsSince old lane o → m.OwnerIsSince new lane o
+      (was : N) → m.OwnerIsSince old lane was → m.OwnerIsSince new lane was
 
-  abbrev pub StandsFor : Queue → HallSlot service M N P → Start M N P → SeenLists service
+  abbrev pub StandsFor : Queue → HallSlot service M N P → Start M N E → SeenLists service N
       → Type 0
   StandsFor OfRegister Away start h = ⊥
   StandsFor OfRegister (AtRegister d) start h = IsRegisterOf m start h.register d.register
@@ -101,10 +112,9 @@ module _ {service : Service} {M N P : Type 0} (m : Machines service M N P) where
   StandsFor OfRegister (AtLane d) start h = ⊥
   StandsFor OfDesk Away start h = ⊥
   StandsFor OfDesk (AtRegister d) start h = ⊥
-  StandsFor OfDesk (AtDesk d) start h = IsDeskOf m start h d.desk
+  StandsFor OfDesk (AtDesk d) start h = IsDeskOf m start h d
   StandsFor OfDesk (AtLane d) start h = ⊥
   StandsFor (OfLane lane) Away start h = ⊥
   StandsFor (OfLane lane) (AtRegister d) start h = ⊥
   StandsFor (OfLane lane) (AtDesk d) start h = ⊥
-  StandsFor (OfLane lane) (AtLane d) start h =
-      IsOwnerOf m start lane (lane_of h.lanes lane) d.owner
+  StandsFor (OfLane lane) (AtLane d) start h = IsOwnerOf m start h lane d.owner

@@ -66,7 +66,7 @@ lane_item (Some (cut_of number at)) (Acts outcome) = None
 lane_item (Some (cut_of number at)) (CutsLane found) = Some (WasCut number at found)
 
 -- the slot of a lane with its owner, and what a turn did
-abbrev pub lane_slot : {service : Service} {M N P : Type 0} → Machines service M N P → N
+abbrev pub lane_slot : {service : Service} {M N P E : Type 0} → Machines service M N P E → N
     → LaneNews service.Reply → HallSlot service M N P
 lane_slot m owner news = AtLane (record { owner = owner; news = Some news })
 
@@ -74,11 +74,11 @@ abbrev pub and_then : {X Y : Type 0} → Option X → (X → Option Y) → Optio
 and_then None f = None
 and_then (Some x) f = f x
 
-module _ (service : Service) {M N P : Type 0} where
+module _ {service : Service} {M N P E : Type 0} (m : Machines service M N P E) where
   -- the item that lies beside the machine in a slot that was taken at this queue's turn, under this
   -- number
-  abbrev pub news_of : SeenLists service → ℕ → Queue → ℕ → HallSlot service M N P
-      → Option (Item service.Asked service.Verdict service.Task service.Reply)
+  abbrev pub news_of : SeenLists service N → ℕ → Queue → ℕ → HallSlot service M N P
+      → Option (Item service.Asked service.Verdict service.Task service.Reply N)
   news_of seen by OfRegister n Away = None
   news_of seen by OfRegister n (AtRegister d) =
       option_map (λ news. at_register (register_item seen.register by news)) d.news
@@ -86,18 +86,18 @@ module _ (service : Service) {M N P : Type 0} where
   news_of seen by OfRegister n (AtLane d) = None
   news_of seen by OfDesk n Away = None
   news_of seen by OfDesk n (AtRegister d) = None
-  news_of seen by OfDesk n (AtDesk d) = option_map (λ news. at_desk news.value) d.news
+  news_of seen by OfDesk n (AtDesk d) = option_map at_desk (m.news d)
   news_of seen by OfDesk n (AtLane d) = None
   news_of seen by (OfLane lane) n Away = None
   news_of seen by (OfLane lane) n (AtRegister d) = None
   news_of seen by (OfLane lane) n (AtDesk d) = None
   news_of seen by (OfLane lane) n (AtLane d) =
-      option_map (at_lane lane) (and_then d.news
+      option_map (λ i. at_lane lane i d.owner) (and_then d.news
       (lane_item (slice_get (issued service lane seen.register) n)))
 
   -- the item that lies beside the machine that was taken last, for the queue of the newest claim
-  abbrev pub head_news : SeenLists service → ℕ → List Claim → List (ℕ × HallSlot service M N P)
-      → Option (Item service.Asked service.Verdict service.Task service.Reply)
+  abbrev pub head_news : SeenLists service N → ℕ → List Claim → List (ℕ × HallSlot service M N P)
+      → Option (Item service.Asked service.Verdict service.Task service.Reply N)
   head_news seen by [] slots = None
   head_news seen by (c ∷ cs) [] = None
   head_news seen by (c ∷ cs) (x ∷ xs) = news_of seen by c.queue c.number x.1
@@ -107,8 +107,8 @@ others_of [] = []
 others_of (c ∷ cs) = cs
 
 -- the lists go on from all that the view has seen, have no more of its own entries, and are legal
-pub record HasGrown {service : Service} {M N P : Type 0} (m : Machines service M N P)
-    (start : Start M N P) (v : HallView service M N P) (h : SeenLists service) : Type 0 where
+pub record HasGrown {service : Service} {M N P E : Type 0} (m : Machines service M N P E)
+    (start : Start M N E) (v : HallView service M N E) (h : SeenLists service N) : Type 0 where
   pub start_is : v.start ≡ Some start
   pub legal : IsLegal service (world_of m start) (history_of service h)
   pub begins : GrowsFrom h v.seen
@@ -118,26 +118,26 @@ pub record HasGrown {service : Service} {M N P : Type 0} (m : Machines service M
   pub guest_owns : (x : ℕ) → 0 < times x v.guests → own x h.register ≡ own x v.guest_seen.register
   pub unused : (x : ℕ) → 0 < times x v.spare → own x h.register ≡ []
 
-module _ {Z Q V T R X : Type 0} where
-  abbrev pub HasDrawn : Queue → Step Z → Me Z (View Q V T R X) → ℕ → Me Z (View Q V T R X) → Type 0
+module _ {Z Q V T R N X : Type 0} where
+  abbrev pub HasDrawn : Queue → Step Z → Me Z (View Q V T R N X) → ℕ → Me Z (View Q V T R N X) → Type 0
   HasDrawn q st me n me' = (me'.1 ≡ me.1)
       × (me'.0 ≡ record me.0 { claims = claim q n false ∷ me.0.claims })
 
   -- the number of items shown is at least that of those seen
-  abbrev pub HasCounted : Step Z → Me Z (View Q V T R X) → ℕ → Me Z (View Q V T R X) → Type 0
+  abbrev pub HasCounted : Step Z → Me Z (View Q V T R N X) → ℕ → Me Z (View Q V T R N X) → Type 0
   HasCounted st me n me' = (me' ≡ me) × (length me.0.seen.register ≤ n)
 
   -- nothing was asked under the numbers that the view may give away
-  abbrev pub HasSpared : Step Z → Me Z (View Q V T R X) → ℕ → Me Z (View Q V T R X) → Type 0
+  abbrev pub HasSpared : Step Z → Me Z (View Q V T R N X) → ℕ → Me Z (View Q V T R N X) → Type 0
   HasSpared st me n me' = (me' ≡ me) × AreUnused me.0
 
 -- the number was shown: the machine that was taken out stands for its list, and the view has seen
 -- all lists
-pub record HasTaken {service : Service} {M N P : Type 0} (m : Machines service M N P)
-    (start : Start M N P) (c : Claim) (others : List Claim) (me me' : HallHand service M N P)
+pub record HasTaken {service : Service} {M N P E : Type 0} (m : Machines service M N P E)
+    (start : Start M N E) (c : Claim) (others : List Claim) (me me' : HallHand service M N P E)
     : Type 0 where
   pub slot : HallSlot service M N P
-  pub seen : SeenLists service
+  pub seen : SeenLists service N
   pub is : me' ≡ (
     seeing me.0 (record c { held = true } ∷ others) seen,
     (slot_of c.queue, slot) ∷ me.1,
@@ -154,19 +154,19 @@ pub record HasTaken {service : Service} {M N P : Type 0} (m : Machines service M
 
 -- The item joined the lists: `mid` are the hall's a moment before, in which each list begins with
 -- that of `front`.
-pub record WasAdded {service : Service} {M N P : Type 0} (m : Machines service M N P)
-    (start : Start M N P) (item : Item service.Asked service.Verdict service.Task service.Reply)
-    (front seen : SeenLists service) : Type 0 where
-  pub mid : SeenLists service
+pub record WasAdded {service : Service} {M N P E : Type 0} (m : Machines service M N P E)
+    (start : Start M N E) (item : Item service.Asked service.Verdict service.Task service.Reply N)
+    (front seen : SeenLists service N) : Type 0 where
+  pub mid : SeenLists service N
   pub begins : GrowsFrom mid front
   pub legal : IsLegal service (world_of m start) (history_of service mid)
   pub seen_is : seen ≡ pushed mid item
 
 -- the item joined its list, and the view has seen all lists
-pub record HasPassed {service : Service} {M N P : Type 0} (m : Machines service M N P)
-    (start : Start M N P) (item : Item service.Asked service.Verdict service.Task service.Reply)
-    (v w : HallView service M N P) : Type 0 where
-  pub seen : SeenLists service
+pub record HasPassed {service : Service} {M N P E : Type 0} (m : Machines service M N P E)
+    (start : Start M N E) (item : Item service.Asked service.Verdict service.Task service.Reply N)
+    (v w : HallView service M N E) : Type 0 where
+  pub seen : SeenLists service N
   pub is : w ≡ seeing v (issued_by service v.seen item ++ others_of v.claims) seen
   pub same : SameList (queue_of item) (pushed v.seen item) seen
   pub grown : HasGrown m start (record v { seen = pushed v.seen item }) seen
@@ -176,28 +176,28 @@ pub record HasPassed {service : Service} {M N P : Type 0} (m : Machines service 
   pub alone : SameList (queue_of item) v.seen added.mid
   pub uncut : 0 < total (holds OfDesk) (others_of v.claims) → GrowsUncut added.mid v.seen
 
-module _ {service : Service} {M N P : Type 0} (m : Machines service M N P) where
-  abbrev pub HasLookedAt : List Claim → HallHand service M N P → ℕ → HallHand service M N P → Type 0
+module _ {service : Service} {M N P E : Type 0} (m : Machines service M N P E) where
+  abbrev pub HasLookedAt : List Claim → HallHand service M N P E → ℕ → HallHand service M N P E → Type 0
   HasLookedAt [] me k me' = me' ≡ me
   HasLookedAt (c ∷ others) me k me' =
-      (k ≡ c.number → c.number < limit_of c.queue → (start : Start M N P)
+      (k ≡ c.number → c.number < limit_of c.queue → (start : Start M N E)
       × HasTaken m start c others me me')
       × (((k ≡ c.number) × (c.number < limit_of c.queue) → ⊥) → me' ≡ me)
 
   -- a look for the turn of the newest claim
-  abbrev pub HasLooked : Step (HallSlot service M N P) → HallHand service M N P → ℕ
-      → HallHand service M N P → Type 0
+  abbrev pub HasLooked : Step (HallSlot service M N P) → HallHand service M N P E → ℕ
+      → HallHand service M N P E → Type 0
   HasLooked st me k me' = HasLookedAt me.0.claims me k me'
 
   -- the item beside the machine joined its list, and the slot went home
-  abbrev pub PassesTurn : Step (HallSlot service M N P) → HallHand service M N P → ℕ
-      → HallHand service M N P → Type 0
-  PassesTurn st me k me' = (item : Item service.Asked service.Verdict service.Task service.Reply)
-      → head_news service me.0.seen me.0.number me.0.claims me.1 ≡ Some item → (start : Start M N P)
+  abbrev pub PassesTurn : Step (HallSlot service M N P) → HallHand service M N P E → ℕ
+      → HallHand service M N P E → Type 0
+  PassesTurn st me k me' = (item : Item service.Asked service.Verdict service.Task service.Reply N)
+      → head_news m me.0.seen me.0.number me.0.claims me.1 ≡ Some item → (start : Start M N E)
       × (me'.1 ≡ rest me.1) × HasPassed m start item me.0 me'.0
 
   -- a load that tells a pass what it has seen, and what those that were joined into it had
-  abbrev pub HasLearnt : Step (HallSlot service M N P) → HallHand service M N P → ℕ
-      → HallHand service M N P → Type 0
-  HasLearnt st me k me' = (h : SeenLists service) × (start : Start M N P)
+  abbrev pub HasLearnt : Step (HallSlot service M N P) → HallHand service M N P E → ℕ
+      → HallHand service M N P E → Type 0
+  HasLearnt st me k me' = (h : SeenLists service N) × (start : Start M N E)
       × (me' ≡ (seeing me.0 me.0.claims h, me.1)) × HasGrown m start me.0 h × AreApart me.0

@@ -31,7 +31,6 @@ use Rattle.hall_rule.specs.Machines.{Machines}
 use Rattle.hall_rule.specs.Standing.{HallSlot, IsDeskOf, IsOwnerOf, IsRegisterOf}
 use Rattle.hall_rule.specs.Standing.{MarksLane, MarksRegister}
 use Rattle.hall_rule.specs.Rule.{HallHand, HallView, names, seeing}
-use Rattle.hall_rule.specs.declared.slot.DeskSlot.{DeskSlot}
 use Rattle.hall_rule.specs.declared.slot.LaneSlot.{LaneSlot}
 use Rattle.hall_rule.specs.declared.slot.LaneNews.TheVariants.{Acts, Cuts as CutsLane}
 use Rattle.hall_rule.specs.declared.slot.RegisterSlot.{RegisterSlot}
@@ -41,7 +40,7 @@ use Rattle.hall_rule.specs.Sums.{times, total, upward}
 use Rattle.hall_rule.specs.Queues.{limit_of, slot_of}
 use Rattle.hall_rule.specs.Claims.{claim, count_of, holds}
 use Rattle.hall_rule.specs.Seen.{GrowsFrom, GrowsUncut, SeenLists, at_desk, at_lane, at_register}
-use Rattle.hall_rule.specs.Seen.{history_of, lane_of, lanes_of, pushed}
+use Rattle.hall_rule.specs.Seen.{history_of, lanes_of, pushed}
 use Rattle.hall_rule.specs.Steps.{HasPassed, HasTaken, lane_slot, news_of, others_of}
 use Rattle.hall_rule.specs.Steps.{plain_outcome}
 use Rattle.hall_rule.specs.WholeTurns.{HasActed, HasCutLane, HasCutRegister, HasDecided}
@@ -50,52 +49,52 @@ use Rattle.hall_rule.specs.WholeTurns.{MayCutLane, MayDraw, MayDrawDesk, MayLook
 
 -- ---- what was taken
 
-pub record MachinesStand {service : Service} {M N P : Type 0} (m : Machines service M N P)
+pub record MachinesStand {service : Service} {M N P E : Type 0} (m : Machines service M N P E)
     : Type 0 where
-  pub register : (start : Start M N P) (n : ℕ) (others : List Claim)
-      (me after : HallHand service M N P)
+  pub register : (start : Start M N E) (n : ℕ) (others : List Claim)
+      (me after : HallHand service M N P E)
       → (t : HasTaken m start (claim OfRegister n false) others me after)
       → (d : RegisterSlot M service.Asked service.Verdict) × (t.slot ≡ AtRegister d)
       × IsRegisterOf m start t.seen.register d.register
   -- so many places were given at most, and no ticket of a lane waits without end
-  pub room : (start : Start M N P) (n : ℕ) (others : List Claim)
-      (me after : HallHand service M N P)
+  pub room : (start : Start M N E) (n : ℕ) (others : List Claim)
+      (me after : HallHand service M N P E)
       → (t : HasTaken m start (claim OfRegister n false) others me after)
       → (places t.seen.register < 2 ^ 61)
       × ((l : ℕ) → count_of service t.seen.register l < limit_of (OfLane l))
-  pub owner : (start : Start M N P) (lane n : ℕ) (others : List Claim)
-      (me after : HallHand service M N P)
+  pub owner : (start : Start M N E) (lane n : ℕ) (others : List Claim)
+      (me after : HallHand service M N P E)
       → (t : HasTaken m start (claim (OfLane lane) n false) others me after)
       → (d : LaneSlot N service.Reply) × (t.slot ≡ AtLane d)
-      × IsOwnerOf m start lane (lane_of t.seen.lanes lane) d.owner
-  pub desk : (start : Start M N P) (n : ℕ) (others : List Claim)
-      (me after : HallHand service M N P)
+      × IsOwnerOf m start t.seen lane d.owner
+  pub desk : (start : Start M N E) (n : ℕ) (others : List Claim)
+      (me after : HallHand service M N P E)
       → (t : HasTaken m start (claim OfDesk n false) others me after)
-      → (d : DeskSlot P) × (t.slot ≡ AtDesk d) × IsDeskOf m start t.seen d.desk
+      → (d : P) × (t.slot ≡ AtDesk d) × IsDeskOf m start t.seen d
 
 -- ---- lists as histories
 
-pub record ListsAreHistories (service : Service) : Type 0 where
-  pub longer : (h g : SeenLists service) → GrowsFrom h g
+pub record ListsAreHistories (service : Service) (N : Type 0) : Type 0 where
+  pub longer : (h g : SeenLists service N) → GrowsFrom h g
       → IsPrefix (history_of service g) (history_of service h)
   -- where nobody cut
-  pub uncut : (h g : SeenLists service) → GrowsUncut h g
+  pub uncut : (h g : SeenLists service N) → GrowsUncut h g
       → GoesOn (history_of service g) (history_of service h)
   -- with one item more
-  pub register : (h : SeenLists service) (i : RegisterItem service.Asked service.Verdict)
+  pub register : (h : SeenLists service N) (i : RegisterItem service.Asked service.Verdict)
       → history_of service (pushed h (at_register i))
       ≡ with_register_item (history_of service h) i
-  pub lane : (h : SeenLists service) (l : ℕ) (i : LaneItem service.Task service.Reply)
-      → l < length h.lanes → history_of service (pushed h (at_lane l i))
+  pub lane : (h : SeenLists service N) (l : ℕ) (i : LaneItem service.Task service.Reply) (owner : N)
+      → l < length h.lanes → history_of service (pushed h (at_lane l i owner))
       ≡ with_lane_item (history_of service h) l i
-  pub keepings : (h : SeenLists service) (k : Keeping)
+  pub keepings : (h : SeenLists service N) (k : Keeping)
       → history_of service (pushed h (at_desk k)) ≡ with_keeping (history_of service h) k
 
 -- ---- the register
 
-pub record RegisterTurnLaws {service : Service} {M N P : Type 0} (m : Machines service M N P)
-    (start : Start M N P) (v : HallView service M N P) (seen : SeenLists service)
-    (back : HallHand service M N P) (d new : RegisterSlot M service.Asked service.Verdict)
+pub record RegisterTurnLaws {service : Service} {M N P E : Type 0} (m : Machines service M N P E)
+    (start : Start M N E) (v : HallView service M N E) (seen : SeenLists service N)
+    (back : HallHand service M N P E) (d new : RegisterSlot M service.Asked service.Verdict)
     : Type 0 where
   -- before the turn is passed
   pub may_decide : (asked : Snapshot service.Asked) (verdict : Snapshot service.Verdict)
@@ -122,24 +121,24 @@ pub record RegisterTurnLaws {service : Service} {M N P : Type 0} (m : Machines s
       → IsReadyToPass m start (at_register (RegisterCut (places seen.register) found)) back
   -- and behind, with the lists as they were when it was taken
   pub decided : (place : ℕ) (asked : service.Asked) (verdict : service.Verdict)
-      (w : HallView service M N P) → HasPassed m start (at_register
+      (w : HallView service M N E) → HasPassed m start (at_register
       (Entered (entry_behind seen.register v.number asked verdict))) back.0 w
       → place ≡ places seen.register → service.MayAnswer (m.register d.register) asked verdict
       → (k : HasDecided m start place asked verdict v w) × (k.before ≡ seen)
-  pub drew_cut : (place : ℕ) (w : HallView service M N P) → HasPassed m start
+  pub drew_cut : (place : ℕ) (w : HallView service M N E) → HasPassed m start
       (at_register (DrawnCut (drawn seen.register) (places seen.register))) back.0 w
       → place ≡ places seen.register
       → (k : HasDrawnCut m start place v w) × (k.before ≡ seen)
-  pub cut : (place : ℕ) (found : Bool) (w : HallView service M N P)
+  pub cut : (place : ℕ) (found : Bool) (w : HallView service M N E)
       → HasPassed m start (at_register (RegisterCut (places seen.register) found)) back.0 w
       → place ≡ places seen.register
       → (k : HasCutRegister m start place found v w) × (k.before ≡ seen)
 
-pub record RegisterTurns {service : Service} {M N P : Type 0} (m : Machines service M N P)
+pub record RegisterTurns {service : Service} {M N P E : Type 0} (m : Machines service M N P E)
     : Type 0 where
   -- a number was drawn, its turn came, and the register is in its slot again
-  pub turn : (start : Start M N P) (n : ℕ) (v : HallView service M N P)
-      (first taken back : HallHand service M N P)
+  pub turn : (start : Start M N E) (n : ℕ) (v : HallView service M N E)
+      (first taken back : HallHand service M N P E)
       (d new : RegisterSlot M service.Asked service.Verdict)
       → MayDraw start v → first.0 ≡ record v { claims = claim OfRegister n false ∷ v.claims }
       → (t : HasTaken m start (claim OfRegister n false) v.claims first taken)
@@ -149,7 +148,7 @@ pub record RegisterTurns {service : Service} {M N P : Type 0} (m : Machines serv
         (slot_of OfRegister, AtRegister new) ∷ first.1,
       )
       → RegisterTurnLaws m start v t.seen back d new
-  pub may_look : (start : Start M N P) (n : ℕ) (v w : HallView service M N P) → MayDraw start v
+  pub may_look : (start : Start M N E) (n : ℕ) (v w : HallView service M N E) → MayDraw start v
       → w ≡ record v { claims = claim OfRegister n false ∷ v.claims }
       → MayLook start OfRegister n v.claims w
 
@@ -157,28 +156,28 @@ pub record RegisterTurns {service : Service} {M N P : Type 0} (m : Machines serv
 
 -- The item that an owner's slot tells, with the ticket in hand of a part: the reply as it was given,
 -- that memory was wanting, or that the turn was passed over. With that of a cut it tells the cut.
-pub record SlotsTell {service : Service} {M N P : Type 0} (m : Machines service M N P)
-    (seen : SeenLists service) (by lane n : ℕ) (owner : N) : Type 0 where
+pub record SlotsTell {service : Service} {M N P E : Type 0} (m : Machines service M N P E)
+    (seen : SeenLists service N) (by lane n : ℕ) (owner : N) : Type 0 where
   pub done : (place : ℕ) (part : Part) (task : service.Task) (reply : Snapshot service.Reply)
       → slice_get (issued service lane seen.register) n ≡ Some (part_of place part task)
-      → news_of service seen by (OfLane lane) n (lane_slot m owner (Acts (Done reply)))
-      ≡ Some (at_lane lane (Passed place part task (Done reply.value)))
+      → news_of m seen by (OfLane lane) n (lane_slot m owner (Acts (Done reply)))
+      ≡ Some (at_lane lane (Passed place part task (Done reply.value)) owner)
   pub short : (place : ℕ) (part : Part) (task : service.Task)
       → slice_get (issued service lane seen.register) n ≡ Some (part_of place part task)
-      → news_of service seen by (OfLane lane) n (lane_slot m owner (Acts Short))
-      ≡ Some (at_lane lane (Passed place part task Short))
+      → news_of m seen by (OfLane lane) n (lane_slot m owner (Acts Short))
+      ≡ Some (at_lane lane (Passed place part task Short) owner)
   pub skipped : (place : ℕ) (part : Part) (task : service.Task)
       → slice_get (issued service lane seen.register) n ≡ Some (part_of place part task)
-      → news_of service seen by (OfLane lane) n (lane_slot m owner (Acts Skipped))
-      ≡ Some (at_lane lane (Passed place part task Skipped))
+      → news_of m seen by (OfLane lane) n (lane_slot m owner (Acts Skipped))
+      ≡ Some (at_lane lane (Passed place part task Skipped) owner)
   pub cut : (number place : ℕ) (found : Bool)
       → slice_get (issued service lane seen.register) n ≡ Some (cut_of number place)
-      → news_of service seen by (OfLane lane) n (lane_slot m owner (CutsLane found))
-      ≡ Some (at_lane lane (WasCut number place found))
+      → news_of m seen by (OfLane lane) n (lane_slot m owner (CutsLane found))
+      ≡ Some (at_lane lane (WasCut number place found) owner)
 
-pub record LaneTurnLaws {service : Service} {M N P : Type 0} (m : Machines service M N P)
-    (start : Start M N P) (lane n : ℕ) (seen : SeenLists service)
-    (first back : HallHand service M N P) (d new : LaneSlot N service.Reply) : Type 0 where
+pub record LaneTurnLaws {service : Service} {M N P E : Type 0} (m : Machines service M N P E)
+    (start : Start M N E) (lane n : ℕ) (seen : SeenLists service N)
+    (first back : HallHand service M N P E) (d new : LaneSlot N service.Reply) : Type 0 where
   -- before the turn is passed
   pub may_act : (place : ℕ) (part : Part) (task : service.Task) (skip : Bool)
       (outcome : Outcome (Snapshot service.Reply))
@@ -188,30 +187,32 @@ pub record LaneTurnLaws {service : Service} {M N P : Type 0} (m : Machines servi
       → m.owner new.owner
       ≡ objects_step service (m.owner d.owner) (Passed place part task (plain_outcome outcome))
       → is_skipped (plain_outcome outcome) ≡ skip
-      → ((o : service.Objects) → m.OwnerIsSince d.owner lane o → m.OwnerIsSince new.owner lane o)
-      → IsReadyToPass m start (at_lane lane (Passed place part task (plain_outcome outcome))) back
+      → ((was : N) → m.OwnerIsSince d.owner lane was → m.OwnerIsSince new.owner lane was)
+      → IsReadyToPass m start
+      (at_lane lane (Passed place part task (plain_outcome outcome)) new.owner) back
   pub may_cut : (cut place : ℕ) (found : Bool) → MayCutLane service start lane n cut place first.0
       → new.news ≡ Some (CutsLane found) → m.owner new.owner ≡ m.owner d.owner
       → MarksLane m lane (WasCut cut place found) d.owner new.owner
-      → IsReadyToPass m start (at_lane lane (WasCut cut place found)) back
+      → IsReadyToPass m start (at_lane lane (WasCut cut place found) new.owner) back
   -- and behind, with the lists as they were when it was taken
   pub acted : (place : ℕ) (part : Part) (task : service.Task) (skip : Bool)
-      (outcome : Outcome service.Reply) (w : HallView service M N P)
+      (outcome : Outcome service.Reply) (w : HallView service M N E)
       → MayAct service start lane n place part task skip first.0
-      → HasPassed m start (at_lane lane (Passed place part task outcome)) back.0 w
+      → HasPassed m start (at_lane lane (Passed place part task outcome) new.owner) back.0 w
       → (k : HasActed m start lane place part task outcome first.0 w) × (k.turned.before ≡ seen)
-  pub cut : (cut place : ℕ) (found : Bool) (w : HallView service M N P)
+  pub cut : (cut place : ℕ) (found : Bool) (w : HallView service M N E)
       → MayCutLane service start lane n cut place first.0
-      → HasPassed m start (at_lane lane (WasCut cut place found)) back.0 w
-      → (k : HasCutLane m start lane cut place found first.0 w) × (k.turned.before ≡ seen)
+      → HasPassed m start (at_lane lane (WasCut cut place found) new.owner) back.0 w
+      → (k : HasCutLane m start lane cut place found new.owner first.0 w)
+      × (k.turned.before ≡ seen)
 
-pub record LaneTurns {service : Service} {M N P : Type 0} (m : Machines service M N P)
+pub record LaneTurns {service : Service} {M N P E : Type 0} (m : Machines service M N P E)
     : Type 0 where
   -- what lies beside the owner is what its turn adds to the list
-  pub news : (seen : SeenLists service) (by lane n : ℕ) (owner : N)
+  pub news : (seen : SeenLists service N) (by lane n : ℕ) (owner : N)
       → SlotsTell m seen by lane n owner
   -- a ticket's turn came, and the owner is in its slot again
-  pub turn : (start : Start M N P) (lane n : ℕ) (first taken back : HallHand service M N P)
+  pub turn : (start : Start M N E) (lane n : ℕ) (first taken back : HallHand service M N P E)
       (d new : LaneSlot N service.Reply)
       → (t : HasTaken m start (claim (OfLane lane) n false) (others_of first.0.claims) first taken)
       → t.slot ≡ AtLane d
@@ -221,51 +222,51 @@ pub record LaneTurns {service : Service} {M N P : Type 0} (m : Machines service 
       )
       → LaneTurnLaws m start lane n t.seen first back d new
   -- the ticket is the lane's next, by the lists as they are when its turn has come
-  pub next : (start : Start M N P) (lane n place : ℕ) (part : Part) (task : service.Task)
-      (skip : Bool) (first taken : HallHand service M N P)
+  pub next : (start : Start M N E) (lane n place : ℕ) (part : Part) (task : service.Task)
+      (skip : Bool) (first taken : HallHand service M N P E)
       → MayAct service start lane n place part task skip first.0
       → (t : HasTaken m start (claim (OfLane lane) n false) (others_of first.0.claims) first taken)
       → IsNext service (history_of service t.seen) lane (part_of place part task)
-  pub may_look : (start : Start M N P) (lane n place : ℕ) (part : Part) (task : service.Task)
-      (skip : Bool) (v : HallView service M N P)
+  pub may_look : (start : Start M N E) (lane n place : ℕ) (part : Part) (task : service.Task)
+      (skip : Bool) (v : HallView service M N E)
       → MayAct service start lane n place part task skip v
       → MayLook start (OfLane lane) n (others_of v.claims) v
-  pub may_look_cut : (start : Start M N P) (lane n cut place : ℕ) (v : HallView service M N P)
+  pub may_look_cut : (start : Start M N E) (lane n cut place : ℕ) (v : HallView service M N E)
       → MayCutLane service start lane n cut place v
       → MayLook start (OfLane lane) n (others_of v.claims) v
 
 -- ---- the desk
 
-pub record DeskTurns {service : Service} {M N P : Type 0} (m : Machines service M N P)
+pub record DeskTurns {service : Service} {M N P E : Type 0} (m : Machines service M N P E)
     : Type 0 where
-  pub may_look : (start : Start M N P) (n : ℕ) (v w : HallView service M N P)
+  pub may_look : (start : Start M N E) (n : ℕ) (v w : HallView service M N E)
       → MayDrawDesk start v → w ≡ record v { claims = claim OfDesk n false ∷ v.claims }
       → MayLook start OfDesk n v.claims w
   -- others asked and took turns since
-  pub stays : (start : Start M N P) (h g : SeenLists service) (d : P) → GrowsUncut h g
+  pub stays : (start : Start M N E) (h g : SeenLists service N) (d : P) → GrowsUncut h g
       → h.keepings ≡ g.keepings → IsDeskOf m start g d → IsDeskOf m start h d
   -- its note was brought up in its turn, and it reaches no less far
-  pub brought_up : (start : Start M N P) (h g : SeenLists service) (old new : P)
+  pub brought_up : (start : Start M N E) (h g : SeenLists service N) (old new : P)
       → IsDeskOf m start g old → h.keepings ≡ g.keepings
-      → ((first : P) → m.DeskIsSince old first → m.DeskIsSince new first)
-      → m.noted_world new ≡ m.noted_world old → GrowsUncut h (m.note new)
+      → ((first : E) → m.DeskIsSince old first → m.DeskIsSince new first)
+      → m.noted_register new ≡ m.noted_register old → m.noted_owners new ≡ m.noted_owners old
+      → GrowsUncut h (m.note new)
       → (m.note new).keepings ≡ h.keepings → IsAsFar (m.reach old) (m.reach new)
       → IsDeskOf m start h new
   -- the keeping of its turn reaches no farther; one that is answered Ok is its own
-  pub keeps : (start : Start M N P) (h : SeenLists service) (d : P) (k : Keeping)
+  pub keeps : (start : Start M N E) (h : SeenLists service N) (d : P) (k : Keeping)
       → IsDeskOf m start h d → IsAsFar k.own (m.reach d)
       → (k.answer ≡ Kept → (k.own ≡ m.reach d) × (k.moment ≡ m.moment d))
       → IsDeskOf m start (pushed h (at_desk k)) d
-  pub may_pass : (start : Start M N P) (me : HallHand service M N P) (n : ℕ)
-      (others : List Claim) (more : List (ℕ × HallSlot service M N P)) (d : DeskSlot P)
-      (k : Snapshot Keeping) → IsPass start me.0 → me.0.claims ≡ claim OfDesk n true ∷ others
-      → me.1 ≡ (slot_of OfDesk, AtDesk d) ∷ more → d.news ≡ Some k
-      → IsDeskOf m start (pushed me.0.seen (at_desk k.value)) d.desk
-      → IsReadyToPass m start (at_desk k.value) me
+  pub may_pass : (start : Start M N E) (me : HallHand service M N P E) (n : ℕ)
+      (others : List Claim) (more : List (ℕ × HallSlot service M N P)) (d : P) (k : Keeping)
+      → IsPass start me.0 → me.0.claims ≡ claim OfDesk n true ∷ others
+      → me.1 ≡ (slot_of OfDesk, AtDesk d) ∷ more → m.news d ≡ Some k
+      → IsDeskOf m start (pushed me.0.seen (at_desk k)) d → IsReadyToPass m start (at_desk k) me
   -- A number was drawn and its turn came; then the pass went on to longer lists, with no entry of
   -- its own, and passed the turn.
-  pub kept : (start : Start M N P) (n : ℕ) (k : Keeping) (v : HallView service M N P)
-      (first taken back : HallHand service M N P) (w : HallView service M N P)
+  pub kept : (start : Start M N E) (n : ℕ) (k : Keeping) (v : HallView service M N E)
+      (first taken back : HallHand service M N P E) (w : HallView service M N E)
       → MayDrawDesk start v → first.0 ≡ record v { claims = claim OfDesk n false ∷ v.claims }
       → (t : HasTaken m start (claim OfDesk n false) v.claims first taken)
       → back.0 ≡ seeing taken.0 taken.0.claims back.0.seen → GrowsFrom back.0.seen t.seen

@@ -40,46 +40,46 @@ use Rattle.hall_rule.specs.Rule.{names, HallView, HallHand, seeing}
 use Rattle.hall_rule.specs.Steps.{WasAdded, others_of, news_of}
 
 -- the item has no entry of another pass than this one
-pub record IsBy {Q V T R : Type 0} (number : ℕ) (item : Item Q V T R) : Type 0 where
-  pub of_others : (x : ℕ) → number ≢ x → (h : Lists Q V T R)
+pub record IsBy {Q V T R N : Type 0} (number : ℕ) (item : Item Q V T R N) : Type 0 where
+  pub of_others : (x : ℕ) → number ≢ x → (h : Lists Q V T R N)
       → own x (pushed h item).register ≡ own x h.register
 
 -- The item may come next: at the register its verdict is one that may be, and its tickets are of
 -- lanes that are there; in a lane it is for the ticket in hand, and its outcome one that may be.
-abbrev pub MayJoinList : (service : Service) → World service → ℕ → ℕ → SeenLists service
-    → Item service.Asked service.Verdict service.Task service.Reply → Type 0
+abbrev pub MayJoinList : (service : Service) {N : Type 0} → World service → ℕ → ℕ → SeenLists service N
+    → Item service.Asked service.Verdict service.Task service.Reply N → Type 0
 MayJoinList service world lanes n seen (at_register e) =
     IsLegalRegisterItem service (register_after service world.register seen.register)
     (places seen.register) (drawn seen.register) e
     × AllByRecursion (λ l. l < lanes) (lanes_issued service e)
 MayJoinList service world lanes n seen (at_desk k) = Unit {0}
-MayJoinList service world lanes n seen (at_lane lane i) =
+MayJoinList service world lanes n seen (at_lane lane i owner) =
     (slice_get (issued service lane seen.register) n ≡ Some (ticket_of i))
     × IsReachedBy service (history_of service seen) i
     × IsLegalLaneItem service (objects_after service (world.objects lane)
     (lane_of seen.lanes lane)) i
 
 -- a pass that is in use, of a hall that began so
-pub record IsPass {Q V T R X : Type 0} (start : X) (v : View Q V T R X) : Type 0 where
+pub record IsPass {Q V T R N X : Type 0} (start : X) (v : View Q V T R N X) : Type 0 where
   pub live : v.live ≡ true
   pub no_guests : v.guests ≡ []
   pub begun : v.start ≡ Some start
 
 -- the pass may draw a number of the register, and wait for its turn
-pub record MayDraw {Q V T R X : Type 0} (start : X) (v : View Q V T R X) : Type 0 where
+pub record MayDraw {Q V T R N X : Type 0} (start : X) (v : View Q V T R N X) : Type 0 where
   pub pass : IsPass start v
   pub no_register : total (numbers OfRegister) v.claims ≡ 0
   pub no_turn : total busy v.claims ≡ 0
 
 -- and one of the desk
-pub record MayDrawDesk {Q V T R X : Type 0} (start : X) (v : View Q V T R X) : Type 0 where
+pub record MayDrawDesk {Q V T R N X : Type 0} (start : X) (v : View Q V T R N X) : Type 0 where
   pub pass : IsPass start v
   pub no_desk : total (numbers OfDesk) v.claims ≡ 0
   pub no_turn : total busy v.claims ≡ 0
 
 -- the newest claim waits under this number
-pub record MayLook {Q V T R M N P : Type 0} (start : Start M N P) (q : Queue) (n : ℕ)
-    (others : List Claim) (v : View Q V T R (Start M N P)) : Type 0 where
+pub record MayLook {Q V T R M N E : Type 0} (start : Start M N E) (q : Queue) (n : ℕ)
+    (others : List Claim) (v : View Q V T R N (Start M N E)) : Type 0 where
   pub live : v.live ≡ true
   pub begun : v.start ≡ Some start
   pub there : IsQueue (length start.owners) q
@@ -88,9 +88,9 @@ pub record MayLook {Q V T R M N P : Type 0} (start : Start M N P) (q : Queue) (n
 
 -- the pass holds a turn, and the slot that it took has the item and a machine that stands for the
 -- list with it
-pub record IsReadyToPass {service : Service} {M N P : Type 0} (m : Machines service M N P)
-    (start : Start M N P) (item : Item service.Asked service.Verdict service.Task service.Reply)
-    (me : HallHand service M N P) : Type 0 where
+pub record IsReadyToPass {service : Service} {M N P E : Type 0} (m : Machines service M N P E)
+    (start : Start M N E) (item : Item service.Asked service.Verdict service.Task service.Reply N)
+    (me : HallHand service M N P E) : Type 0 where
   pub number : ℕ
   pub others : List Claim
   pub slot : HallSlot service M N P
@@ -101,7 +101,7 @@ pub record IsReadyToPass {service : Service} {M N P : Type 0} (m : Machines serv
   pub there : IsQueue (length start.owners) (queue_of item)
   pub is_claim : me.0.claims ≡ claim (queue_of item) number true ∷ others
   pub is_slot : me.1 ≡ (slot_of (queue_of item), slot) ∷ more
-  pub news : news_of service me.0.seen me.0.number (queue_of item) number slot ≡ Some item
+  pub news : news_of m me.0.seen me.0.number (queue_of item) number slot ≡ Some item
   pub by : IsBy me.0.number item
   pub next : MayJoinList service (world_of m start) (length start.owners) number me.0.seen item
   pub stands : StandsFor m (queue_of item) slot start (pushed me.0.seen item)
@@ -110,11 +110,11 @@ pub record IsReadyToPass {service : Service} {M N P : Type 0} (m : Machines serv
 
 -- A whole turn: all lists as they were when the turn was taken, and as they are when it was passed.
 -- The item joined its list, and each entry that is new and isn't the item's is of another pass.
-pub record HasTurned {service : Service} {M N P : Type 0} (m : Machines service M N P)
-    (start : Start M N P) (item : Item service.Asked service.Verdict service.Task service.Reply)
-    (others : List Claim) (v w : HallView service M N P) : Type 0 where
-  pub before : SeenLists service
-  pub seen : SeenLists service
+pub record HasTurned {service : Service} {M N P E : Type 0} (m : Machines service M N P E)
+    (start : Start M N E) (item : Item service.Asked service.Verdict service.Task service.Reply N)
+    (others : List Claim) (v w : HallView service M N E) : Type 0 where
+  pub before : SeenLists service N
+  pub seen : SeenLists service N
   pub is : w ≡ seeing v (issued_by service before item ++ others) seen
   pub begins : GrowsFrom before v.seen
   pub own_before : (x : ℕ) → 0 < times x (names v) → own x before.register ≡ own x v.seen.register
@@ -137,10 +137,10 @@ entry_behind register by asked verdict =
     record { place = places register; by = by; asked = asked; verdict = verdict }
 
 -- a turn of the register in which the register decided a request
-pub record HasDecided {service : Service} {M N P : Type 0} (m : Machines service M N P)
-    (start : Start M N P) (place : ℕ) (asked : service.Asked) (verdict : service.Verdict)
-    (v w : HallView service M N P) : Type 0 where
-  pub before : SeenLists service
+pub record HasDecided {service : Service} {M N P E : Type 0} (m : Machines service M N P E)
+    (start : Start M N E) (place : ℕ) (asked : service.Asked) (verdict : service.Verdict)
+    (v w : HallView service M N E) : Type 0 where
+  pub before : SeenLists service N
   pub turned : HasTurned m start (at_register
       (Entered (entry_behind before.register v.number asked verdict))) v.claims v w
   pub before_is : turned.before ≡ before
@@ -159,8 +159,8 @@ IsToSkip service h place (Second a) skip = (task : service.Task) × (x : Outcome
     × IsIn (h.lane a) (Passed place First task x) × (skip ≡ not (is_well service x))
 
 -- the newest claim is the ticket of this part
-pub record MayAct (service : Service) {M N P : Type 0} (start : Start M N P) (lane number place : ℕ)
-    (part : Part) (task : service.Task) (skip : Bool) (v : HallView service M N P) : Type 0 where
+pub record MayAct (service : Service) {M N E : Type 0} (start : Start M N E) (lane number place : ℕ)
+    (part : Part) (task : service.Task) (skip : Bool) (v : HallView service M N E) : Type 0 where
   pub pass : IsPass start v
   pub there : lane < length start.owners
   pub is_claim : v.claims ≡ claim (OfLane lane) number false ∷ others_of v.claims
@@ -169,20 +169,21 @@ pub record MayAct (service : Service) {M N P : Type 0} (start : Start M N P) (la
       ≡ Some (part_of place part task)
   pub to_skip : IsToSkip service (history_of service v.seen) place part skip
 
--- a turn of a lane with this outcome, whose item is in the lane's list
-pub record HasActed {service : Service} {M N P : Type 0} (m : Machines service M N P)
-    (start : Start M N P) (lane place : ℕ) (part : Part) (task : service.Task)
-    (outcome : Outcome service.Reply) (v w : HallView service M N P) : Type 0 where
-  pub turned : HasTurned m start (at_lane lane (Passed place part task outcome))
+-- a turn of a lane with this outcome, whose item is in the lane's list, and which left the owner so
+pub record HasActed {service : Service} {M N P E : Type 0} (m : Machines service M N P E)
+    (start : Start M N E) (lane place : ℕ) (part : Part) (task : service.Task)
+    (outcome : Outcome service.Reply) (v w : HallView service M N E) : Type 0 where
+  pub owner : N
+  pub turned : HasTurned m start (at_lane lane (Passed place part task outcome) owner)
       (others_of v.claims) v w
   pub longer : GrowsFrom w.seen v.seen
   pub here : IsIn (lane_of w.seen.lanes lane) (Passed place part task outcome)
 
 -- A turn of the register in which a cut was drawn, behind so many places. Its tickets, one in each
 -- lane, have the lanes' next numbers, and are in hand.
-pub record HasDrawnCut {service : Service} {M N P : Type 0} (m : Machines service M N P)
-    (start : Start M N P) (place : ℕ) (v w : HallView service M N P) : Type 0 where
-  pub before : SeenLists service
+pub record HasDrawnCut {service : Service} {M N P E : Type 0} (m : Machines service M N P E)
+    (start : Start M N E) (place : ℕ) (v w : HallView service M N E) : Type 0 where
+  pub before : SeenLists service N
   pub turned : HasTurned m start (at_register
       (DrawnCut (drawn before.register) (places before.register))) v.claims v w
   pub before_is : turned.before ≡ before
@@ -191,9 +192,9 @@ pub record HasDrawnCut {service : Service} {M N P : Type 0} (m : Machines servic
       ≡ claims_of (count_of service before.register) (upward 0 service.lanes) ++ v.claims
 
 -- a turn of the register in which it was cut, behind so many places
-pub record HasCutRegister {service : Service} {M N P : Type 0} (m : Machines service M N P)
-    (start : Start M N P) (place : ℕ) (found : Bool) (v w : HallView service M N P) : Type 0 where
-  pub before : SeenLists service
+pub record HasCutRegister {service : Service} {M N P E : Type 0} (m : Machines service M N P E)
+    (start : Start M N E) (place : ℕ) (found : Bool) (v w : HallView service M N E) : Type 0 where
+  pub before : SeenLists service N
   pub turned : HasTurned m start (at_register (RegisterCut (places before.register) found))
       v.claims v w
   pub before_is : turned.before ≡ before
@@ -201,8 +202,8 @@ pub record HasCutRegister {service : Service} {M N P : Type 0} (m : Machines ser
   pub is_claims : w.claims ≡ v.claims
 
 -- the newest claim is a lane's ticket of a drawn cut, and the pass holds the desk's turn
-pub record MayCutLane (service : Service) {M N P : Type 0} (start : Start M N P)
-    (lane number cut place : ℕ) (v : HallView service M N P) : Type 0 where
+pub record MayCutLane (service : Service) {M N E : Type 0} (start : Start M N E)
+    (lane number cut place : ℕ) (v : HallView service M N E) : Type 0 where
   pub pass : IsPass start v
   pub there : lane < length start.owners
   pub is_claim : v.claims ≡ claim (OfLane lane) number false ∷ others_of v.claims
@@ -210,20 +211,21 @@ pub record MayCutLane (service : Service) {M N P : Type 0} (start : Start M N P)
   pub ticket : slice_get (issued service lane v.seen.register) number ≡ Some (cut_of cut place)
   pub desk : 0 < total (holds OfDesk) (others_of v.claims)
 
--- a turn of a lane in which it was cut, with or without memory
-pub record HasCutLane {service : Service} {M N P : Type 0} (m : Machines service M N P)
-    (start : Start M N P) (lane cut place : ℕ) (found : Bool) (v w : HallView service M N P)
-    : Type 0 where
-  pub turned : HasTurned m start (at_lane lane (WasCut cut place found)) (others_of v.claims) v w
+-- a turn of a lane in which it was cut, with or without memory, and which left the owner so
+pub record HasCutLane {service : Service} {M N P E : Type 0} (m : Machines service M N P E)
+    (start : Start M N E) (lane cut place : ℕ) (found : Bool) (owner : N)
+    (v w : HallView service M N E) : Type 0 where
+  pub turned : HasTurned m start (at_lane lane (WasCut cut place found) owner)
+      (others_of v.claims) v w
   pub longer : GrowsFrom w.seen v.seen
   pub here : IsIn (lane_of w.seen.lanes lane) (WasCut cut place found)
 
 -- A whole turn of the desk, with all that the pass did in it. No entry of it is the pass's own.
-pub record HasKept {service : Service} {M N P : Type 0} (m : Machines service M N P)
-    (start : Start M N P) (k : Keeping) (others : List Claim) (v w : HallView service M N P)
+pub record HasKept {service : Service} {M N P E : Type 0} (m : Machines service M N P E)
+    (start : Start M N E) (k : Keeping) (others : List Claim) (v w : HallView service M N E)
     : Type 0 where
-  pub before : SeenLists service
-  pub seen : SeenLists service
+  pub before : SeenLists service N
+  pub seen : SeenLists service N
   pub is : w ≡ seeing v others seen
   pub begins : GrowsFrom before v.seen
   pub longer : GrowsFrom seen before

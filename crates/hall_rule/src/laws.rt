@@ -43,7 +43,7 @@ pub fn machines_stand_for_their_lists<H: RuledHall>()
 
 /// The lists that passes have seen are histories of the service, and go on as histories do.
 pub fn lists_are_histories<H: RuledHall>()
-    ensures { (lanes : ℕ) → ListsAreHistories (H.service lanes) }
+    ensures { (lanes : ℕ) → ListsAreHistories (H.service lanes) (H.hall lanes).Owner }
 {}
 
 /// A turn of the register: it decides a request at the next place, draws a cut, or is cut. Only who

@@ -25,7 +25,5 @@ pub use laws::{
     the_desk_takes_turns, the_register_takes_turns,
 };
 pub use queue::{Claim, Queue};
-pub use slot::{
-    DeskSlot, LaneNews, LaneSlot, RegisterNews, RegisterSlot, Slot, lay, take_machines,
-};
+pub use slot::{LaneNews, LaneSlot, RegisterNews, RegisterSlot, Slot, lay, take_machines};
 pub use view::{Lists, Opening, Start, View};

@@ -9,7 +9,7 @@ ghost use lib.ListN.{get_elem?};
 ghost use Rattle.hall_rule.specs.Homes.{IsEmptied, lane_home, register_home, desk_home};
 
 use atomic_table::Closed;
-use lane_histories::{Keeping, Outcome};
+use lane_histories::Outcome;
 use std::alloc::{AllocError, Global};
 use std::snapshot::Snapshot;
 
@@ -43,17 +43,12 @@ pub struct LaneSlot<N, R> {
     pub news: Option<LaneNews<R>>,
 }
 
-/// The slot of the journal's desk.
-pub struct DeskSlot<P> {
-    pub desk: P,
-    pub news: Option<Snapshot<Keeping>>,
-}
-
-/// What a slot of the table has. `Away` lies there while the machine is in a pass's hands.
+/// What a slot of the table has. `Away` lies there while the machine is in a pass's hands. The desk
+/// of a journal tells itself what its last turn adds.
 pub enum Slot<M, N, P, Q, V, R> {
     Away,
     AtRegister(RegisterSlot<M, Q, V>),
-    AtDesk(DeskSlot<P>),
+    AtDesk(P),
     AtLane(LaneSlot<N, R>),
 }
 
@@ -98,12 +93,6 @@ impl<N: Drop, R> Drop for LaneSlot<N, R> {
     }
 }
 
-impl<P: Drop> Drop for DeskSlot<P> {
-    fn drop(self) {
-        let Self { desk: _, news: _ } = self;
-    }
-}
-
 impl<M: Drop, N: Drop, P: Drop, Q, V, R> Drop for Slot<M, N, P, Q, V, R> {
     fn drop(self) {
         match self {
@@ -128,7 +117,7 @@ impl<M: Drop, N: Drop, P: Drop, Q, V, R> Slot<M, N, P, Q, V, R> {
         }
     }
 
-    pub fn into_desk_slot(self) -> DeskSlot<P>
+    pub fn into_desk(self) -> P
         requires { (s : _) × (self ≡ AtDesk s) }
         ensures { self ≡ AtDesk result }
     {
@@ -178,7 +167,7 @@ pub fn lay<M: Drop, N: Drop, P: Drop, Q, V, R>(
         register,
         news: None,
     }))?;
-    slots.push(Slot::AtDesk(DeskSlot { desk, news: None }))?;
+    slots.push(Slot::AtDesk(desk))?;
     add_lanes(&mut slots, owners)?;
     Ok(slots)
 }
@@ -198,15 +187,6 @@ impl<N: Drop, R> LaneSlot<N, R> {
     {
         let Self { owner, news: _ } = self;
         owner
-    }
-}
-
-impl<P: Drop> DeskSlot<P> {
-    pub fn into_desk(self) -> P
-        ensures { result ≡ self.desk }
-    {
-        let Self { desk, news: _ } = self;
-        desk
     }
 }
 
@@ -250,15 +230,14 @@ pub fn take_machines<M: Drop, N: Drop, P: Drop, Q, V, R>(
     requires room { (room.old.items ≡ []) × (lanes ≤ vec_capacity room.old) }
     ensures register { (s : _) × (get_elem? (slots_items closed.slots) 0 ≡ some (Slot.AtRegister s))
         × (result.0 ≡ s.register) }
-    ensures desk { (s : _) × (get_elem? (slots_items closed.slots) 1 ≡ some (Slot.AtDesk s))
-        × (result.1 ≡ s.desk) }
+    ensures desk { get_elem? (slots_items closed.slots) 1 ≡ some (Slot.AtDesk result.1) }
     ensures count { length room.new.items ≡ lanes }
     ensures owners { (lane : ℕ) → lane < lanes
         → (s : _) × (get_elem? (slots_items closed.slots) (lane + 2) ≡ some (Slot.AtLane s))
         × (get_elem? room.new.items lane ≡ some s.owner) }
 {
     let register = closed.take(0).into_register_slot().into_register();
-    let desk = closed.take(1).into_desk_slot().into_desk();
+    let desk = closed.take(1).into_desk();
     take_lanes(&mut closed, room, lanes);
     closed.free();
     (register, desk)

@@ -4,22 +4,24 @@ use lane_histories::{Keeping, LaneItem, RegisterItem};
 use std::collections::LinkedList;
 use std::snapshot::Snapshot;
 
-/// The lists of a history: the register's, each lane's, and that of the keepings.
-pub struct Lists<Q, V, T, R> {
+/// The lists of a history: the register's, each lane's, and that of the keepings. Beside them each
+/// lane's owner as it was when the lane was cut last with memory, or as the hall began with it.
+pub struct Lists<Q, V, T, R, N> {
     pub register: LinkedList<RegisterItem<Q, V>>,
     pub lanes: LinkedList<LinkedList<LaneItem<T, R>>>,
     pub keepings: LinkedList<Keeping>,
+    pub was: LinkedList<N>,
 }
 
-/// The machines as they begin.
-pub struct Start<M, N, P> {
+/// The machines as they begin; of the desk, what it is known by.
+pub struct Start<M, N, E> {
     pub register: M,
     pub owners: LinkedList<N>,
-    pub desk: P,
+    pub desk: E,
 }
 
 /// What a pass knows of the hall, and what it has in hand.
-pub struct View<Q, V, T, R, X> {
+pub struct View<Q, V, T, R, N, X> {
     /// Not spent by a join.
     pub live: bool,
     pub number: u32,
@@ -32,22 +34,22 @@ pub struct View<Q, V, T, R, X> {
     /// With what the hall began.
     pub start: Option<X>,
     /// The lists as far as it has seen them.
-    pub seen: Lists<Q, V, T, R>,
+    pub seen: Lists<Q, V, T, R, N>,
     /// The numbers and the lists of a pass that was joined last, until a load has told what they
     /// mean.
     pub guests: LinkedList<u32>,
-    pub guest_seen: Lists<Q, V, T, R>,
+    pub guest_seen: Lists<Q, V, T, R, N>,
 }
 
 /// What the hall is told when it is made.
-pub struct Opening<M, N, P> {
+pub struct Opening<M, N, E> {
     pub register: Snapshot<M>,
     pub owners: Snapshot<Vec<N>>,
-    pub desk: Snapshot<P>,
+    pub desk: Snapshot<E>,
     pub passes: u32,
 }
 
-impl<M, N, P> Drop for Opening<M, N, P> {
+impl<M, N, E> Drop for Opening<M, N, E> {
     fn drop(self) {
         let Self {
             register: _,

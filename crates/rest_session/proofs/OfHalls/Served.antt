@@ -38,7 +38,7 @@ first_giver h p s n begun = record {
   number = ap (λ v. v.number) begun.first;
   spare = ap (λ v. v.spare) begun.first ∙ ap (upward 1) (let e : (n + 1) - 1 ≡ n = omega arith in e);
   joined = ap (λ v. v.joined) begun.first;
-  seen = ap (λ v. v.seen) begun.first ∙ ap (λ o. nothing (length o)) (sym begun.owners);
+  seen = ap (λ v. v.seen) begun.first ∙ ap (λ o. nothing o) (sym begun.owners);
   front = begun.front;
 }
 

@@ -13,10 +13,10 @@ use Rattle.service_core.specs.declared.answers.What.{What}
 use Rattle.lane_histories.specs.Histories.{own}
 use Rattle.lane_histories.specs.Replies.{reply}
 use Rattle.lane_histories.specs.declared.items.Entry.{Entry}
-use Rattle.hall_rule.specs.Seen.{SeenLists, history_of}
+use Rattle.hall_rule.specs.Seen.{history_of}
 use Rattle.service_histories.specs.ArrayServices.{Asked, array_service}
 use Rattle.service_histories.specs.PlainSteps.{answer_of}
-use Rattle.hall.specs.Answers.{ArrayStart, ArrayView}
+use Rattle.hall.specs.Answers.{ArrayLists, ArrayStart, ArrayView}
 use Rattle.hall.specs.ArrayMachines.{lanes_in, start_of}
 use Rattle.hall.specs.Passes.{IsPassOf}
 use Rattle.hall.specs.declared.hall.Hall.{Hall}
@@ -42,7 +42,7 @@ Told = Entry Asked Verdict × Option What
 
 -- the lists of the service; how many lanes there are doesn't matter to what they are made of
 abbrev pub Lists : Type 0
-Lists = SeenLists (array_service 0)
+Lists = ArrayLists
 
 abbrev pub told_of : ℕ → Lists → Entry Asked Verdict → Told
 told_of lanes seen e = (e, option_map answer_of (reply (array_service lanes) (history_of (array_service lanes) seen) e.place))

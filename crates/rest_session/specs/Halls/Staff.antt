@@ -8,7 +8,6 @@ use Rattle.hall_rule.specs.Rule.{names}
 use Rattle.hall_rule.specs.Seen.{GrowsFrom, nothing}
 use Rattle.hall_rule.specs.Sums.{times, upward}
 use Rattle.hall.specs.Answers.{ArrayView}
-use Rattle.hall.specs.ArrayMachines.{lanes_in}
 use Rattle.hall.specs.Passes.{IsPassOf}
 use Rattle.hall.specs.declared.hall.Hall.{Hall}
 use Rattle.hall.specs.declared.pass.Pass.{Pass}
@@ -19,7 +18,7 @@ pub record IsGiver {D : Type 0} (h : Hall D) (k n : ℕ) (p : Pass D) : Type 0 w
   pub number : (view p).number ≡ 0
   pub spare : (view p).spare ≡ upward (k + 1) n
   pub joined : (view p).joined ≡ []
-  pub seen : (view p).seen ≡ nothing (lanes_in (start_in h))
+  pub seen : (view p).seen ≡ nothing (start_in h).owners
   pub front : p.front ≡ 0
 
 pub record IsHired {D : Type 0} (h : Hall D) (x : ℕ) (p : Pass D) : Type 0 where

@@ -12,9 +12,9 @@ returns g c = λ number.
           let back_is = ap (λ x. x.0) mine in record {
             may_act = lane_done m start lane n first taken back d new t here mine;
             may_cut = lane_cut_done m start lane n first taken back d new t here mine;
-            acted = λ place part task skip outcome w may. lane_acted m start lane n place part task skip outcome first taken back w may t
+            acted = λ place part task skip outcome w may. lane_acted m start lane n place part task skip outcome new.owner first taken back w may t
                 back_is;
-            cut = λ cut place found w may. lane_was_cut m start lane n cut place found first taken back w may t back_is;
+            cut = λ cut place found w may. lane_was_cut m start lane n cut place found new.owner first taken back w may t back_is;
           };
       next = is_next m;
       may_look = may_look_lane (g.H.RuledHall.service number);

@@ -10,6 +10,6 @@ returns g c = λ number.
       longer = longer_history s;
       uncut = goes_on s;
       register = λ h i. refl;
-      lane = λ h l i below. history_with s h l i below;
+      lane = λ h l i owner below. history_with s h l i owner below;
       keepings = λ h k. refl;
     }

@@ -8,8 +8,8 @@ use Rattle.hall_rule.proofs.slot.take_machines.Goals as goal
 pub into_register_slot-requires : goal.into_register_slot-requires
 into_register_slot-requires g c = let d = c.requires.register in (d.0, slot_is _ 0 _ _ c.take.ensures.value d.1)
 
-pub into_desk_slot-requires : goal.into_desk_slot-requires
-into_desk_slot-requires g c = let d = c.requires.desk in
+pub into_desk-desk-requires : goal.into_desk-desk-requires
+into_desk-desk-requires g c = let d = c.requires.desk in
     (d.0, slot_is _ 1 _ _ (sym (ap (λ l. get_elem? l 1) c.take.ensures.others.0) ∙ c.take-2.ensures.value) d.1)
 
 pub take_lanes-requires-clause-filled : goal.take_lanes-requires-clause-filled
@@ -34,11 +34,8 @@ returns-clause-register g c =
     (c.into_register_slot.result, c.take.ensures.value ∙ ap some c.into_register_slot.ensures, c.into_register-register.ensures)
 
 pub returns-clause-desk : goal.returns-clause-desk
-returns-clause-desk g c = (
-  c.into_desk_slot.result,
-  sym (ap (λ l. get_elem? l 1) c.take.ensures.others.0) ∙ c.take-2.ensures.value ∙ ap some c.into_desk_slot.ensures,
-  c.into_desk-desk.ensures,
-)
+returns-clause-desk g c =
+    sym (ap (λ l. get_elem? l 1) c.take.ensures.others.0) ∙ c.take-2.ensures.value ∙ ap some c.into_desk-desk.ensures
 
 pub returns-clause-owners : goal.returns-clause-owners
 returns-clause-owners g c = λ lane below.

@@ -72,7 +72,8 @@ leave-requires g c =
     let job = c.args.job.now in record {
       table = c.exchange-2.ensures.0 ∙ c.exchange.ensures.0 ∙ c.wait.ensures.table.0 ∙ c.requires.table;
       ready = (
-        at_lane turn.lane (Passed job.place c.requires.may.0 (task_of job.grant job.op.now turn.step) c.perform-outcome.result),
+        at_lane turn.lane (Passed job.place c.requires.may.0 (task_of job.grant job.op.now turn.step) c.perform-outcome.result)
+            c.perform-outcome.new.owner,
         refl,
         may_pass t here laws mine c.requires.may.1 marks.marks marks.turn c.noted.result refl c.noted.ensures did.did did.skips did.same did.says,
       );

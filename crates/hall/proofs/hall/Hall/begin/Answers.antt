@@ -3,7 +3,8 @@ use Rattle.hall_rule.specs.Homes.{desk_home, lane_home, register_home}
 use Rattle.hall_rule.specs.Rule.{first_view}
 use Rattle.hall.specs.Answers.{ArrayStart}
 use Rattle.hall.specs.ArrayMachines.{IsOpened, lanes_in, start_of}
-use Rattle.hall.proofs.SharingLemmas.{opened}
+use Rattle.hall.proofs.SharingLemmas.{noted, opened}
+use Rattle.hall.specs.declared.desk.NotedDesk.{NotedDesk}
 use Rattle.hall.proofs.hall.Hall.begin.Goals as goal
 
 pub new-requires : goal.new-requires
@@ -15,15 +16,16 @@ new-requires g c =
     let owners_are : c.of-4.result.value.items ≡ s.lanes = ap (λ v. v.items) c.of-4.ensures ∙ machines_are in
     let start : ArrayStart g.row.D.Denot = record { register = c.of-3.result.value; owners = c.of-4.result.value.items; desk = c.of-5.result.value } in
     let opening = c.worlds_open.ensures.world (length s.lanes) s (sym parts.built.count) parts.built c.is_whole.ensures.roots c.is_whole.ensures.catalogue in
-    let here = opened s c.requires.new parts.built opening c.worlds_open.ensures.register start (c.of-3.ensures ∙ parts.register) owners_are
-    (ap (λ d. d.register.value) c.of-5.ensures ∙ c.of.ensures ∙ parts.register)
-    (ap (λ d. d.owners.value.items) c.of-5.ensures ∙ ap (λ v. v.items) c.of-2.ensures ∙ machines_are) in
+    let here = opened s c.requires.new parts.built opening c.worlds_open.ensures.register start (c.of-3.ensures ∙ parts.register) owners_are in
     let few : c.args.passes < 2 ^ 32 = c.ranges.passes.fits in
-    (c.halls_begin_and_end.ensures (lanes_in start)).begin c.args.passes start _ _ here.fresh c.requires.some_pass few
+    let desk : NotedDesk g.row.D.Denot = record { desk = c.args.desk; register = c.of.result; owners = c.of-2.result } in
+    (c.halls_begin_and_end.ensures (lanes_in start)).begin c.args.passes start desk _ _ here.fresh
+    (noted start desk (sym c.of-5.ensures) (c.of.ensures ∙ sym c.of-3.ensures)
+    (ap (λ v. v.items) c.of-2.ensures ∙ sym (ap (λ v. v.items) c.of-4.ensures))) c.requires.some_pass few
     (c.as_slice.ensures.value ∙ c.in_ok-words.ensures.items_if_clones_equal (λ y e. search rules)
     ∙ ap (λ n. replicate (n + 4) 0) (c.len-lanes.ensures ∙ ap (λ o. length o.owners) parts.owners ∙ sym (ap length owners_are)))
     (c.in_ok-slots.ensures.laid
-    ∙ (λ i. register_home (sym c.of-3.ensures i) ∷ (desk_home (sym c.of-5.ensures i) ∷ map lane_home (sym c.of-4.ensures i).items)))
+    ∙ (λ i. register_home (sym c.of-3.ensures i) ∷ (desk_home desk ∷ map lane_home (sym c.of-4.ensures i).items)))
 
 pub invariant_of-hall : goal.invariant_of-hall
 unfolding start_of
@@ -56,9 +58,7 @@ returns g c =
     let owners_are : c.of-4.result.value.items ≡ s.lanes = ap (λ v. v.items) c.of-4.ensures ∙ machines_are in
     let start : ArrayStart g.row.D.Denot = record { register = c.of-3.result.value; owners = c.of-4.result.value.items; desk = c.of-5.result.value } in
     let opening = c.worlds_open.ensures.world (length s.lanes) s (sym parts.built.count) parts.built c.is_whole.ensures.roots c.is_whole.ensures.catalogue in
-    let here = opened s c.requires.new parts.built opening c.worlds_open.ensures.register start (c.of-3.ensures ∙ parts.register) owners_are
-    (ap (λ d. d.register.value) c.of-5.ensures ∙ c.of.ensures ∙ parts.register)
-    (ap (λ d. d.owners.value.items) c.of-5.ensures ∙ ap (λ v. v.items) c.of-2.ensures ∙ machines_are) in record {
+    let here = opened s c.requires.new parts.built opening c.worlds_open.ensures.register start (c.of-3.ensures ∙ parts.register) owners_are in record {
       begun = record {
         register = ap (λ k. k.register.value) made.5 ∙ c.of-3.ensures ∙ parts.register;
         owners = ap (λ k. k.owners.value.items) made.5 ∙ owners_are;
@@ -68,8 +68,8 @@ returns g c =
           begun = ap (λ me. me.0.start) made.4 ∙ ap (λ k. Some (start_of k)) (sym made.5);
           opened = subst (λ k. IsOpened (start_of k)) (sym made.5) here;
         };
-        first = ap (λ me. me.0) made.4 ∙ (λ i. first_view c.args.passes (ap length owners_are i) (start_of (sym made.5 i)));
+        first = ap (λ me. me.0) made.4 ∙ (λ i. first_view c.args.passes (owners_are i) (start_of (sym made.5 i)));
         front = refl;
       };
-      desk = ap (λ k. k.desk.value.desk) made.5 ∙ ap (λ d. d.desk) c.of-5.ensures;
+      desk = ap (λ k. k.desk.value) made.5 ∙ c.of-5.ensures;
     }
