@@ -174,6 +174,7 @@ module _ {D : Type 0} (start : ArrayStart D) (opened : IsOpened start) (v : Arra
     grown = closed.grown;
     all_seen = closed.all_seen;
     named = closed.named;
+    strangers = closed.strangers;
     all_passed = closed.all_passed;
     register = closed.register_is.now;
     count = closed.count;

@@ -115,8 +115,9 @@ pub record HasBegun {D : Type 0} (h : Hall D) (p : Pass D) (s : State) (passes :
   pub front : p.front ≡ 0
 
 -- There is one legal history, which begins with all that the last pass had seen. The pass has seen
--- each of its entries, each of them is of one of its names, and each ticket was passed. The world
--- is where that history has brought it, and each change of it since the hall began is marked.
+-- each of its entries, each of them is of one of its names, which are the numbers below their count,
+-- and each ticket was passed. The world is where that history has brought it, and each change of it
+-- since the hall began is marked.
 pub record HasEnded {D : Type 0} (start : ArrayStart D) (v : ArrayView D) (s : State)
     : Type 0 where
   pub seen : SeenLists (array_service (lanes_in start)) Lane
@@ -124,6 +125,7 @@ pub record HasEnded {D : Type 0} (start : ArrayStart D) (v : ArrayView D) (s : S
   pub all_seen : entries seen.register ≡ entries v.seen.register
   pub named : (e : Entry Asked Verdict) → IsIn seen.register (Entered e)
       → 0 < times e.by (names v)
+  pub strangers : (x : ℕ) → length (names v) ≤ x → own x seen.register ≡ []
   pub all_passed : (l : ℕ) → tickets (lane_of seen.lanes l)
       ≡ issued (array_service (lanes_in start)) l seen.register
   pub register : s.register

@@ -6,7 +6,7 @@ use mathlib.Core.Logic.{dite}
 use native.Mathlib.Decide.{ℕ_discrete}
 use lib.ListN.{get_elem?}
 use Rattle.lane_histories.specs.Services.{Service}
-use Rattle.lane_histories.specs.Histories.{IsIn, entries, issued, tickets}
+use Rattle.lane_histories.specs.Histories.{IsIn, entries, issued, own, tickets}
 use Rattle.lane_histories.specs.declared.items.Entry.{Entry}
 use Rattle.lane_histories.specs.declared.items.RegisterItem.TheVariants.{Entered}
 use Rattle.hall_rule.specs.declared.queue.Queue.{Queue}
@@ -57,6 +57,7 @@ module _ {service : Service} {M N P E : Type 0} (m : Machines service M N P E) (
     pub grown : HasGrown m start v seen
     pub all_seen : entries seen.register ≡ entries v.seen.register
     pub named : (e : Entry service.Asked service.Verdict) → IsIn seen.register (Entered e) → 0 < times e.by (names v)
+    pub strangers : (x : ℕ) → length (names v) ≤ x → own x seen.register ≡ []
     pub all_passed : (lane : ℕ) → tickets (lane_of seen.lanes lane) ≡ issued service lane seen.register
     pub there : (q : Queue) → IsQueue (length start.owners) q → (s : HallSlot service M N P) × (get_elem? xs (slot_of q) ≡ some s)
         × StandsFor m q s start seen
@@ -71,8 +72,9 @@ module _ {service : Service} {M N P E : Type 0} (m : Machines service M N P E) (
         grown = e.1;
         all_seen = e.2;
         named = e.3;
-        all_passed = e.4;
-        there = λ q is. let h = e.5 q is in (h.0, same (slot_of q) h.0 h.1, h.2);
+        strangers = e.4;
+        all_passed = e.5;
+        there = λ q is. let h = e.6 q is in (h.0, same (slot_of q) h.0 h.1, h.2);
       }
 
   pub end_register : (v : HallView service M N E) (xs : List (HallSlot service M N P)) → AtEnd v xs
@@ -99,6 +101,7 @@ module _ {service : Service} {M N P E : Type 0} (m : Machines service M N P E) (
         grown = e.grown;
         all_seen = e.all_seen;
         named = e.named;
+        strangers = e.strangers;
         all_passed = e.all_passed;
         register_is = (subst (λ s. StandsFor m OfRegister s start e.seen) (slot_is xs 0 r.0 (AtRegister d) r.1 register) r.2);
         desk_is = (subst (λ s. StandsFor m OfDesk s start e.seen) (slot_is xs 1 w.0 (AtDesk k) w.1 desk) w.2);

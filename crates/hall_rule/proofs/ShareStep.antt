@@ -432,6 +432,7 @@ module _ {service : Service} {M N P E : Type 0} (m : Machines service M N P E) (
         → (g : SeenLists service N) × HasGrown m start v g
         × (entries g.register ≡ entries v.seen.register)
         × ((e : Entry service.Asked service.Verdict) → IsIn g.register (Entered e) → 0 < times e.by (names v))
+        × ((x : ℕ) → length (names v) ≤ x → own x g.register ≡ [])
         × ((l : ℕ) → tickets (lane_of g.lanes l) ≡ issued service l g.register)
         × ((q : Queue) → IsQueue (length start.owners) q → (sl : HallSlot service M N P)
         × (get_elem? s.homes (slot_of q) ≡ some (some sl)) × StandsFor m q sl start g)
@@ -440,6 +441,7 @@ module _ {service : Service} {M N P E : Type 0} (m : Machines service M N P E) (
       grown m start h v live r.lists_are.legal (r.views_are id v at),
       entries_same h.register v.seen.register ((r.views_are id v at).begins live).register (same_own live alone),
       named_by,
+      λ x above. r.lists_are.strangers x (subst (λ n. n ≤ x) whole above),
       passed_all bare,
       λ q is. r.homes_are.home q is (nobody_claims bare (holds q)),
     )
