@@ -21,7 +21,7 @@ mod types;
 
 pub use arrays::read_array;
 pub use attribute_lists::{MAX_ATTRIBUTE_CELLS, read_attributes};
-pub use faults::{AttributesFault, DocCause, DocFault, refused, refused_at};
+pub use faults::{AttributesFault, DocCause, DocFault, refused, refused_at, refused_whole};
 pub use fresh_arrays::FreshArray;
 pub use ids::{IdText, has_id, is_id};
 pub use items::{members, numbered};

@@ -29,6 +29,6 @@ json_gone text none = ap (λ (o : Option Data). ok_or o (fault [] BadJson)) (no_
 -- an error that was told
 pub json_refused : (text : List ℕ) (error : Error) (e : DocFault) → (¬ (IsMemory error) → IsUtf8 text → read text ≡ None) → IsJsonFault error e → Fails e (json_at text)
 json_refused text error e none told = elim told [
-  | inl same ↦ no_memory e (json_at text) same
-  | inr is ↦ subst (λ (r : Result Data Fault). Fails e r) (sym (json_gone text (none is.1))) is.0
+  | inl same ↦ no_memory e (json_at text) same.0
+  | inr is ↦ subst (λ (r : Result Data Fault). Fails e r) (sym (json_gone text (none is.2))) is.1
 ]

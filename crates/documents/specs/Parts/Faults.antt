@@ -1,5 +1,5 @@
 -- Why a document is refused, and where: the fault with its whole path, and what a call answers beside it.
-use Rattle.std.specs.Prelude.{◌≡◌, ℕ, List, Result, Ok, Err}
+use Rattle.std.specs.Prelude.{◌≡◌, ℕ, List, [], Result, Ok, Err}
 use Rattle.json_trees.specs.Faults.{Gives as GivesTold, Leaves as LeavesTold}
 use Rattle.documents.specs.Parts.Paths.{IsShown}
 use Rattle.documents.specs.declared.parts.faults.DocCause.{DocCause}
@@ -17,6 +17,11 @@ fault path cause = record { path = path; cause = cause }
 abbrev pub Tells : DocFault → Fault → Type 0
 Tells NoMemory f = Unit {0}
 Tells (Refused path cause) f = IsShown f.path path × (cause ≡ f.cause)
+
+-- the whole document is refused for this, and not for want of memory
+abbrev pub RefusesWhole : DocCause → DocFault → Type 0
+RefusesWhole cause NoMemory = ⊥
+RefusesWhole cause (Refused path why) = (path ≡ []) × (why ≡ cause)
 
 -- an error shows the fault that the tests find; where they find none, memory ran out
 abbrev pub Fails : {A : Type 0} → DocFault → Result A Fault → Type 0

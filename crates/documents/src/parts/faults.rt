@@ -1,7 +1,7 @@
 //! Why a text or a tree is no document.
 
-ghost use Rattle.std.specs.Prelude.{◌≡◌};
-ghost use Rattle.documents.specs.Parts.Faults.{Tells, fault};
+ghost use Rattle.std.specs.Prelude.{◌≡◌, []};
+ghost use Rattle.documents.specs.Parts.Faults.{RefusesWhole, Tells, fault};
 ghost use Rattle.documents.specs.Parts.Paths.{under};
 ghost use Rattle.documents.specs.declared.parts.faults.AttributesFault.TheVariants.{Doc};
 ghost use Rattle.documents.specs.declared.parts.faults.DocFault.TheVariants.{NoMemory};
@@ -86,6 +86,17 @@ impl From<AllocError> for AttributesFault {
 
     fn from(_error: AllocError) -> AttributesFault {
         AttributesFault::Doc(DocFault::NoMemory)
+    }
+}
+
+/// The refusal of the whole document. Takes no memory.
+pub fn refused_whole(alloc: Global, cause: DocCause) -> DocFault
+    ensures told { Tells result (fault [] cause) }
+    ensures whole { RefusesWhole cause result }
+{
+    DocFault::Refused {
+        path: DocPath::top(alloc),
+        cause,
     }
 }
 

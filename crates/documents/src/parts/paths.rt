@@ -1,6 +1,6 @@
 //! The paths of what is at fault in a document.
 
-ghost use Rattle.std.specs.Prelude.{◌≡◌, IfOk};
+ghost use Rattle.std.specs.Prelude.{◌≡◌, [], IfOk};
 ghost use Rattle.documents.specs.Parts.Paths.{IsShown, under};
 
 use std::alloc::{AllocError, Global};
@@ -29,6 +29,15 @@ impl DocPath {
         ensures { result.now ≡ self.now }
     {
         self.text.as_str()
+    }
+
+    /// The path of the whole document. Takes no memory.
+    pub fn top(alloc: Global) -> DocPath
+        ensures { result ≡ [] }
+    {
+        DocPath {
+            text: String::new(alloc),
+        }
     }
 
     /// A path and what stands below it at a key.

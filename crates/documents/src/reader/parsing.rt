@@ -1,23 +1,24 @@
 //! The tree of a document's text.
 
-ghost use Rattle.std.specs.Prelude.{◌≡◌};
+ghost use Rattle.std.specs.Prelude.{◌≡◌, ◌<◌, length};
 ghost use Rattle.serde_json.specs.View.{view};
 ghost use Rattle.documents.specs.Parts.Faults.{Gives};
-ghost use Rattle.documents.specs.Reader.Texts.{IsJsonFault, json_at, text_tree};
+ghost use Rattle.documents.specs.Reader.Texts.{IsJsonFault, IsToldLong, json_at, most_bytes, text_tree};
 
-use crate::parts::{DocCause, DocFault, refused};
+use crate::parts::{DocCause, DocFault, refused_whole};
 use crate::reader::MAX_DOCUMENT;
 use serde_json::{Error, Value};
 use std::alloc::Global;
 
 // The tree of a text that is short enough.
 pub(crate) fn parse(alloc: Global, text: &[u8]) -> Result<Value, DocFault>
-    ensures { Gives view result (text_tree text.now) }
+    ensures tree { Gives view result (text_tree text.now) }
+    ensures long { most_bytes < length text.now → IsToldLong result }
 {
     if text.len() <= MAX_DOCUMENT {
         json(alloc, text)
     } else {
-        Err(refused(alloc, "", DocCause::TooLong))
+        Err(refused_whole(alloc, DocCause::TooLong))
     }
 }
 
@@ -36,6 +37,6 @@ fn json_fault(alloc: Global, error: Error) -> DocFault
     if error.is_memory() {
         DocFault::NoMemory
     } else {
-        refused(alloc, "", DocCause::BadJson)
+        refused_whole(alloc, DocCause::BadJson)
     }
 }

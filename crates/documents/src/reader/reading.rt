@@ -1,11 +1,12 @@
 //! Whole documents.
 
-ghost use Rattle.std.specs.Prelude.{◌≡◌, IfOk, Ok, option_map};
+ghost use Rattle.std.specs.Prelude.{◌≡◌, ◌<◌, IfOk, Ok, length, option_map};
 ghost use Rattle.serde_json.specs.View.{view};
 ghost use Rattle.json_trees.specs.Shown.{shown};
 ghost use Rattle.documents.specs.Parts.Faults.{Answers};
 ghost use Rattle.documents.specs.Reader.Documents.{doc_of, root_at, tree_doc, version_at};
 ghost use Rattle.documents.specs.Reader.Loads.{Loads, LoadsText};
+ghost use Rattle.documents.specs.Reader.Texts.{IsToldLong, most_bytes};
 ghost use Rattle.documents.specs.declared.reader.loaded.Loaded.{Loaded};
 
 use crate::parts::{DocCause, DocFault, IdText, members, refused};
@@ -23,9 +24,10 @@ use std::alloc::Global;
 ///
 /// The first fault: `TooLong` exactly where the text has more than
 /// [`MAX_DOCUMENT`](crate::reader::MAX_DOCUMENT) bytes, else `BadJson` exactly where it is no JSON that
-/// `serde_json` reads, else that of [`read_tree`]; or want of memory.
+/// `serde_json` reads, else that of [`read_tree`]; or want of memory, but not of a text that is too long.
 pub fn read_document(alloc: Global, text: &[u8]) -> Result<Loaded, DocFault>
     ensures first { Answers result (doc_of text.now) }
+    ensures long { most_bytes < length text.now → IsToldLong result }
     ensures loads { IfOk result (LoadsText text.now) }
     ensures only { (l : Loaded) → LoadsText text.now l → Answers result (Ok l) }
 {
@@ -33,7 +35,8 @@ pub fn read_document(alloc: Global, text: &[u8]) -> Result<Loaded, DocFault>
 }
 
 fn whole(alloc: Global, text: &[u8]) -> Result<Loaded, DocFault>
-    ensures { Answers result (doc_of text.now) }
+    ensures first { Answers result (doc_of text.now) }
+    ensures long { most_bytes < length text.now → IsToldLong result }
 {
     let tree = parse(alloc, text)?;
     read_parts(alloc, &tree)

@@ -4,7 +4,7 @@ use Rattle.documents.proofs.OfReader.DocumentLemmas.{gives_loads, gives_only, te
 use Rattle.documents.proofs.reader.reading.read_document.Goals as goal
 
 pub returns-clause-loads : goal.returns-clause-loads
-returns-clause-loads c = gives_loads c.whole.result (doc_of c.args.text.now) (LoadsText c.args.text.now) (text_sound c.args.text.now) c.whole.ensures
+returns-clause-loads c = gives_loads c.whole.result (doc_of c.args.text.now) (LoadsText c.args.text.now) (text_sound c.args.text.now) c.whole.ensures.first
 
 pub returns-clause-only : goal.returns-clause-only
-returns-clause-only c = λ l h. gives_only c.whole.result (doc_of c.args.text.now) l c.whole.ensures (text_complete c.args.text.now l h)
+returns-clause-only c = λ l h. gives_only c.whole.result (doc_of c.args.text.now) l c.whole.ensures.first (text_complete c.args.text.now l h)
