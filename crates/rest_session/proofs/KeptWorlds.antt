@@ -145,6 +145,13 @@ read_to front back after taken (others, e) = (
   e ∙ ap (λ xs. xs ++ others) (spellings_both (front ++ back) after) ∙ append_assoc (spellings (front ++ back)) (spellings after) others,
 )
 
+module _ {D : Type 0} {met : Ghosts D} where
+  -- what is kept is what it was, where what is held still tells the world
+  pub still_backed : (k : Keeping D met) (u v : State) (ws : List World) → WorldStillSays u v → IsBacked TellsWorld k.journal (records k.building) (WorldSays u) ws
+      → IsBacked TellsWorld k.journal (records k.building) (WorldSays v) ws
+  still_backed k u v ws says (settled c s t w) = settled c s t (says (put_all (records k.building) c.held) w)
+  still_backed k u v ws says (owed c rs o t p w) = owed c rs o t p (says (put_all (records k.building) (put_all rs c.held)) w)
+
 module _ {D : Type 0} {met : Ghosts D} (honest : met.honest) (next : PlacesGoOn) (only_now : (disk : D) (c : List ℕ) → met.honest → met.left_since disk (met.moment disk) c → met.images disk c)
     (holds : (j : Journal D met) (building : List Record) (u : State) (ws : List World) → IsBacked TellsWorld j building (WorldSays u) ws → (image : List ℕ) → met.images (disk_of j) image
     → HoldsOne TellsWorld ws image) where
@@ -163,11 +170,6 @@ module _ {D : Type 0} {met : Ghosts D} (honest : met.honest) (next : PlacesGoOn)
   kept_crash : (s t : Served met) (ws : List World) → CrashLeaves met (disk_of s.keeping.journal) (disk_of t.keeping.journal) (HoldsOne TellsWorld (as_kept t.world ∷ ws)) → LeftHolding s t (λ w. Among w (shown t ∷ ws))
   kept_crash s t ws l = weaker met (disk_of s.keeping.journal) (disk_of t.keeping.journal) (HoldsOne TellsWorld (as_kept t.world ∷ ws)) (HoldsSome (λ w. Among w (shown t ∷ ws)))
       (λ c one. holds_among (λ w. Among w (shown t ∷ ws)) (shown t ∷ ws) c one (λ w there. there)) l
-
-  still_backed : (k : Keeping D met) (u v : State) (ws : List World) → WorldStillSays u v → IsBacked TellsWorld k.journal (records k.building) (WorldSays u) ws
-      → IsBacked TellsWorld k.journal (records k.building) (WorldSays v) ws
-  still_backed k u v ws says (settled c s t w) = settled c s t (says (put_all (records k.building) c.held) w)
-  still_backed k u v ws says (owed c rs o t p w) = owed c rs o t p (says (put_all (records k.building) (put_all rs c.held)) w)
 
   -- the world has another state, and its keeping is as it was
   on : (s t : Served met) (mid : State) (ws : List World) → t.world ≡ mid → t.keeping ≡ s.keeping → WorldStillSays s.world mid → IsBackedBy s ws → Goes s t ws

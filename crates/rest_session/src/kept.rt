@@ -1,7 +1,10 @@
-//! A session over a disk: the journal is opened, a run begins, one link is served, and what changed is kept.
+//! Sessions over a disk: the journal is opened, a run begins, one link or the links of many doors are served, and what changed
+//! is kept.
 
+mod doors;
 mod outcome;
 mod session;
 
-pub use outcome::{Closed, Ended, Outcome};
+pub use doors::serve_doors;
+pub use outcome::{Closed, ClosedDoors, DoorsEnded, DoorsOutcome, Ended, Outcome};
 pub use session::serve_disk;

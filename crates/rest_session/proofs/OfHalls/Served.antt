@@ -1,5 +1,5 @@
 -- From lists of workers to what the call says of each door.
-use Rattle.std.proofs.Common.{◌≡◌, ⊎_elim, ℕ, ◌+◌, ◌-◌, ◌<◌, List, [], ◌∷◌, length, map, Option, Some, refl, sym, ap, ◌∙◌, subst, arith}
+use Rattle.std.proofs.Common.{◌≡◌, ⊎_elim, Bool, ℕ, ◌+◌, ◌-◌, ◌<◌, List, [], ◌∷◌, length, map, Option, Some, refl, sym, ap, ◌∙◌, subst, arith}
 use Rattle.std.specs.Prelude.{All}
 use Rattle.std.specs.List.{slice_get}
 use Rattle.std.proofs.lemmas.List.{length-map}
@@ -16,15 +16,15 @@ use Rattle.service_histories.specs.ArrayServices.{array_service}
 use Rattle.service_histories.specs.Counts.{RegistersCount}
 use Rattle.hall.specs.Answers.{ArrayStart, ArrayView}
 use Rattle.hall.specs.ArrayMachines.{IsOpened, lanes_in, machines}
-use Rattle.hall.specs.Passes.{HasBegun, HasEnded}
+use Rattle.hall.specs.Passes.{HasBegun, HasEnded, TookIn, opening, view_of, who}
 use Rattle.hall.specs.declared.gate.OpenGate.{OpenGate}
 use Rattle.hall.specs.declared.hall.Hall.{Hall}
 use Rattle.hall.specs.declared.pass.Pass.{Pass}
 use Rattle.rest_session.specs.declared.links.end.LinkEnd.{LinkEnd}
 use Rattle.rest_session.specs.declared.halls.hiring.Report.{Report}
 use Rattle.rest_session.specs.declared.halls.workers.Worker.{Worker}
-use Rattle.rest_session.specs.Halls.Accounts.{Account, AllAnswered, IsReady, Lists, account, start_in, told_by, told_of, unasked, view, who}
-use Rattle.rest_session.specs.Halls.Staff.{IsAlone, IsGiver, IsHired, TookIn}
+use Rattle.rest_session.specs.Halls.Accounts.{Account, AllAnswered, IsReady, Lists, account, told_by, told_of, unasked}
+use Rattle.rest_session.specs.Halls.Staff.{IsAlone, IsGiver, IsHired}
 use Rattle.rest_session.specs.Halls.Visits.{Telling, Works}
 use Rattle.rest_session.proofs.OfHalls.Accounts.{told_still}
 use Rattle.rest_session.proofs.OfHalls.Lists.{all_at, all_images, all_map, all_on, get_map, length_upward, map_of, some_same, upward_at}
@@ -44,59 +44,53 @@ first_giver h p s n begun = record {
 
 pub hired_account : {D : Type 0} (tokens : TokenTable) (h : Hall D) (x : ℕ) (p : Pass D) → IsHired h x p → account tokens h p ≡ unasked tokens
 hired_account tokens h x p hired =
-    let none : own (view p).number (view p).seen.register ≡ [] = ap (λ m. own m (view p).seen.register) hired.number ∙ hired.unasked in
-    (λ i. record { tokens = tokens; told = map (told_of (lanes_in (start_in h)) (view p).seen) (none i); front = hired.front i })
+    let none : own (view_of p).number (view_of p).seen.register ≡ [] = ap (λ m. own m (view_of p).seen.register) hired.number ∙ hired.unasked in
+    (λ i. record { tokens = tokens; told = map (told_of (lanes_in (opening h)) (view_of p).seen) (none i); front = hired.front i })
 
 pub hired_ready : {D : Type 0} (h : Hall D) (x : ℕ) (p : Pass D) → IsHired h x p → IsReady h p
 hired_ready h x p hired =
-    let none : own (view p).number (view p).seen.register ≡ [] = ap (λ m. own m (view p).seen.register) hired.number ∙ hired.unasked in record {
+    let none : own (view_of p).number (view_of p).seen.register ≡ [] = ap (λ m. own m (view_of p).seen.register) hired.number ∙ hired.unasked in record {
       of_this_hall = hired.of_this_hall;
-      answered = subst (λ es. AllAnswered (map (told_of (lanes_in (start_in h)) (view p).seen) es)) (sym none) tt;
+      answered = subst (λ es. AllAnswered (map (told_of (lanes_in (opening h)) (view_of p).seen) es)) (sym none) tt;
     }
 
-pub hired_alone : {D : Type 0} (h : Hall D) (x : ℕ) (p : Pass D) → IsHired h x p → IsAlone (view p)
+pub hired_alone : {D : Type 0} (h : Hall D) (x : ℕ) (p : Pass D) → IsHired h x p → IsAlone (view_of p)
 hired_alone h x p hired = record { spare = hired.spare; joined = hired.joined }
 
 -- the first pass, once it gave all its numbers away
-pub giver_alone : {D : Type 0} (h : Hall D) (k : ℕ) (p : Pass D) → IsGiver h k 0 p → IsAlone (view p)
+pub giver_alone : {D : Type 0} (h : Hall D) (k : ℕ) (p : Pass D) → IsGiver h k 0 p → IsAlone (view_of p)
 giver_alone h k p giver = record { spare = giver.spare; joined = giver.joined }
 
 -- ---- what no worker changes
 
 module _ {D F G : Type 0} (ws now : List (Worker D F G)) (same : map (λ w. who w.pass) now ≡ map (λ w. who w.pass) ws) where
-  pub alone_still : All (λ w. IsAlone (view w.pass)) ws → All (λ w. IsAlone (view w.pass)) now
+  pub alone_still : All (λ w. IsAlone (view_of w.pass)) ws → All (λ w. IsAlone (view_of w.pass)) now
   alone_still alone =
       let named = λ (w : Worker D F G). who w.pass in
-      let Alone = λ (t : TableId × ℕ × List ℕ × List ℕ × Option (ArrayStart D)). (t.2 ≡ []) × (t.3 ≡ []) in
-      let before = all_images Alone named ws (all_on (λ w. IsAlone (view w.pass)) (λ w. Alone (named w)) ws (λ w a. (a.spare, a.joined)) alone) in
-      all_on (λ w. Alone (named w)) (λ w. IsAlone (view w.pass)) now (λ w a. record { spare = a.0; joined = a.1 }) (all_map Alone named now (subst (All Alone) (sym same) before))
-
-  pub numbers_still : map (λ w. (view w.pass).number) now ≡ map (λ w. (view w.pass).number) ws
-  numbers_still =
-      sym (map_of (λ (t : TableId × ℕ × List ℕ × List ℕ × Option (ArrayStart D)). t.1) (λ (w : Worker D F G). who w.pass) now)
-      ∙ ap (map (λ (t : TableId × ℕ × List ℕ × List ℕ × Option (ArrayStart D)). t.1)) same
-      ∙ map_of (λ (t : TableId × ℕ × List ℕ × List ℕ × Option (ArrayStart D)). t.1) (λ (w : Worker D F G). who w.pass) ws
+      let Alone = λ (t : TableId × Bool × ℕ × List ℕ × List ℕ × Option (ArrayStart D)). (t.3 ≡ []) × (t.4 ≡ []) in
+      let before = all_images Alone named ws (all_on (λ w. IsAlone (view_of w.pass)) (λ w. Alone (named w)) ws (λ w a. (a.spare, a.joined)) alone) in
+      all_on (λ w. Alone (named w)) (λ w. IsAlone (view_of w.pass)) now (λ w a. record { spare = a.0; joined = a.1 }) (all_map Alone named now (subst (All Alone) (sym same) before))
 
   pub count_still : length now ≡ length ws
   count_still = sym (length-map now (λ (w : Worker D F G). who w.pass)) ∙ ap length same ∙ length-map ws (λ (w : Worker D F G). who w.pass)
 
 -- ---- the end
 
-module _ {D F L : Type 0} (tells : Telling F L) (tokens : TokenTable) (links : ℕ) (h : Hall D) (stay : RepliesStay (array_service (lanes_in (start_in h))))
+module _ {D F L : Type 0} (tells : Telling F L) (tokens : TokenTable) (links : ℕ) (h : Hall D) (stay : RepliesStay (array_service (lanes_in (opening h))))
     (ws now : List (Worker D F OpenGate)) (count : ℕ) (last : ArrayView D) (seen : Lists) where
   abbrev pub Worked : Type 0
   Worked = (i : ℕ) (x y : Worker D F OpenGate) → slice_get ws i ≡ Some x → slice_get now i ≡ Some y
       → Works tells links x.door y.door y.ends.items (account tokens h x.pass) (account tokens h y.pass) y.door_failed
 
   -- what a worker was told is what the history tells of its number
-  pub each_served : map (λ w. (view w.pass).number) ws ≡ upward 1 count → map (λ w. who w.pass) now ≡ map (λ w. who w.pass) ws
-      → All (λ w. (x : ℕ) × IsHired h x w.pass) ws → All (λ w. IsReady h w.pass) now → Worked → All (λ w. TookIn last (view w.pass)) now
+  pub each_served : map (λ w. (view_of w.pass).number) ws ≡ upward 1 count → map (λ w. who w.pass) now ≡ map (λ w. who w.pass) ws
+      → All (λ w. (x : ℕ) × IsHired h x w.pass) ws → All (λ w. IsReady h w.pass) now → Worked → All (λ w. TookIn last (view_of w.pass)) now
       → GrowsFrom seen last.seen → ((x : ℕ) → 0 < times x (names last) → own x seen.register ≡ own x last.seen.register)
       → (i : ℕ) (x y : Worker D F OpenGate) → slice_get ws i ≡ Some x → slice_get now i ≡ Some y
-      → Works tells links x.door y.door y.ends.items (unasked tokens) (record { tokens = tokens; told = told_by (lanes_in (start_in h)) (i + 1) seen; front = y.pass.front }) y.door_failed
+      → Works tells links x.door y.door y.ends.items (unasked tokens) (record { tokens = tokens; told = told_by (lanes_in (opening h)) (i + 1) seen; front = y.pass.front }) y.door_failed
   each_served numbers same hired ready worked took grows owns i x y gx gy =
-      let n = lanes_in (start_in h) in
-      let number = λ (w : Worker D F OpenGate). (view w.pass).number in
+      let n = lanes_in (opening h) in
+      let number = λ (w : Worker D F OpenGate). (view_of w.pass).number in
       let named = λ (w : Worker D F OpenGate). who w.pass in
       let some = slice_get_within ws i x gx in
       let many : length ws ≡ count = sym (length-map ws number) ∙ ap length numbers ∙ length_upward 1 count in
@@ -104,12 +98,14 @@ module _ {D F L : Type 0} (tells : Telling F L) (tokens : TokenTable) (links : �
       let first : number x ≡ 1 + i = some_same (number x) (1 + i) at_i in
       let kept_i : Some (named y) ≡ Some (named x) = sym (get_map named now i y gy) ∙ ap (λ l. slice_get l i) same ∙ get_map named ws i x gx in
       let kept : named y ≡ named x = some_same (named y) (named x) kept_i in
-      let next : number y ≡ i + 1 = ap (λ t. t.1) kept ∙ first ∙ (let e : 1 + i ≡ i + 1 = omega arith in e) in
-      let had = all_at (λ (w : Worker D F OpenGate). TookIn last (view w.pass)) now i y took gy in
+      let next : number y ≡ i + 1 = ap (λ t. t.2) kept ∙ first ∙ (let e : 1 + i ≡ i + 1 = omega arith in e) in
+      let had = all_at (λ (w : Worker D F OpenGate). TookIn last (view_of w.pass)) now i y took gy in
       let is = all_at (λ (w : Worker D F OpenGate). IsReady h w.pass) now i y ready gy in
       let fresh = all_at (λ (w : Worker D F OpenGate). (m : ℕ) × IsHired h m w.pass) ws i x hired gx in
-      let told : told_by n (number y) seen ≡ told_by n (number y) (view y.pass).seen =
-      told_still n stay seen (view y.pass).seen (grows_on seen last.seen (view y.pass).seen grows had.begins) (number y) (owns (number y) had.named ∙ had.own_same) is.answered in
+      let named_y = number_named (view_of y.pass) y.pass.live in
+      let told : told_by n (number y) seen ≡ told_by n (number y) (view_of y.pass).seen =
+      told_still n stay seen (view_of y.pass).seen (grows_on seen last.seen (view_of y.pass).seen grows had.longer) (number y)
+      (owns (number y) (had.has_names (number y) named_y) ∙ had.no_more (number y) named_y) is.answered in
       let before = hired_account tokens h fresh.0 x.pass fresh.1 in
       let after : account tokens h y.pass ≡ record { tokens = tokens; told = told_by n (i + 1) seen; front = y.pass.front } =
       (λ j. record { tokens = tokens; told = (sym told ∙ ap (λ m. told_by n m seen) next) j; front = y.pass.front }) in

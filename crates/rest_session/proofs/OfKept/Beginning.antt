@@ -43,18 +43,20 @@ stood_first first final taken whole = record {
   late = omega arith;
 }
 
+-- the journal of a run that was begun, and its world
+module _ {D : Type 0} {met : Ghosts D} (j : Journal D met) (v : State) (c : Content) (b : IsBegun j v c) where
+  pub told_first : TellsWorld (put_record (run_record v.register) c.held) (as_kept v)
+  told_first = let d = b.describes in record { register = d.register; objects = d.objects; given = d.given; strays = d.strays }
+
+  -- a keeping with that journal
+  pub backed_first : (k : Keeping D met) → k.journal ≡ j → records k.building ≡ [] → IsBacked TellsWorld k.journal (records k.building) (WorldSays v) (as_kept v ∷ [])
+  backed_first k same none =
+      subst (λ (x : Journal D met). IsBacked TellsWorld x (records k.building) (WorldSays v) (as_kept v ∷ [])) (sym same)
+      (subst (λ (rs : List Record). IsBacked TellsWorld j rs (WorldSays v) (as_kept v ∷ [])) (sym none)
+      (settled (with_batch c (run_record v.register ∷ [])) b.settled (inl told_first) b.says))
+
 -- a keeping with the journal of a run that was begun, and its world
 module _ {D : Type 0} (met : Ghosts D) (before : D) (j : Journal D met) (v : State) (k : Keeping D met) (same : k.journal ≡ j) where
-  module _ (c : Content) (b : IsBegunSince met before j v c) where
-    told_first : TellsWorld (put_record (run_record v.register) c.held) (as_kept v)
-    told_first = let d = b.begun.describes in record { register = d.register; objects = d.objects; given = d.given; strays = d.strays }
-
-    pub backed_first : records k.building ≡ [] → IsBacked TellsWorld k.journal (records k.building) (WorldSays v) (as_kept v ∷ [])
-    backed_first none =
-        subst (λ (x : Journal D met). IsBacked TellsWorld x (records k.building) (WorldSays v) (as_kept v ∷ [])) (sym same)
-        (subst (λ (rs : List Record). IsBacked TellsWorld j rs (WorldSays v) (as_kept v ∷ [])) (sym none)
-        (settled (with_batch c (run_record v.register ∷ [])) b.begun.settled (inl told_first) b.begun.says))
-
   module _ (tokens : TokenTable) where
     abbrev pub first : Served met
     first = record { tokens = tokens; world = v; keeping = k }
@@ -66,7 +68,7 @@ module _ {D : Type 0} (met : Ghosts D) (before : D) (j : Journal D met) (v : Sta
       of_begun : (file : List ℕ) → met.images before file ⊎ HoldsEither c.held (put_record (run_record v.register) c.held) file → IsLeft file
       of_begun file (inl old) = inl old
       of_begun file (inr (inl was)) = inr (inl was)
-      of_begun file (inr (inr now)) = inr (inr (as_kept v, (put_record (run_record v.register) c.held, now, told_first c b), stood_first first final taken whole))
+      of_begun file (inr (inr now)) = inr (inr (as_kept v, (put_record (run_record v.register) c.held, now, told_first j v c b.begun), stood_first first final taken whole))
 
       -- since the disk as it was, up to the end of the link that was served
       left_since : (after : D) → k.kept ≡ 0 → CrashLeaves met (disk_of k.journal) after (HoldsStood first final taken k.kept) → CrashLeavesSince met before after (HoldsHeld c.held first final taken)

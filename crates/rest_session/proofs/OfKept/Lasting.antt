@@ -1,7 +1,6 @@
 -- What is kept at the end of a session.
 use Rattle.std.proofs.Common.{◌≡◌, inl, inr, ℕ, ◌≤◌, List, [], ◌∷◌, Some, Result, Ok, Err, OnOk, sym, ap, subst, ◌∙◌, arith}
 use Rattle.std.specs.List.{AllByRecursion}
-use Rattle.edge_traits.proofs.CauseLemmas.{rose_since}
 use Rattle.edge_traits.specs.Causes.{Rose}
 use Rattle.edge_traits.specs.declared.disk.Disk.{Ghosts}
 use Rattle.flush_journal.specs.Batches.{records}
@@ -9,7 +8,6 @@ use Rattle.flush_journal.specs.Files.{held}
 use Rattle.flush_journal.specs.Moments.{CrashLeaves}
 use Rattle.flush_journal.specs.Records.{Held}
 use Rattle.flush_journal.specs.Standing.{disk_of, numbers_of, pending_of}
-use Rattle.flush_journal.specs.Unchanged.{SameDisk}
 use Rattle.flush_journal.specs.declared.why.Why.{Why}
 use Rattle.flush_journal.specs.declared.why.Why.TheVariants.{DiskFault}
 use Rattle.flush_journal.proofs.Moments.{joined, weaker}
@@ -42,24 +40,26 @@ earlier s t taken least kept w le h = record {
   late = omega (arith, le, h.late);
 }
 
-module _ {D : Type 0} {met : Ghosts D} (first final : Served met) (taken : List ℕ) (k : Keeping D met) (w : State) (last : Result ℕ Why) (keeps : KeepsWorld final.keeping final.world k w last) where
+-- a keeping of a world
+module _ {D : Type 0} {met : Ghosts D} (k l : Keeping D met) (s t : State) (last : Result ℕ Why) (keeps : KeepsWorld k s l t last) where
+  pub places : s.register.places ≡ t.register.places
+  places = ap (λ (x : World). x.register.places) (sym keeps.same)
+
   -- after Ok all is kept
-  pub all_kept_then : (front : ℕ) → front ≡ w.register.places → OnOk last (k.kept ≡ front)
+  pub all_kept_then : (front : ℕ) → front ≡ t.register.places → OnOk last (l.kept ≡ front)
   all_kept_then front is = by last keeps where
-    by : (r : Result ℕ Why) → KeepsWorld final.keeping final.world k w r → OnOk r (k.kept ≡ front)
+    by : (r : Result ℕ Why) → KeepsWorld k s l t r → OnOk r (l.kept ≡ front)
     by (Ok n) h = h.kept ∙ h.number ∙ sym is
     by (Err e) h = tt
 
-  pub places : final.world.register.places ≡ w.register.places
-  places = ap (λ (x : World). x.register.places) (sym keeps.same)
-
   -- a fault of the disk was counted
-  pub fault_rose : SameDisk met (disk_of first.keeping.journal) (disk_of final.keeping.journal) → last ≡ Err DiskFault → Rose (met.faults (disk_of first.keeping.journal)) (met.faults (disk_of k.journal))
-  fault_rose same is = let rose = by last is keeps in rose_since (met.faults (disk_of first.keeping.journal)) (met.faults (disk_of final.keeping.journal)) (met.faults (disk_of k.journal)) same.faults rose where
-    by : (r : Result ℕ Why) → r ≡ Err DiskFault → KeepsWorld final.keeping final.world k w r → Rose (met.faults (disk_of final.keeping.journal)) (met.faults (disk_of k.journal))
+  pub fault_counted : last ≡ Err DiskFault → Rose (met.faults (disk_of k.journal)) (met.faults (disk_of l.journal))
+  fault_counted is = by last is keeps where
+    by : (r : Result ℕ Why) → r ≡ Err DiskFault → KeepsWorld k s l t r → Rose (met.faults (disk_of k.journal)) (met.faults (disk_of l.journal))
     by (Ok n) e h = absurd (let no : ◌≡◌ {A = Result ℕ Why} (Ok n) (Err DiskFault) = e in cc)
-    by (Err why) e h = subst (λ (x : Why). MayRefuseKeeping final.keeping.journal k.journal x) (why_is why e) h.keeps.cause
+    by (Err why) e h = subst (λ (x : Why). MayRefuseKeeping k.journal l.journal x) (why_is why e) h.keeps.cause
 
+module _ {D : Type 0} {met : Ghosts D} (first final : Served met) (taken : List ℕ) (k : Keeping D met) (w : State) (last : Result ℕ Why) (keeps : KeepsWorld final.keeping final.world k w last) where
   -- what waits then is records of worlds that stood
   pub waits_then : AreOfStood first final taken → AllWaiting (IsOfStood first final taken k.kept) (pending_of k.journal)
   waits_then are = by last keeps where
@@ -94,7 +94,7 @@ module _ {D : Type 0} {met : Ghosts D} (first final : Served met) (taken : List 
     pub image_stood : (image : List ℕ) → met.images (disk_of k.journal) image → HoldsStood first final taken k.kept image
     image_stood image left = by last keeps (holds (worlds_after are.worlds (as_kept w) last) (keeps.keeps.backed honest are.worlds are.backed) image left) where
       by : (r : Result ℕ Why) → KeepsWorld final.keeping final.world k w r → HoldsOne TellsWorld (worlds_after are.worlds (as_kept w) r) image → HoldsStood first final taken k.kept image
-      by (Ok n) h (m, e, inl told) = stands_now honest are k.kept (let here = places in omega (arith, h.kept, h.number, here)) image m e told
+      by (Ok n) h (m, e, inl told) = stands_now honest are k.kept (let here = places final.keeping k final.world w last keeps in omega (arith, h.kept, h.number, here)) image m e told
       by (Ok n) h (m, e, inr none) = absurd none
       by (Err why) h (m, e, inl told) = stands_now honest are k.kept (omega (arith, h.refused, are.within)) image m e told
       by (Err why) h (m, e, inr told) = stood_in honest are k.kept (omega (arith, h.refused)) image m e are.worlds are.each told

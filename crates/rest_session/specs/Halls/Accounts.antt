@@ -1,12 +1,9 @@
--- Passes of a hall, in words.
---     start_in h, view p      with what a hall began, and what a pass knows
---     who p                   what no call but split and join changes of a pass
+-- What a pass of a hall asked and was answered, in words.
 --     told_by lanes by seen   the entries of a pass in some lists, each with what it was answered
 --     account tokens h p      what the service over one link goes by
 --     IsReady h p             a pass of this hall, all of whose entries were answered
 use Rattle.std.specs.Prelude.{◌≡◌, ℕ, List, [], map, Option, IsSome, option_map}
 use Rattle.std.specs.List.{AllByRecursion}
-use Rattle.atomic_table.specs.Seated.{TableId}
 use Rattle.access_lists.specs.Tokens.Bearer.{TokenTable}
 use Rattle.register.specs.declared.verdicts.Verdict.{Verdict}
 use Rattle.service_core.specs.declared.answers.What.{What}
@@ -16,23 +13,11 @@ use Rattle.lane_histories.specs.declared.items.Entry.{Entry}
 use Rattle.hall_rule.specs.Seen.{history_of}
 use Rattle.service_histories.specs.ArrayServices.{Asked, array_service}
 use Rattle.service_histories.specs.PlainSteps.{answer_of}
-use Rattle.hall.specs.Answers.{ArrayLists, ArrayStart, ArrayView}
-use Rattle.hall.specs.ArrayMachines.{lanes_in, start_of}
-use Rattle.hall.specs.Passes.{IsPassOf}
+use Rattle.hall.specs.Answers.{ArrayLists}
+use Rattle.hall.specs.ArrayMachines.{lanes_in}
+use Rattle.hall.specs.Passes.{IsPassOf, opening, view_of}
 use Rattle.hall.specs.declared.hall.Hall.{Hall}
 use Rattle.hall.specs.declared.pass.Pass.{Pass}
-
--- ---- halls and passes
-
-abbrev pub start_in : {D : Type 0} → Hall D → ArrayStart D
-start_in h = start_of h.table.shared.key
-
-abbrev pub view : {D : Type 0} → Pass D → ArrayView D
-view p = p.seat.me.0
-
--- its table, its number, its spare and its joined numbers, and with what its hall began
-abbrev pub who : {D : Type 0} → Pass D → TableId × ℕ × List ℕ × List ℕ × Option (ArrayStart D)
-who p = (p.seat.table_id, (view p).number, (view p).spare, (view p).joined, (view p).start)
 
 -- ---- what was asked, and answered
 
@@ -64,7 +49,7 @@ pub record Account : Type 0 where
 abbrev pub account : {D : Type 0} → TokenTable → Hall D → Pass D → Account
 account tokens h p = record {
   tokens = tokens;
-  told = told_by (lanes_in (start_in h)) (view p).number (view p).seen;
+  told = told_by (lanes_in (opening h)) (view_of p).number (view_of p).seen;
   front = p.front;
 }
 
@@ -74,4 +59,4 @@ unasked tokens = record { tokens = tokens; told = []; front = 0 }
 
 pub record IsReady {D : Type 0} (h : Hall D) (p : Pass D) : Type 0 where
   pub of_this_hall : IsPassOf h p
-  pub answered : AllAnswered (told_by (lanes_in (start_in h)) (view p).number (view p).seen)
+  pub answered : AllAnswered (told_by (lanes_in (opening h)) (view_of p).number (view_of p).seen)

@@ -1,6 +1,6 @@
 -- What the workers of a hall have done, from the world with which it began to that in which it ended.
 --     IsServed ..     one legal history, with each door's entries in order
-use Rattle.std.specs.Prelude.{◌≡◌, ℕ, ◌+◌, List, [], length, Some, slice_get}
+use Rattle.std.specs.Prelude.{◌≡◌, ℕ, ◌+◌, ◌<◌, List, [], length, Some, slice_get}
 use Rattle.access_lists.specs.Tokens.Bearer.{TokenTable}
 use Rattle.service_core.specs.Worlds.{State}
 use Rattle.lane_histories.specs.Histories.{own, places}
@@ -12,7 +12,8 @@ use Rattle.rest_session.specs.Halls.Accounts.{told_by, unasked}
 use Rattle.rest_session.specs.Halls.Visits.{Telling, Works}
 
 -- There is one legal history from the opening world, which it leaves as the closing one, and `front` is its number of entries. Those
--- of the worker at the door i, which has the number i + 1, are in order those of its links, each answered as the history tells.
+-- of the worker at the door i, which has the number i + 1, are in order those of its links, each answered as the history tells; and
+-- there is no other.
 pub record IsServed {F L : Type 0} (D : Type 0) (tells : Telling F L) (tokens : TokenTable) (links : ℕ) (opening closing : State)
     (front : ℕ) (doors now : List F) (reports : List Report) : Type 0 where
   pub start : ArrayStart D
@@ -22,6 +23,7 @@ pub record IsServed {F L : Type 0} (D : Type 0) (tells : Telling F L) (tokens : 
   pub ended : HasEnded start last closing
   pub told : front ≡ places ended.seen.register
   pub none_of_the_first : own 0 ended.seen.register ≡ []
+  pub none_of_others : (x : ℕ) → length doors < x → own x ended.seen.register ≡ []
   pub as_many : length now ≡ length doors
   pub one_each : length reports ≡ length doors
   pub each : (i : ℕ) (door after : F) (report : Report)

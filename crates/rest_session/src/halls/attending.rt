@@ -4,7 +4,8 @@ ghost use Rattle.std.specs.Prelude.{MatchBool, MatchResult, vec_capacity, vec_le
 ghost use Rattle.std.specs.Io.KnownBytes.{Appends, Consumes};
 ghost use Rattle.edge_traits.specs.Causes.{Rose};
 ghost use Rattle.edge_traits.specs.Told.{IsToldEmpty};
-ghost use Rattle.rest_session.specs.Halls.Accounts.{IsReady, account, who};
+ghost use Rattle.hall.specs.Passes.{who};
+ghost use Rattle.rest_session.specs.Halls.Accounts.{IsReady, account};
 ghost use Rattle.rest_session.specs.Halls.Asking.{IsAskedOf};
 ghost use Rattle.rest_session.specs.Halls.Visits.{Attends, Visit, Works, telling};
 ghost use Rattle.rest_session.specs.Links.Links.{HasCauses, IsTranscript};

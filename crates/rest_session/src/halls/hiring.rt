@@ -2,9 +2,8 @@
 ghost use Rattle.std.specs.Prelude.{◌≡◌, ℕ, ◌+◌, ◌<◌, ◌≤◌, ◌++◌, [], ◌∷◌, All, IfOk, false, map};
 ghost use Rattle.std.specs.Prelude.{reverse, vec_capacity, vec_len};
 ghost use Rattle.hall_rule.specs.Sums.{upward};
-ghost use Rattle.hall.specs.Passes.{IsPassOf};
-ghost use Rattle.rest_session.specs.Halls.Accounts.{view};
-ghost use Rattle.rest_session.specs.Halls.Staff.{IsAlone, IsGiver, IsHired, TookIn, numbers};
+ghost use Rattle.hall.specs.Passes.{IsPassOf, TookIn, view_of};
+ghost use Rattle.rest_session.specs.Halls.Staff.{IsAlone, IsGiver, IsHired, numbers};
 
 use crate::halls::workers::{LinkEnds, Worker};
 use hall::{Hall, OpenGate, Pass};
@@ -103,7 +102,7 @@ fn hire_all<D: Drop, F>(
         × (vec_len doors.old ≤ vec_capacity workers.old) }
     ensures giver { IsGiver hall.now (vec_len doors.old) 0 pass.new }
     ensures hired { All (λ w. (x : ℕ) × IsHired hall.now x w.pass) workers.new.items }
-    ensures numbers { map (λ w. (view w.pass).number) workers.new.items
+    ensures numbers { map (λ w. (view_of w.pass).number) workers.new.items
         ≡ upward 1 (vec_len doors.old) }
     ensures doors { map (λ w. w.door) workers.new.items ≡ reverse doors.old.items }
     ensures lists { lists.old.items ≡ lists.new.items ++ reverse (map (λ w. w.ends) workers.new.items) }
@@ -132,7 +131,7 @@ pub(crate) fn staff<D: Drop, F>(
         × (vec_len doors.old ≤ vec_capacity workers.old) }
     ensures giver { IsGiver hall.now (vec_len doors.old) 0 pass.new }
     ensures hired { All (λ w. (x : ℕ) × IsHired hall.now x w.pass) workers.new.items }
-    ensures numbers { map (λ w. (view w.pass).number) workers.new.items
+    ensures numbers { map (λ w. (view_of w.pass).number) workers.new.items
         ≡ upward 1 (vec_len doors.old) }
     ensures doors { map (λ w. w.door) workers.new.items ≡ doors.old.items }
     ensures ready { All (λ w. (w.ends.items ≡ []) × (links ≤ vec_capacity w.ends)
@@ -152,16 +151,13 @@ fn take_in<D: Drop, F>(
     reports: &mut Vec<Report>,
 )
     requires of { IsPassOf hall.now pass.old }
-    requires first { (view pass.old).number ≡ 0 }
-    requires all_of { All (λ w. IsPassOf hall.now w.pass × IsAlone (view w.pass)) workers.items }
-    requires numbers { map (λ w. (view w.pass).number) workers.items
-        ≡ upward 1 (vec_len workers) }
+    requires all_of { All (λ w. IsPassOf hall.now w.pass × IsAlone (view_of w.pass)) workers.items }
     requires doors_room { vec_len doors.old + vec_len workers ≤ vec_capacity doors.old }
     requires reports_room { vec_len reports.old + vec_len workers ≤ vec_capacity reports.old }
     ensures of { IsPassOf hall.now pass.new }
     ensures names { numbers pass.new ≡ numbers pass.old + vec_len workers }
-    ensures itself { TookIn (view pass.new) (view pass.old) }
-    ensures others { All (λ w. TookIn (view pass.new) (view w.pass)) workers.items }
+    ensures itself { TookIn (view_of pass.new) (view_of pass.old) }
+    ensures others { All (λ w. TookIn (view_of pass.new) (view_of w.pass)) workers.items }
     ensures doors { doors.new.items ≡ doors.old.items ++ reverse (map (λ w. w.door) workers.items) }
     ensures reports { reports.new.items ≡ reports.old.items
         ++ reverse (map (λ w. record { ends = w.ends; door_failed = w.door_failed }) workers.items) }
@@ -190,17 +186,14 @@ pub(crate) fn dismiss<D: Drop, F>(
     reports: &mut Vec<Report>,
 )
     requires of { IsPassOf hall.now pass.old }
-    requires first { (view pass.old).number ≡ 0 }
-    requires all_of { All (λ w. IsPassOf hall.now w.pass × IsAlone (view w.pass)) workers.items }
-    requires numbers { map (λ w. (view w.pass).number) workers.items
-        ≡ upward 1 (vec_len workers) }
+    requires all_of { All (λ w. IsPassOf hall.now w.pass × IsAlone (view_of w.pass)) workers.items }
     requires doors_room { (doors.old.items ≡ []) × (vec_len workers ≤ vec_capacity doors.old) }
     requires reports_room { (reports.old.items ≡ [])
         × (vec_len workers ≤ vec_capacity reports.old) }
     ensures of { IsPassOf hall.now pass.new }
     ensures names { numbers pass.new ≡ numbers pass.old + vec_len workers }
-    ensures itself { TookIn (view pass.new) (view pass.old) }
-    ensures others { All (λ w. TookIn (view pass.new) (view w.pass)) workers.items }
+    ensures itself { TookIn (view_of pass.new) (view_of pass.old) }
+    ensures others { All (λ w. TookIn (view_of pass.new) (view_of w.pass)) workers.items }
     ensures doors { doors.new.items ≡ map (λ w. w.door) workers.items }
     ensures reports { reports.new.items
         ≡ map (λ w. record { ends = w.ends; door_failed = w.door_failed }) workers.items }

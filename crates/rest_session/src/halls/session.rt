@@ -1,9 +1,10 @@
 //! A hall that is asked over one link.
 ghost use Rattle.std.specs.Prelude.{◌≡◌, ◌⊎◌, Bool};
 ghost use Rattle.access_lists.specs.Tokens.Bearer.{TokenTable};
+ghost use Rattle.hall.specs.Passes.{who};
 ghost use Rattle.http_wire.specs.Replies.{no_memory_reply};
 ghost use Rattle.object_ops.specs.Conditions.{IsSoundOp};
-ghost use Rattle.rest_session.specs.Halls.Accounts.{IsReady, account, who};
+ghost use Rattle.rest_session.specs.Halls.Accounts.{IsReady, account};
 ghost use Rattle.rest_session.specs.Halls.Asking.{Asks, IsTaken};
 ghost use Rattle.rest_session.specs.Links.Replies.{reply_bytes};
 ghost use Rattle.rest_session.specs.Sessions.{is_to_keep};
@@ -36,12 +37,13 @@ pub struct HallSession<'a, D: Drop, G, R> {
 
 impl<'a, D: Drop, G: Gate, R: Wait> Service for HallSession<'a, D, G, R> {
     ghost use base.Fml.{GName};
-    ghost use Rattle.std.specs.Prelude.{ℕ, List, Option};
+    ghost use Rattle.std.specs.Prelude.{ℕ, Bool, List, Option};
     ghost use Rattle.atomic_table.specs.Seated.{TableId};
     ghost use Rattle.access_lists.specs.Tokens.Bearer.{TokenTable};
     ghost use Rattle.hall.specs.Answers.{ArrayStart};
+    ghost use Rattle.hall.specs.Passes.{who};
     ghost use Rattle.hall.specs.declared.hall.Hall.{Hall};
-    ghost use Rattle.rest_session.specs.Halls.Accounts.{Account, IsReady, account, who};
+    ghost use Rattle.rest_session.specs.Halls.Accounts.{Account, IsReady, account};
     ghost use Rattle.rest_session.specs.Halls.Asking.{IsAskedOf};
 
     type End = Infallible;
@@ -57,7 +59,7 @@ impl<'a, D: Drop, G: Gate, R: Wait> Service for HallSession<'a, D, G, R> {
     ghost ready = { λ s. IsReady s.hall.now s.pass.now };
 
     ghost Fixed = { GName × GName × TokenTable × Hall D
-        × (TableId × ℕ × List ℕ × List ℕ × Option (ArrayStart D)) };
+        × (TableId × Bool × ℕ × List ℕ × List ℕ × Option (ArrayStart D)) };
 
     ghost fixed = { λ s. (s.pass.ghost_name, s.gate.ghost_name, s.tokens.now, s.hall.now, who s.pass.now) };
 

@@ -1,9 +1,9 @@
 //! The call that begins a hall, runs its workers and closes it.
 ghost use Rattle.std.specs.Prelude.{◌≡◌, ℕ, ◌+◌, ◌≤◌, [], All, IfNone, IfSome, Some, false, map};
 ghost use Rattle.std.specs.Prelude.{slice_get, vec_capacity, vec_len};
-ghost use Rattle.hall.specs.Passes.{HasBegun, IsNewWorld};
+ghost use Rattle.hall.specs.Passes.{HasBegun, IsNewWorld, who};
 ghost use Rattle.service_core.specs.Worlds.{State};
-ghost use Rattle.rest_session.specs.Halls.Accounts.{IsReady, account, who};
+ghost use Rattle.rest_session.specs.Halls.Accounts.{IsReady, account};
 ghost use Rattle.rest_session.specs.Halls.Histories.{IsServed};
 ghost use Rattle.rest_session.specs.Halls.Visits.{Works, telling};
 
@@ -83,10 +83,11 @@ where
         × (vec_len doors.old ≤ vec_capacity room.workers) }
     requires reports { (room.reports.items ≡ [])
         × (vec_len doors.old ≤ vec_capacity room.reports) }
-    ensures { (s : State) → IsNewWorld s → HasBegun hall pass s (vec_len doors.old + 1)
+    ensures served { (s : State) → IsNewWorld s → HasBegun hall pass s (vec_len doors.old + 1)
         → IsServed D (telling ⟦<F as Door>⟧ ⟦<F::Link as Source>⟧ ⟦<F::Link as Sink>⟧) tokens.now
         links s result.0.world result.0.front doors.old.items doors.new.items
         result.0.reports.items }
+    ensures front { result.0.front ≡ result.0.world.register.places }
 {
     the_register_counts();
     replies_are_replays();
@@ -129,6 +130,7 @@ where
     ensures served { IfSome result.closed (λ c.
         IsServed (Unit {0}) (telling ⟦<F as Door>⟧ ⟦<F::Link as Source>⟧ ⟦<F::Link as Sink>⟧)
         tokens.now links world c.world c.front doors.items result.doors.items c.reports.items) }
+    ensures front { IfSome result.closed (λ c. c.front ≡ c.world.register.places) }
 {
     let Ok(room) = make_room(alloc, doors.len(), links) else {
         return ServedHall {

@@ -1,6 +1,7 @@
 //! Many workers at one hall.
 ghost use Rattle.std.specs.Prelude.{◌≡◌, ℕ, ◌≤◌, [], All, Some, false, map, slice_get, vec_capacity};
-ghost use Rattle.rest_session.specs.Halls.Accounts.{IsReady, account, who};
+ghost use Rattle.hall.specs.Passes.{who};
+ghost use Rattle.rest_session.specs.Halls.Accounts.{IsReady, account};
 ghost use Rattle.rest_session.specs.Halls.Visits.{Works, telling};
 
 use crate::halls::attending::attend_door;

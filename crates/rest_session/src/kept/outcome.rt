@@ -1,6 +1,8 @@
 ghost use Rattle.std.specs.Prelude.{◌≡◌};
+ghost use Rattle.rest_session.specs.Kept.Doors.{outcome_of};
 ghost use Rattle.rest_session.specs.Kept.Sessions.{of_begin};
 
+use crate::halls::Report;
 use crate::links::LinkEnd;
 use flush_journal::Why;
 use service_core::journals::{BeginFault, OpenFault};
@@ -48,6 +50,58 @@ impl From<BeginFault> for Outcome {
         match fault {
             BeginFault::Unopened(why) => Outcome::Unopened(why),
             BeginFault::Unbegun(why) => Outcome::Unbegun(why),
+        }
+    }
+}
+
+/// How the doors that were served over a hall left its world.
+#[derive(Drop)]
+pub struct ClosedDoors {
+    /// How many requests the world had decided when the hall was closed.
+    pub front: u64,
+    /// How many it had decided when it was last kept: all of them, or none in this run.
+    pub kept: u64,
+    /// What the worker at each door tells, in order.
+    pub reports: Vec<Report>,
+}
+
+/// What doors came to that were to be served over a disk.
+#[derive(Drop)]
+pub enum DoorsOutcome {
+    /// No world was opened. Nothing was asked of a door.
+    Unopened(OpenFault),
+    /// The record of the run was refused. Nothing was asked of a door.
+    Unbegun(Why),
+    /// There was no memory for the hall or its workers. Nothing was asked of a door, and nothing was written but the record of
+    /// the run.
+    Unserved,
+    /// The doors were served.
+    Served {
+        /// How they left the world.
+        closed: ClosedDoors,
+        /// What the keeping after the last worker's end was answered.
+        last: Result<u64, Why>,
+    },
+}
+
+/// What the doors came to, with the doors, in order, and the disk.
+#[derive(Drop)]
+pub struct DoorsEnded<F, D> {
+    /// The doors.
+    pub doors: Vec<F>,
+    /// The disk.
+    pub disk: D,
+    /// What they came to.
+    pub outcome: DoorsOutcome,
+}
+
+impl From<BeginFault> for DoorsOutcome {
+    ghost from_gives = { λ fault outcome. outcome ≡ outcome_of fault };
+
+    fn from(fault: BeginFault) -> DoorsOutcome {
+        match fault {
+            BeginFault::Unopened(why) => DoorsOutcome::Unopened(why),
+            BeginFault::Unbegun(why) => DoorsOutcome::Unbegun(why),
         }
     }
 }

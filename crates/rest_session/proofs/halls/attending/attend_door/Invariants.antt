@@ -1,5 +1,6 @@
 use Rattle.std.proofs.Common.{◌≡◌, List, [], length, vec_capacity}
-use Rattle.rest_session.specs.Halls.Accounts.{IsReady, account, who}
+use Rattle.hall.specs.Passes.{who}
+use Rattle.rest_session.specs.Halls.Accounts.{IsReady, account}
 use Rattle.rest_session.specs.Halls.Visits.{Visit, Attends, telling}
 use Rattle.rest_session.proofs.halls.attending.attend_door.Given as goal
 

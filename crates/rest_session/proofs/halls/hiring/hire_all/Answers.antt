@@ -3,8 +3,8 @@ use Rattle.std.specs.Prelude.{All, reverse}
 use Rattle.std.proofs.lemmas.List.{map-append}
 use Rattle.hall_rule.specs.Sums.{upward}
 use Rattle.hall.specs.declared.gate.OpenGate.{OpenGate}
+use Rattle.hall.specs.Passes.{view_of}
 use Rattle.rest_session.specs.declared.halls.workers.Worker.{Worker}
-use Rattle.rest_session.specs.Halls.Accounts.{view}
 use Rattle.rest_session.specs.Halls.Staff.{IsGiver, IsHired}
 use Rattle.rest_session.proofs.OfHalls.Lists.{all_push, moved, reverse_push, unpiled, upward_push}
 use Rattle.rest_session.proofs.halls.hiring.hire_all.Goals as goal
@@ -27,7 +27,7 @@ doors-preserved g c =
     let more = c.push_reserved.ensures in
     let left = c.pop.new.self.items in
     let Hired = λ (x : Worker g.row.D.Denot g.row.F.Denot OpenGate). (m : ℕ) × IsHired c.args.hall.now m x.pass in
-    let number = λ (x : Worker g.row.D.Denot g.row.F.Denot OpenGate). (view x.pass).number in record {
+    let number = λ (x : Worker g.row.D.Denot g.row.F.Denot OpenGate). (view_of x.pass).number in record {
       count = omega arith;
       giver = subst (λ (m : ℕ). IsGiver c.args.hall.now m n c.hire-worker.new.pass) (sym more.len) both.0;
       hired = subst (All Hired) (sym more.items) (all_push Hired ws w i.hired (k + 1, both.1));

@@ -1,7 +1,7 @@
 use Rattle.std.proofs.Common.{◌≡◌, ℕ, ◌+◌, ◌++◌, false, map, vec_len, vec_capacity}
 use Rattle.std.specs.Prelude.{All, reverse}
 use Rattle.hall_rule.specs.Sums.{upward}
-use Rattle.rest_session.specs.Halls.Accounts.{view}
+use Rattle.hall.specs.Passes.{view_of}
 use Rattle.rest_session.specs.Halls.Staff.{IsGiver, IsHired}
 use Rattle.rest_session.proofs.halls.hiring.hire_all.Given as goal
 
@@ -10,7 +10,7 @@ invariant-doors g l = record {
   count : vec_len l.workers + vec_len l.doors ≡ vec_len l.initial.doors;
   giver : IsGiver l.hall (vec_len l.workers) (vec_len l.doors) l.pass;
   hired : All (λ w. (x : ℕ) × IsHired l.hall x w.pass) l.workers.items;
-  numbers : map (λ w. (view w.pass).number) l.workers.items ≡ upward 1 (vec_len l.workers);
+  numbers : map (λ w. (view_of w.pass).number) l.workers.items ≡ upward 1 (vec_len l.workers);
   doors : map (λ w. w.door) l.workers.items ++ reverse l.doors.items ≡ reverse l.initial.doors.items;
   lists : l.initial.lists.items ≡ l.lists.items ++ reverse (map (λ w. w.ends) l.workers.items);
   left : vec_len l.lists ≡ vec_len l.doors;

@@ -2,14 +2,13 @@ use Rattle.std.proofs.Common.{◌≡◌, ◌≢◌, ℕ, ◌+◌, ◌<◌, ◌++
 use Rattle.std.specs.Prelude.{All, reverse}
 use Rattle.std.proofs.lemmas.List.Elements.{All-cons}
 use Rattle.hall_rule.specs.Sums.{upward}
-use Rattle.hall.specs.Passes.{IsPassOf}
+use Rattle.hall.specs.Passes.{IsPassOf, TookIn, view_of}
 use Rattle.hall.specs.declared.gate.OpenGate.{OpenGate}
 use Rattle.rest_session.specs.declared.halls.workers.Worker.{Worker}
 use Rattle.rest_session.specs.declared.halls.hiring.Report.{Report}
-use Rattle.rest_session.specs.Halls.Accounts.{start_in, view}
-use Rattle.rest_session.specs.Halls.Staff.{IsAlone, TookIn}
+use Rattle.rest_session.specs.Halls.Staff.{IsAlone}
 use Rattle.rest_session.proofs.OfHalls.Lists.{all_mid, all_none, all_on, empty_of_length, handed_back}
-use Rattle.rest_session.proofs.OfHalls.Shares.{joined_length, joined_mine, joined_number, joined_theirs, one_name, took_itself}
+use Rattle.rest_session.proofs.OfHalls.Shares.{one_name, took_itself, took_on}
 use Rattle.rest_session.proofs.halls.hiring.take_in.Goals as goal
 
 abbrev report : {D F G : Type 0} → Worker D F G → Report
@@ -20,9 +19,8 @@ workers-init g c = record {
   done = [];
   parted = sym (append-nil _);
   of = c.requires.of;
-  first = c.requires.first;
   names = omega arith;
-  itself = took_itself (view c.args.pass.now) c.args.pass.now.live;
+  itself = took_itself (view_of c.args.pass.now);
   others = all_none _;
   handed = sym (append-nil _);
   told = sym (append-nil _);
@@ -36,7 +34,7 @@ join-requires-clause-of_this_hall_too g c =
     let w = c.in-Some.worker in
     let left = c.pop.new.self.items in
     let parted : c.args.workers.items ≡ left ++ w ∷ i.done = i.parted ∙ ap (λ l. l ++ i.done) c.in-Some.ensures.items ∙ append_assoc left (w ∷ []) i.done in
-    let Ours = λ (x : Worker g.row.D.Denot g.row.F.Denot OpenGate). IsPassOf c.args.hall.now x.pass × IsAlone (view x.pass) in
+    let Ours = λ (x : Worker g.row.D.Denot g.row.F.Denot OpenGate). IsPassOf c.args.hall.now x.pass × IsAlone (view_of x.pass) in
     (all_mid Ours left i.done w (subst (All Ours) parted c.requires.all_of)).0
 
 pub workers-preserved : goal.workers-preserved
@@ -44,25 +42,21 @@ workers-preserved g c =
     let i = c.workers.invariant in
     let w = c.in-Some.worker in
     let left = c.pop.new.self.items in
-    let start = start_in c.args.hall.now in
-    let v = view c.workers.pass in
-    let u = view c.join.new.pass in
-    let j = c.join.ensures.joined in
-    let live = c.workers.pass.live in
-    let lives = w.pass.live in
+    let v = view_of c.workers.pass in
+    let u = view_of c.join.new.pass in
+    let j = c.join.ensures in
     let parted : c.args.workers.items ≡ left ++ w ∷ i.done = i.parted ∙ ap (λ l. l ++ i.done) c.in-Some.ensures.items ∙ append_assoc left (w ∷ []) i.done in
-    let Ours = λ (x : Worker g.row.D.Denot g.row.F.Denot OpenGate). IsPassOf c.args.hall.now x.pass × IsAlone (view x.pass) in
+    let Ours = λ (x : Worker g.row.D.Denot g.row.F.Denot OpenGate). IsPassOf c.args.hall.now x.pass × IsAlone (view_of x.pass) in
     let alone = (all_mid Ours left i.done w (subst (All Ours) parted c.requires.all_of)).1 in
-    let Mine = λ (x : Worker g.row.D.Denot g.row.F.Denot OpenGate). TookIn u (view x.pass) in
-    let theirs = all_on (λ (x : Worker g.row.D.Denot g.row.F.Denot OpenGate). TookIn v (view x.pass)) Mine i.done
-    (λ x t. joined_mine start v (view w.pass) u live lives j (view x.pass) t) i.others in record {
+    let Mine = λ (x : Worker g.row.D.Denot g.row.F.Denot OpenGate). TookIn u (view_of x.pass) in
+    let theirs = all_on (λ (x : Worker g.row.D.Denot g.row.F.Denot OpenGate). TookIn v (view_of x.pass)) Mine i.done
+    (λ x t. took_on u v (view_of x.pass) j.mine t) i.others in record {
       done = w ∷ i.done;
       parted = parted;
-      of = c.join.ensures.of_this_hall;
-      first = joined_number start v (view w.pass) u live lives j ∙ i.first;
-      names = let n = i.names in let m = joined_length start v (view w.pass) u live lives j in let one = one_name (view w.pass) lives alone in omega (arith, n, m, one);
-      itself = joined_mine start v (view w.pass) u live lives j (view c.args.pass.now) i.itself;
-      others = All-cons Mine w i.done (joined_theirs start v (view w.pass) u live lives j) theirs;
+      of = j.of_this_hall;
+      names = let n = i.names in let m = j.names in let one = one_name (view_of w.pass) w.pass.live alone in omega (arith, n, m, one);
+      itself = took_on u v (view_of c.args.pass.now) j.mine i.itself;
+      others = All-cons Mine w i.done j.theirs theirs;
       handed = handed_back (λ (x : Worker g.row.D.Denot g.row.F.Denot OpenGate). x.door) i.done w c.workers.doors.items c.args.doors.now.items _ w.door
           c.push_reserved.ensures.items refl i.handed;
       told = handed_back (report {D = g.row.D.Denot} {F = g.row.F.Denot} {G = OpenGate}) i.done w c.workers.reports.items c.args.reports.now.items _ (report w) c.push_reserved-in-Some.ensures.items refl i.told;
@@ -85,7 +79,7 @@ returns-clause-others g c =
     let i = c.workers.invariant in
     let none = empty_of_length c.workers.workers.items (omega (arith, c.in_default.ensures.cases, c.workers.workers.ok.0)) in
     let whole : c.args.workers.items ≡ i.done = i.parted ∙ ap (λ l. l ++ i.done) none in
-    subst (All (λ (x : Worker g.row.D.Denot g.row.F.Denot OpenGate). TookIn (view c.workers.pass) (view x.pass))) (sym whole) i.others
+    subst (All (λ (x : Worker g.row.D.Denot g.row.F.Denot OpenGate). TookIn (view_of c.workers.pass) (view_of x.pass))) (sym whole) i.others
 
 pub returns-clause-doors : goal.returns-clause-doors
 returns-clause-doors g c =

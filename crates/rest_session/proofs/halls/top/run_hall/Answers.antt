@@ -4,19 +4,19 @@ use Rattle.std.specs.List.{slice_get}
 use Rattle.std.proofs.lemmas.List.{length-map}
 use Rattle.lane_histories.specs.Histories.{own}
 use Rattle.hall.specs.ArrayMachines.{lanes_in}
-use Rattle.hall.specs.Passes.{IsPassOf}
+use Rattle.hall.specs.Passes.{IsPassOf, opening, view_of}
 use Rattle.hall.specs.declared.gate.OpenGate.{OpenGate}
 use Rattle.hall_rule.specs.Rule.{names}
 use Rattle.hall_rule.specs.Sums.{times, upward}
 use Rattle.rest_session.specs.declared.links.end.LinkEnd.{LinkEnd}
 use Rattle.rest_session.specs.declared.halls.hiring.Report.{Report}
 use Rattle.rest_session.specs.declared.halls.workers.Worker.{Worker}
-use Rattle.rest_session.specs.Halls.Accounts.{IsReady, start_in, told_by, unasked, view}
+use Rattle.rest_session.specs.Halls.Accounts.{IsReady, told_by, unasked}
 use Rattle.rest_session.specs.Halls.Staff.{IsAlone, IsHired, numbers}
 use Rattle.rest_session.specs.Halls.Visits.{Works, telling}
 use Rattle.rest_session.proofs.OfHalls.Lists.{all_on, all_two, found, length_upward, some_same}
 use Rattle.rest_session.proofs.OfHalls.Shares.{number_named, one_name}
-use Rattle.rest_session.proofs.OfHalls.Served.{alone_still, count_still, each_served, first_giver, giver_alone, hired_alone, hired_ready, numbers_still, owns_all, places_told}
+use Rattle.rest_session.proofs.OfHalls.Served.{alone_still, count_still, each_served, first_giver, giver_alone, hired_alone, hired_ready, owns_all, places_told}
 use Rattle.rest_session.proofs.halls.top.run_hall.Goals as goal
 
 abbrev report : {D F G : Type 0} → Worker D F G → Report
@@ -37,26 +37,16 @@ dismiss-requires-clause-all_of g c =
     let ws = c.staff.new.workers.items in
     let now = c.work_all.new.workers.items in
     let Ready = λ (w : Worker g.row.D.Denot g.row.F.Denot OpenGate). IsReady c.args.hall w.pass in
-    let Alone = λ (w : Worker g.row.D.Denot g.row.F.Denot OpenGate). IsAlone (view w.pass) in
+    let Alone = λ (w : Worker g.row.D.Denot g.row.F.Denot OpenGate). IsAlone (view_of w.pass) in
     let alone = alone_still ws now c.work_all.ensures.same
     (all_on (λ (w : Worker g.row.D.Denot g.row.F.Denot OpenGate). (x : ℕ) × IsHired c.args.hall x w.pass) Alone ws (λ w h. hired_alone c.args.hall h.0 w.pass h.1) c.staff.ensures.hired) in
-    all_two Ready Alone (λ (w : Worker g.row.D.Denot g.row.F.Denot OpenGate). IsPassOf c.args.hall w.pass × IsAlone (view w.pass)) now (λ w r a. (r.of_this_hall, a)) c.work_all.ensures.ready alone
-
-pub dismiss-requires-clause-numbers : goal.dismiss-requires-clause-numbers
-dismiss-requires-clause-numbers g c =
-    let ws = c.staff.new.workers.items in
-    let now = c.work_all.new.workers.items in
-    let number = λ (w : Worker g.row.D.Denot g.row.F.Denot OpenGate). (view w.pass).number in
-    let n = vec_len c.args.doors.now in
-    let many : length ws ≡ n = sym (length-map ws number) ∙ ap length c.staff.ensures.numbers ∙ length_upward 1 n in
-    let still = count_still ws now c.work_all.ensures.same in
-    numbers_still ws now c.work_all.ensures.same ∙ c.staff.ensures.numbers ∙ ap (upward 1) (let e : n ≡ vec_len c.work_all.new.workers = omega (arith, many, still, c.work_all.new.workers.ok.0) in e)
+    all_two Ready Alone (λ (w : Worker g.row.D.Denot g.row.F.Denot OpenGate). IsPassOf c.args.hall w.pass × IsAlone (view_of w.pass)) now (λ w r a. (r.of_this_hall, a)) c.work_all.ensures.ready alone
 
 pub dismiss-requires-clause-doors_room : goal.dismiss-requires-clause-doors_room
 dismiss-requires-clause-doors_room g c =
     let ws = c.staff.new.workers.items in
     let now = c.work_all.new.workers.items in
-    let number = λ (w : Worker g.row.D.Denot g.row.F.Denot OpenGate). (view w.pass).number in
+    let number = λ (w : Worker g.row.D.Denot g.row.F.Denot OpenGate). (view_of w.pass).number in
     let n = vec_len c.args.doors.now in
     let many : length ws ≡ n = sym (length-map ws number) ∙ ap length c.staff.ensures.numbers ∙ length_upward 1 n in
     let still = count_still ws now c.work_all.ensures.same in
@@ -66,7 +56,7 @@ pub dismiss-requires-clause-reports_room : goal.dismiss-requires-clause-reports_
 dismiss-requires-clause-reports_room g c =
     let ws = c.staff.new.workers.items in
     let now = c.work_all.new.workers.items in
-    let number = λ (w : Worker g.row.D.Denot g.row.F.Denot OpenGate). (view w.pass).number in
+    let number = λ (w : Worker g.row.D.Denot g.row.F.Denot OpenGate). (view_of w.pass).number in
     let n = vec_len c.args.doors.now in
     let many : length ws ≡ n = sym (length-map ws number) ∙ ap length c.staff.ensures.numbers ∙ length_upward 1 n in
     let still = count_still ws now c.work_all.ensures.same in
@@ -77,35 +67,37 @@ pub close-world-requires-clause-whole : goal.close-world-requires-clause-whole
 close-world-requires-clause-whole g c =
     let ws = c.staff.new.workers.items in
     let now = c.work_all.new.workers.items in
-    let number = λ (w : Worker g.row.D.Denot g.row.F.Denot OpenGate). (view w.pass).number in
+    let number = λ (w : Worker g.row.D.Denot g.row.F.Denot OpenGate). (view_of w.pass).number in
     let n = vec_len c.args.doors.now in
     let many : length ws ≡ n = sym (length-map ws number) ∙ ap length c.staff.ensures.numbers ∙ length_upward 1 n in
     let still = count_still ws now c.work_all.ensures.same in
-    let first = one_name (view c.staff.new.pass) c.staff.new.pass.live (giver_alone c.args.hall n c.staff.new.pass c.staff.ensures.giver) in
+    let first = one_name (view_of c.staff.new.pass) c.staff.new.pass.live (giver_alone c.args.hall n c.staff.new.pass c.staff.ensures.giver) in
     let all = c.dismiss.ensures.names in
     let passes = c.requires.begun.2.passes_are in
     omega (arith, many, still, c.work_all.new.workers.ok.0, first, all, passes)
 
-pub returns : goal.returns
-returns g c = λ s new begun.
+pub returns-clause-served : goal.returns-clause-served
+returns-clause-served g c = λ s new begun.
     let t = telling g.F.Door g.F.Link.Source g.F.Link.Sink in
-    let start = start_in c.args.hall in
+    let start = opening c.args.hall in
     let lanes = lanes_in start in
     let ws = c.staff.new.workers.items in
     let now = c.work_all.new.workers.items in
-    let number = λ (w : Worker g.row.D.Denot g.row.F.Denot OpenGate). (view w.pass).number in
+    let number = λ (w : Worker g.row.D.Denot g.row.F.Denot OpenGate). (view_of w.pass).number in
     let door = λ (w : Worker g.row.D.Denot g.row.F.Denot OpenGate). w.door in
     let n = vec_len c.args.doors.now in
     let many : length ws ≡ n = sym (length-map ws number) ∙ ap length c.staff.ensures.numbers ∙ length_upward 1 n in
     let still = count_still ws now c.work_all.ensures.same in
-    let last = view c.dismiss.new.pass in
+    let last = view_of c.dismiss.new.pass in
     let ended = c.close-world.ensures.ended in
     let owns = owns_all start last c.close-world.result.0 begun.pass.opened ended c.dismiss.new.pass.alone in
     let itself = c.dismiss.ensures.itself in
     let giver = c.staff.ensures.giver in
+    let first = view_of c.staff.new.pass in
+    let named = number_named first c.staff.new.pass.live in
     let none : own 0 ended.seen.register ≡ [] =
     subst (λ (m : ℕ). own m ended.seen.register ≡ []) giver.number
-    (owns (view c.staff.new.pass).number itself.named ∙ itself.own_same ∙ ap (λ h. own (view c.staff.new.pass).number h.register) giver.seen) in
+    (owns first.number (itself.has_names first.number named) ∙ itself.no_more first.number named ∙ ap (λ h. own first.number h.register) giver.seen) in
     let doors = c.dismiss.ensures.doors in
     let reports = c.dismiss.ensures.reports in record {
       start = start;
@@ -115,6 +107,10 @@ returns g c = λ s new begun.
       ended = ended;
       told = c.places-front.ensures ∙ places_told start last c.close-world.result.0 begun.pass.opened ended (c.the_register_counts.ensures.counts lanes);
       none_of_the_first = none;
+      none_of_others = λ x above.
+          let one = one_name first c.staff.new.pass.live (giver_alone c.args.hall n c.staff.new.pass giver) in
+          let all = c.dismiss.ensures.names in
+          ended.strangers x (omega (arith, above, one, all, many, still, c.args.doors.now.ok.0, c.work_all.new.workers.ok.0));
       as_many = ap length doors ∙ length-map now door ∙ omega (arith, many, still, c.args.doors.now.ok.0);
       one_each = ap length reports ∙ length-map now report ∙ omega (arith, many, still, c.args.doors.now.ok.0);
       each = λ i d d' r gd gd' gr.

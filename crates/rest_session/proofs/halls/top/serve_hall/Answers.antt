@@ -8,5 +8,5 @@ run_hall-closed-requires-clause-begun g c κs within =
 
 pub returns-clause-served : goal.returns-clause-served
 returns-clause-served g c =
-    c.run_hall-closed.ensures c.args.world c.requires.new
+    c.run_hall-closed.ensures.served c.args.world c.requires.new
     (subst (λ (m : ℕ). HasBegun c.in-Ok-begin.hall c.in-Ok-begin.pass c.args.world m) (omega arith) c.in-Ok-begin.ensures.begun)

@@ -3,8 +3,9 @@ use Rattle.std.specs.Prelude.{All}
 use Rattle.std.specs.List.{slice_get}
 use Rattle.std.proofs.lemmas.List.{take_at}
 use Rattle.hall.specs.declared.gate.OpenGate.{OpenGate}
+use Rattle.hall.specs.Passes.{who}
 use Rattle.rest_session.specs.declared.halls.workers.Worker.{Worker}
-use Rattle.rest_session.specs.Halls.Accounts.{IsReady, who}
+use Rattle.rest_session.specs.Halls.Accounts.{IsReady}
 use Rattle.rest_session.proofs.halls.top.work_all.Goals as goal
 
 pub returns-clause-ready : goal.returns-clause-ready

@@ -1,4 +1,5 @@
-use Rattle.rest_session.specs.Halls.Accounts.{IsReady, who}
+use Rattle.hall.specs.Passes.{who}
+use Rattle.rest_session.specs.Halls.Accounts.{IsReady}
 use Rattle.rest_session.specs.declared.halls.workers.Worker.{Worker}
 use Rattle.rest_session.proofs.OfHalls.Lists.{all_same, map_same}
 use Rattle.rest_session.proofs.halls.workers.work.Goals as goal

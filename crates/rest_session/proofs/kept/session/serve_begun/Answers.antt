@@ -1,4 +1,5 @@
 use Rattle.std.proofs.Common.{ℕ, List, OnOk, refl, sym, subst, ◌∙◌}
+use Rattle.edge_traits.proofs.CauseLemmas.{rose_since}
 use Rattle.edge_traits.specs.Causes.{Rose}
 use Rattle.flush_journal.specs.Batches.{records}
 use Rattle.flush_journal.specs.Moments.{CrashLeaves}
@@ -10,7 +11,7 @@ use Rattle.service_core.specs.Steps.{World}
 use Rattle.rest_session.specs.Sessions.{Served}
 use Rattle.service_core.specs.KeptWorlds.{KeepsWorld, HoldsWorld}
 use Rattle.rest_session.specs.Stood.{HoldsStood}
-use Rattle.rest_session.proofs.OfKept.Lasting.{all_kept_then, fault_rose, image_stood, left_then, places, waits_then, whole_then}
+use Rattle.rest_session.proofs.OfKept.Lasting.{all_kept_then, fault_counted, image_stood, left_then, places, waits_then, whole_then}
 use Rattle.rest_session.proofs.kept.session.serve_begun.Goals as goal
 
 pub returns-clause-served : goal.returns-clause-served
@@ -46,9 +47,9 @@ returns-clause-served g c =
         transcript = t.4;
         last_keeping = keeps;
         disk = c.into_disk.ensures;
-        front = c.places.ensures ∙ sym (places first final t.0 k w c.keep-last.result keeps);
+        front = c.places.ensures ∙ sym (places final.keeping k final.world w c.keep-last.result keeps);
         kept = refl;
-        all = all_kept_then first final t.0 k w c.keep-last.result keeps c.places.result c.places.ensures;
+        all = all_kept_then final.keeping k final.world w c.keep-last.result keeps c.places.result c.places.ensures;
         waits = waits_then first final t.0 k w c.keep-last.result keeps
             (c.what_waits_stood.ensures first final t.0 t.1 (g.L.Source.left c.serve_world-end.new.link) c.serve_world-end.result t.4 c.requires.new.waits c.requires.new.building c.requires.kept);
         stretch = c.what_is_kept_stood.ensures.stretch first final t.0 t.1 (g.L.Source.left c.serve_world-end.new.link) c.serve_world-end.result t.4;
@@ -93,5 +94,6 @@ returns-clause-disk_fault g c = λ is.
       none = c.keep-last.ensures.none;
     } in
     subst (λ (d : g.row.D.Denot). Rose (g.D.Disk.faults (disk_of c.args.keeping.journal)) (g.D.Disk.faults d)) (sym c.into_disk.ensures)
-    (fault_rose first final t.0 c.keep-last.new.self c.keep-last.new.world c.keep-last.result keeps
-    (c.what_is_kept_stood.ensures.disk first final t.0 t.1 (g.L.Source.left c.serve_world-end.new.link) c.serve_world-end.result t.4) is)
+    (rose_since (g.D.Disk.faults (disk_of c.args.keeping.journal)) (g.D.Disk.faults (disk_of final.keeping.journal)) (g.D.Disk.faults (disk_of c.keep-last.new.self.journal))
+    (c.what_is_kept_stood.ensures.disk first final t.0 t.1 (g.L.Source.left c.serve_world-end.new.link) c.serve_world-end.result t.4).faults
+    (fault_counted final.keeping c.keep-last.new.self final.world c.keep-last.new.world c.keep-last.result keeps is))

@@ -10,7 +10,7 @@ use Rattle.rest_session.proofs.kept.session.serve_disk.Goals as goal
 pub serve_begun-requires-clause-backed : goal.serve_begun-requires-clause-backed
 serve_begun-requires-clause-backed g c = λ honest.
     let o = c.in-Ok.ensures.begun honest in
-    backed_first g.D.Disk c.args.disk c.in-Ok.field-0.journal c.in-Ok.field-0.world c.new-keeping.result c.new-keeping.ensures.journal o.0 o.2 c.new-keeping.ensures.building
+    backed_first c.in-Ok.field-0.journal c.in-Ok.field-0.world o.0 o.2.begun c.new-keeping.result c.new-keeping.ensures.journal c.new-keeping.ensures.building
 
 pub serve_begun-requires-clause-new : goal.serve_begun-requires-clause-new
 serve_begun-requires-clause-new g c = record {
