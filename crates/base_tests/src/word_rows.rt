@@ -31,6 +31,13 @@ fn text_of(alloc: Global, command: &Wanted) -> Result<String, AllocError> {
             lanes,
         } => format!(in alloc; "init {config} {journal} {lanes}"),
         Wanted::Session { config, journal } => format!(in alloc; "session {config} {journal}"),
+        Wanted::Serve {
+            config,
+            journal,
+            listen,
+            workers,
+            links,
+        } => format!(in alloc; "serve {config} {journal} {listen} {workers} {links}"),
         Wanted::Export { path, journal } => {
             format!(in alloc; "export {} {journal}", path.text())
         }
@@ -50,6 +57,11 @@ session|--config|a.toml -> session a.toml hsds.journal
 session|--journal=j|--config=a=b -> session a=b j
 session|--config|session|--journal|/a/-b -> session session /a/-b
 session|--config== -> session = hsds.journal
+serve -> serve hsds.toml hsds.journal 127.0.0.1:5101 4 1000
+serve|--listen|0.0.0.0:80 -> serve hsds.toml hsds.journal 0.0.0.0:80 4 1000
+serve|--workers|1|--links=1 -> serve hsds.toml hsds.journal 127.0.0.1:5101 1 1
+serve|--links|65536|--workers=16|--listen=a|--journal|j|--config=c -> serve c j a 16 65536
+serve|--listen|serve -> serve hsds.toml hsds.journal serve 4 1000
 verify -> verify hsds.journal
 verify|--journal|j -> verify j
 export|/home/lab -> export /home/lab hsds.journal
@@ -103,6 +115,21 @@ init|--lanes|4294967300
 init|--lanes|4|--lanes|4
 init|--lanes=4|--lanes=4
 init|4
+serve|--workers|0
+serve|--workers|17
+serve|--workers|
+serve|--workers
+serve|--workers|4|--workers|4
+serve|--links|0
+serve|--links|65537
+serve|--links|00000000001
+serve|--links=1k
+serve|--listen|
+serve|--listen|-a
+serve|--lanes|4
+serve|a
+session|--workers|4
+session|--listen|a
 sample
 sample|4294967296
 sample|9999999999
@@ -213,7 +240,7 @@ help|session
 Session
 sessions
 sess
-serve
+server
 exports|/home/lab
 /home/lab|export
 imports|/home/lab
