@@ -1,8 +1,7 @@
 -- A command that finds what it needs ends as it should, or for want of memory.
 use Rattle.std.proofs.Common.{◌≡◌, ◌≢◌, ◌⊎◌, inl, inr, ℕ, ◌≤◌, ◌++◌, ◌∙◌, List, length, Option, Some, None, Result, Ok, Err, refl, sym, ap, subst, append-nil, length-append, arith}
-use Rattle.std.specs.Io.KnownBytes.{Consumes}
 use Rattle.edge_traits.specs.declared.disk.Disk.{Ghosts}
-use Rattle.command_words.specs.Commands.{Command, export, import, init, sample, session, verify}
+use Rattle.command_words.specs.Commands.{Command, export, import, init, sample, serve, session, verify}
 use Rattle.flush_journal.specs.declared.why.Why.{Why}
 use Rattle.flush_journal.specs.declared.why.Why.TheVariants as why
 use Rattle.documents.specs.Reader.Loads.{LoadsText}
@@ -10,25 +9,27 @@ use Rattle.documents.specs.Reader.Texts.{most_bytes}
 use Rattle.json_import.specs.Kept.Documents.{IsRefused}
 use Rattle.service_core.specs.Journals.Opening.{IsOf}
 use Rattle.service_core.specs.Journals.Begun.{IsRecovered}
-use Rattle.rest_session.specs.Links.Links.{IsPeaceful, IsTranscript, spellings}
+use Rattle.rest_session.specs.Links.Links.{IsPeaceful}
 use Rattle.rest_session.specs.declared.links.end.LinkEnd.{LinkEnd}
 use Rattle.rest_session.specs.declared.links.end.LinkEnd.TheVariants as end
-use Rattle.rest_session.proofs.OfLinks.Readings.{peaceful}
-use Rattle.rest_session.specs.Sessions.{IsServed}
-use Rattle.rest_session.specs.declared.kept.outcome.Closed.{Closed}
+use Rattle.rest_session.specs.Sessions.{IsServed as SessionStep}
+use Rattle.hsds_cli.specs.declared.closed.Closed.{Closed}
+use Rattle.hsds_cli.specs.Doors.{Doors}
 use Rattle.hsds_cli.specs.declared.status.Status.{Status}
-use Rattle.hsds_cli.specs.declared.status.Status.TheVariants.{Done, Words, Configuration, ReadFault, WriteFault, DiskFault, NotAJournal, Refused, JournalExists, InputCut, UsedUp, Budget, NoMemory}
+use Rattle.hsds_cli.specs.declared.status.Status.TheVariants.{Done, Words, Configuration, ReadFault, WriteFault, DiskFault, NotAJournal, Refused, JournalExists, DoorFault, InputCut, UsedUp, Budget, NoMemory}
 use Rattle.service_core.specs.Steps.{World}
 use Rattle.edge_traits.specs.SourceTexts.Texts.{IsLongText, IsWholeText}
 use Rattle.hsds_cli.specs.Completeness.{HasAdoptable, IsConfigured, IsUndisturbed, IsWholeInput}
 use Rattle.hsds_cli.specs.Exports.{IsExported}
 use Rattle.hsds_cli.specs.Imports.{IsImported}
 use Rattle.hsds_cli.specs.Makings.{IsInit}
-use Rattle.hsds_cli.specs.Openings.{IsSession, IsVerified, Serves, status_after}
+use Rattle.hsds_cli.specs.Openings.{IsSession, IsVerified, Serves, status_after, status_of}
 use Rattle.hsds_cli.specs.Runs.{IsCommanded}
 use Rattle.hsds_cli.specs.Sampled.{IsSampled}
+use Rattle.hsds_cli.specs.Serves.{IsServedBy, reports_status}
 use Rattle.hsds_cli.specs.Sides.{Sides, SpellsNone, configured}
 use Rattle.hsds_cli.specs.Status.{number_of}
+use Rattle.hsds_cli.proofs.BudgetLemmas.{budget_doors, full_doors, no_budget, peace_over, reports_budget, reports_full}
 
 abbrev pub IsEnd : Status → Type 0
 IsEnd status = (status ≡ Done) ⊎ (status ≡ NoMemory)
@@ -72,7 +73,7 @@ accepted file path left after w has kept (inr (l, cause, document, is)) =
     cc
 
 -- a peaceful end is no cut, and none of the budget
-peaceful_status : (e : LinkEnd) (last : Result ℕ Why) → IsPeaceful e → (status_after e last ≢ InputCut) × (status_after e last ≢ Budget)
+peaceful_status : (e : LinkEnd) (last : Result ℕ Why) → IsPeaceful e → (status_after (status_of e) last ≢ InputCut) × (status_after (status_of e) last ≢ Budget)
 peaceful_status e (Err why.DiskFault) peace = (λ is. let no : DiskFault ≡ InputCut = is in cc, λ is. let no : DiskFault ≡ Budget = is in cc)
 peaceful_status e (Err (why.JournalFull end need room)) peace = (λ is. let no : UsedUp ≡ InputCut = is in cc, λ is. let no : UsedUp ≡ Budget = is in cc)
 peaceful_status e (Err (why.NotAJournal at)) peace = (λ is. let no : NoMemory ≡ InputCut = is in cc, λ is. let no : NoMemory ≡ Budget = is in cc)
@@ -87,7 +88,7 @@ peaceful_status end.Budget (Ok n) peace = absurd peace
 peaceful_status end.NoMemory (Ok n) peace = (λ is. let no : NoMemory ≡ InputCut = is in cc, λ is. let no : NoMemory ≡ Budget = is in cc)
 
 -- no room is left only where the last keeping found none
-full : (e : LinkEnd) (last : Result ℕ Why) → status_after e last ≡ UsedUp → (end : ℕ) × (need : ℕ) × (room : ℕ) × (last ≡ Err (why.JournalFull end need room))
+full : (e : LinkEnd) (last : Result ℕ Why) → status_after (status_of e) last ≡ UsedUp → (end : ℕ) × (need : ℕ) × (room : ℕ) × (last ≡ Err (why.JournalFull end need room))
 full e (Err why.DiskFault) is = absurd (let no : DiskFault ≡ UsedUp = is in cc)
 full e (Err (why.JournalFull end need room)) is = (end, need, room, refl)
 full e (Err (why.NotAJournal at)) is = absurd (let no : NoMemory ≡ UsedUp = is in cc)
@@ -101,19 +102,13 @@ full end.WriteFault (Ok n) is = absurd (let no : WriteFault ≡ UsedUp = is in c
 full end.Budget (Ok n) is = absurd (let no : Budget ≡ UsedUp = is in cc)
 full end.NoMemory (Ok n) is = absurd (let no : NoMemory ≡ UsedUp = is in cc)
 
-module _ {D : Type 0} (met : Ghosts D) (honest : met.honest) (sides : Sides) (before after : D) (closed : Option Closed) where
+module _ {F L D : Type 0} (met : Ghosts D) (honest : met.honest) (sides : Sides) (doors : Doors F L) (before after : D) (closed : Option Closed) where
   -- a link that was served over whole messages ended in peace
   peace : (status : Status) (s : Serves met sides before after closed status) → IsWholeInput sides.left_before → IsPeaceful s.link_closed.end
-  peace status s whole = by_left sides.left_before sides.left_after whole.told s.served.consumed s.served.transcript where
-    by_left : (from to : Option (List ℕ)) → from ≡ Some (spellings whole.messages) → Consumes from to s.served.taken
-        → IsTranscript IsServed s.first s.served.taken s.served.sent to s.served.final s.link_closed.end → IsPeaceful s.link_closed.end
-    by_left None to told consumed t = absurd (let no : None ≡ Some (spellings whole.messages) = told in cc)
-    by_left (Some x) None told consumed t = absurd consumed
-    by_left (Some x) (Some y) told consumed t =
-        let same : x ≡ spellings whole.messages = cc in
-        peaceful IsServed s.first s.served.final whole.messages s.served.taken s.served.sent y s.link_closed.end whole.spelled whole.few (sym same ∙ consumed) t
+  peace status s whole =
+      peace_over SessionStep s.first s.served.final sides.left_before sides.left_after s.served.taken s.served.sent s.link_closed.end whole s.served.consumed s.served.transcript
 
-  of_init : (lanes : ℕ) (config journal : List ℕ) (status : Status) → IsInit met lanes sides before after status → IsUndisturbed met (init config journal lanes) sides before after closed → IsEnd status
+  of_init : (lanes : ℕ) (config journal : List ℕ) (status : Status) → IsInit met lanes sides before after status → IsUndisturbed met (init config journal lanes) sides doors before after closed → IsEnd status
   of_init lanes config journal Done h u = inl refl
   of_init lanes config journal NoMemory h u = inr refl
   of_init lanes config journal Configuration h u = absurd (spelled sides.text u.finds.0 h.0)
@@ -125,10 +120,11 @@ module _ {D : Type 0} (met : Ghosts D) (honest : met.honest) (sides : Sides) (be
   of_init lanes config journal Words h u = absurd h
   of_init lanes config journal NotAJournal h u = absurd h
   of_init lanes config journal Refused h u = absurd h
+  of_init lanes config journal DoorFault h u = absurd h
   of_init lanes config journal InputCut h u = absurd h
   of_init lanes config journal Budget h u = absurd h
 
-  of_verify : (journal : List ℕ) (status : Status) → IsVerified met sides before after status → IsUndisturbed met (verify journal) sides before after closed → IsEnd status
+  of_verify : (journal : List ℕ) (status : Status) → IsVerified met sides before after status → IsUndisturbed met (verify journal) sides doors before after closed → IsEnd status
   of_verify journal Done h u = inl refl
   of_verify journal NoMemory h u = inr refl
   of_verify journal WriteFault h u = absurd (u.calm.out h.0)
@@ -140,10 +136,11 @@ module _ {D : Type 0} (met : Ghosts D) (honest : met.honest) (sides : Sides) (be
   of_verify journal ReadFault h u = absurd h
   of_verify journal Refused h u = absurd h
   of_verify journal JournalExists h u = absurd h
+  of_verify journal DoorFault h u = absurd h
   of_verify journal InputCut h u = absurd h
   of_verify journal Budget h u = absurd h
 
-  of_export : (path journal : List ℕ) (status : Status) → IsExported met path sides before after status → IsUndisturbed met (export path journal) sides before after closed → IsEnd status
+  of_export : (path journal : List ℕ) (status : Status) → IsExported met path sides before after status → IsUndisturbed met (export path journal) sides doors before after closed → IsEnd status
   of_export path journal Done h u = inl refl
   of_export path journal NoMemory h u = inr refl
   of_export path journal WriteFault h u = absurd (u.calm.out h.0)
@@ -155,10 +152,11 @@ module _ {D : Type 0} (met : Ghosts D) (honest : met.honest) (sides : Sides) (be
   of_export path journal Configuration h u = absurd h
   of_export path journal ReadFault h u = absurd h
   of_export path journal JournalExists h u = absurd h
+  of_export path journal DoorFault h u = absurd h
   of_export path journal InputCut h u = absurd h
   of_export path journal Budget h u = absurd h
 
-  of_import : (path journal owner : List ℕ) (status : Status) → IsImported met path owner sides before after status → IsUndisturbed met (import path journal owner) sides before after closed → IsEnd status
+  of_import : (path journal owner : List ℕ) (status : Status) → IsImported met path owner sides before after status → IsUndisturbed met (import path journal owner) sides doors before after closed → IsEnd status
   of_import path journal owner Done h u = inl refl
   of_import path journal owner NoMemory h u = inr refl
   of_import path journal owner ReadFault h u = absurd (u.calm.input h.0)
@@ -171,10 +169,11 @@ module _ {D : Type 0} (met : Ghosts D) (honest : met.honest) (sides : Sides) (be
   of_import path journal owner Words h u = absurd h
   of_import path journal owner Configuration h u = absurd h
   of_import path journal owner JournalExists h u = absurd h
+  of_import path journal owner DoorFault h u = absurd h
   of_import path journal owner InputCut h u = absurd h
   of_import path journal owner Budget h u = absurd h
 
-  of_sample : (n : ℕ) (status : Status) → IsSampled n sides status → IsUndisturbed met (sample n) sides before after closed → IsEnd status
+  of_sample : (n : ℕ) (status : Status) → IsSampled n sides status → IsUndisturbed met (sample n) sides doors before after closed → IsEnd status
   of_sample n Done h u = inl refl
   of_sample n NoMemory h u = inr refl
   of_sample n WriteFault h u = absurd (u.calm.out h.0.3)
@@ -185,11 +184,12 @@ module _ {D : Type 0} (met : Ghosts D) (honest : met.honest) (sides : Sides) (be
   of_sample n NotAJournal h u = absurd h.0
   of_sample n Refused h u = absurd h.0
   of_sample n JournalExists h u = absurd h.0
+  of_sample n DoorFault h u = absurd h.0
   of_sample n InputCut h u = absurd h.0
   of_sample n UsedUp h u = absurd h.0
   of_sample n Budget h u = absurd h.0
 
-  of_session : (config journal : List ℕ) (status : Status) → IsSession met sides before after closed status → IsUndisturbed met (session config journal) sides before after closed → IsEnd status
+  of_session : (config journal : List ℕ) (status : Status) → IsSession met sides before after closed status → IsUndisturbed met (session config journal) sides doors before after closed → IsEnd status
   of_session config journal Done h u = inl refl
   of_session config journal NoMemory h u = inr refl
   of_session config journal Configuration h u = absurd (spelled sides.text u.finds.0 h.0)
@@ -205,10 +205,36 @@ module _ {D : Type 0} (met : Ghosts D) (honest : met.honest) (sides : Sides) (be
   of_session config journal Words h u = absurd h
   of_session config journal Refused h u = absurd h
   of_session config journal JournalExists h u = absurd h
+  of_session config journal DoorFault h u = absurd h
 
-  pub complete : (command : Command) (status : Status) → IsCommanded met (Some command) sides before after closed status → IsUndisturbed met command sides before after closed → IsEnd status
+  of_serve : (config journal listen : List ℕ) (workers links : ℕ) (status : Status) → IsServedBy met links sides doors before after closed status
+      → IsUndisturbed met (serve config journal listen workers links) sides doors before after closed → IsEnd status
+  of_serve config journal listen workers links Done h u = inl refl
+  of_serve config journal listen workers links NoMemory h u = inr refl
+  of_serve config journal listen workers links Configuration h u = absurd (spelled sides.text u.finds.0 h.0)
+  of_serve config journal listen workers links ReadFault h u = absurd (u.calm.config h.0)
+  of_serve config journal listen workers links DiskFault h u = absurd (u.calm.disk h.0)
+  of_serve config journal listen workers links NotAJournal h u = absurd (u.finds.1.world (h.2 honest))
+  of_serve config journal listen workers links DoorFault h u = absurd (u.no_door_fault h.0)
+  of_serve config journal listen workers links Budget h u =
+      let s = h.0 in
+      let none = no_budget links doors s.config.tokens s.first s.served.closing s.left.front s.left.reports.items s.served.served u.finds.2 in
+      absurd (budget_doors (reports_status s.left.reports.items) s.last (reports_budget s.left.reports.items none) s.ended)
+  of_serve config journal listen workers links UsedUp (inl (some, unasked, inl (none, same))) u = absurd (u.finds.1.run (none honest))
+  of_serve config journal listen workers links UsedUp (inl (some, unasked, inr unbegun)) u = absurd (u.room (inl unbegun))
+  of_serve config journal listen workers links UsedUp (inr s) u =
+      let f = full_doors (reports_status s.left.reports.items) s.last (reports_full s.left.reports.items) s.ended in
+      absurd (u.room (inr (s, f.0, f.1, f.2, f.3)))
+  of_serve config journal listen workers links Words h u = absurd h
+  of_serve config journal listen workers links WriteFault h u = absurd h
+  of_serve config journal listen workers links Refused h u = absurd h
+  of_serve config journal listen workers links JournalExists h u = absurd h
+  of_serve config journal listen workers links InputCut h u = absurd h
+
+  pub complete : (command : Command) (status : Status) → IsCommanded met (Some command) sides doors before after closed status → IsUndisturbed met command sides doors before after closed → IsEnd status
   complete (init config journal lanes) status h u = of_init lanes config journal status h.0 u
   complete (session config journal) status h u = of_session config journal status h u
+  complete (serve config journal listen workers links) status h u = of_serve config journal listen workers links status h.1 u
   complete (export path journal) status h u = of_export path journal status h.0 u
   complete (import path journal owner) status h u = of_import path journal owner status h.0 u
   complete (sample n) status h u = of_sample n status h.0 u

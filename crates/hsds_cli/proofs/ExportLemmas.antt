@@ -17,7 +17,7 @@ use Rattle.hsds_cli.specs.Exports.{AreLoaded, IsDocumentTold, IsExported, IsGive
 use Rattle.hsds_cli.specs.Openings.{opening_status}
 use Rattle.hsds_cli.specs.Sides.{IsUntouched, Sides}
 use Rattle.hsds_cli.specs.declared.status.Status.{Status}
-use Rattle.hsds_cli.specs.declared.status.Status.TheVariants.{Done, Words, Configuration, ReadFault, WriteFault, DiskFault, NotAJournal, Refused, JournalExists, InputCut, UsedUp, Budget, NoMemory}
+use Rattle.hsds_cli.specs.declared.status.Status.TheVariants.{Done, Words, Configuration, ReadFault, WriteFault, DiskFault, NotAJournal, Refused, JournalExists, DoorFault, InputCut, UsedUp, Budget, NoMemory}
 use Rattle.hsds_cli.proofs.Printing.{whole_line}
 
 -- the text that a call gave, with a line feed
@@ -77,6 +77,7 @@ module _ {D : Type 0} (met : Ghosts D) (path : List ℕ) (sides : Sides) (before
     exported DiskFault h = absurd h.2
     exported NotAJournal h = absurd h.2
     exported JournalExists h = absurd h.2
+    exported DoorFault h = absurd h.2
     exported InputCut h = absurd h.2
     exported UsedUp h = absurd h.2
     exported Budget h = absurd h.2

@@ -22,7 +22,7 @@ use Rattle.hsds_cli.specs.Lines.{IsTold, import_line}
 use Rattle.hsds_cli.specs.Openings.{opening_status, refusal_status}
 use Rattle.hsds_cli.specs.Sides.{IsUntouched, Sides}
 use Rattle.hsds_cli.specs.declared.status.Status.{Status}
-use Rattle.hsds_cli.specs.declared.status.Status.TheVariants.{Done, Words, Configuration, ReadFault, WriteFault, DiskFault, NotAJournal, Refused, JournalExists, InputCut, UsedUp, Budget, NoMemory}
+use Rattle.hsds_cli.specs.declared.status.Status.TheVariants.{Done, Words, Configuration, ReadFault, WriteFault, DiskFault, NotAJournal, Refused, JournalExists, DoorFault, InputCut, UsedUp, Budget, NoMemory}
 use Rattle.hsds_cli.proofs.Printing.{whole_line}
 use Rattle.hsds_cli.proofs.SessionLemmas.{keeps, untouched}
 
@@ -96,6 +96,7 @@ module _ {D : Type 0} (met : Ghosts D) (path owner : List ℕ) (sides : Sides) (
     kept NotAJournal h = absurd h
     kept Refused h = absurd h
     kept JournalExists h = absurd h
+    kept DoorFault h = absurd h
     kept InputCut h = absurd h
     kept UsedUp h = absurd h
     kept Budget h = absurd h

@@ -14,7 +14,7 @@ use Rattle.hsds_cli.specs.Makings.{IsInit, making_status}
 use Rattle.hsds_cli.specs.Runs.{IsRefusal}
 use Rattle.hsds_cli.specs.Sides.{IsUntouched, Sides, Spells}
 use Rattle.hsds_cli.specs.declared.status.Status.{Status}
-use Rattle.hsds_cli.specs.declared.status.Status.TheVariants.{Done, Words, Configuration, ReadFault, WriteFault, DiskFault, NotAJournal, Refused, JournalExists, InputCut, UsedUp, Budget, NoMemory}
+use Rattle.hsds_cli.specs.declared.status.Status.TheVariants.{Done, Words, Configuration, ReadFault, WriteFault, DiskFault, NotAJournal, Refused, JournalExists, DoorFault, InputCut, UsedUp, Budget, NoMemory}
 use Rattle.hsds_cli.proofs.Printing.{whole_line}
 
 module _ {D : Type 0} (met : Ghosts D) (lanes : ℕ) (sides : Sides) (before after : D) where
@@ -30,6 +30,7 @@ module _ {D : Type 0} (met : Ghosts D) (lanes : ℕ) (sides : Sides) (before aft
   init_refused NotAJournal h still same = absurd h
   init_refused Refused h still same = absurd h
   init_refused JournalExists h still same = absurd h
+  init_refused DoorFault h still same = absurd h
   init_refused InputCut h still same = absurd h
   init_refused UsedUp h still same = absurd h
   init_refused Budget h still same = absurd h
@@ -58,6 +59,7 @@ module _ {D : Type 0} (met : Ghosts D) (lanes : ℕ) (sides : Sides) (before aft
     init_made none images left NotAJournal h = absurd h
     init_made none images left Refused h = absurd h
     init_made none images left JournalExists h = absurd h
+    init_made none images left DoorFault h = absurd h
     init_made none images left InputCut h = absurd h
     init_made none images left UsedUp h = absurd h
     init_made none images left Budget h = absurd h

@@ -1,9 +1,12 @@
+mod BudgetLemmas
 mod ClosedLemmas
 mod CompleteLemmas
 mod Configurations
+mod DoorLemmas
 mod ExportLemmas
 mod ImportLemmas
 mod InitLemmas
 mod Printing
+mod ServeLemmas
 mod SessionLemmas
 mod VerifyLemmas

@@ -11,19 +11,20 @@ use Rattle.service_core.specs.declared.journals.faults.OpenFault.{OpenFault}
 use Rattle.service_core.specs.declared.journals.faults.OpenFault.TheVariants as fault
 use Rattle.rest_session.specs.Kept.Sessions.{HasCausesOf, IsEnded, IsSessionDiskFault}
 use Rattle.service_core.specs.Journals.Begun.{IsUnbegun}
-use Rattle.rest_session.specs.declared.kept.outcome.Closed.{Closed}
+use Rattle.hsds_cli.specs.declared.closed.Closed.{Closed}
+use Rattle.hsds_cli.specs.Closings.{of_link}
 use Rattle.rest_session.specs.declared.kept.outcome.Outcome.{Outcome}
 use Rattle.rest_session.specs.declared.kept.outcome.Outcome.TheVariants as outcome
 use Rattle.rest_session.specs.Links.Links.{HasCauses}
 use Rattle.rest_session.specs.declared.links.end.LinkEnd.{LinkEnd}
 use Rattle.rest_session.specs.declared.links.end.LinkEnd.TheVariants as end
-use Rattle.hsds_cli.specs.Openings.{IsSession, Serves, SpellsSome, closed_by, status_after, status_by}
+use Rattle.hsds_cli.specs.Openings.{IsSession, Serves, SpellsSome, closed_by, status_after, status_by, status_of}
 use Rattle.hsds_cli.specs.Sides.{IsUntouched, Sides, Spells}
 use Rattle.flush_journal.specs.Unchanged.{SameBytes}
 use Rattle.flush_journal.proofs.Unchanged.{bytes_here}
 use Rattle.hsds_cli.specs.Runs.{IsRefusal}
 use Rattle.hsds_cli.specs.declared.status.Status.{Status}
-use Rattle.hsds_cli.specs.declared.status.Status.TheVariants.{Done, Words, Configuration, ReadFault, WriteFault, DiskFault, NotAJournal, Refused, JournalExists, InputCut, UsedUp, Budget, NoMemory}
+use Rattle.hsds_cli.specs.declared.status.Status.TheVariants.{Done, Words, Configuration, ReadFault, WriteFault, DiskFault, NotAJournal, Refused, JournalExists, DoorFault, InputCut, UsedUp, Budget, NoMemory}
 
 pub keeps : (before after : Option (List ℕ)) → after ≡ before → Keeps before after
 keeps None after same = tt
@@ -37,9 +38,9 @@ untouched sides left held = record { left = keeps sides.left_before sides.left_a
 
 module _ {D : Type 0} (met : Ghosts D) (sides : Sides) (before after : D) where
   -- a link that was served, by its end and the last keeping
-  by_end : (closed : Option Closed) (e : LinkEnd) (last : Result ℕ Why) → Serves met sides before after closed (status_after e last)
+  by_end : (closed : Option Closed) (e : LinkEnd) (last : Result ℕ Why) → Serves met sides before after closed (status_after (status_of e) last)
       → HasCauses sides.input_before sides.input_after sides.out_before sides.out_after e → (last ≡ Err why.DiskFault → Rose (met.faults before) (met.faults after))
-      → IsSession met sides before after closed (status_after e last)
+      → IsSession met sides before after closed (status_after (status_of e) last)
   by_end closed e (Err why.DiskFault) s h f = (f refl, inr s)
   by_end closed e (Err (why.JournalFull end need room)) s h f = inr s
   by_end closed e (Err (why.NotAJournal at)) s h f = inr s
@@ -75,7 +76,7 @@ module _ {D : Type 0} (met : Ghosts D) (sides : Sides) (before after : D) where
       → IsSession met sides before after (closed_by o) (status_by o)
   session_ended config spelled tokens known (outcome.Unopened refusal) e h f = unopened (config, spelled) tokens refusal e f
   session_ended config spelled tokens known (outcome.Unbegun refusal) e h f = unbegun (config, spelled) refusal e.0 (untouched sides e.1 e.2) f
-  session_ended config spelled tokens known (outcome.Served closed last) e h f = by_end (Some closed) closed.end last (record {
+  session_ended config spelled tokens known (outcome.Served closed last) e h f = by_end (Some (of_link closed)) closed.end last (record {
     config = config;
     spelled = spelled;
     first = e.0;
@@ -102,6 +103,7 @@ module _ {D : Type 0} (met : Ghosts D) (sides : Sides) (before after : D) where
   session_refused NotAJournal h still same = absurd h
   session_refused Refused h still same = absurd h
   session_refused JournalExists h still same = absurd h
+  session_refused DoorFault h still same = absurd h
   session_refused InputCut h still same = absurd h
   session_refused UsedUp h still same = absurd h
   session_refused Budget h still same = absurd h

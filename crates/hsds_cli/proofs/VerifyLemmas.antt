@@ -17,7 +17,7 @@ use Rattle.hsds_cli.specs.Lines.{IsTold, verify_line}
 use Rattle.hsds_cli.specs.Openings.{IsReport, IsVerified, opening_status}
 use Rattle.hsds_cli.specs.Sides.{IsUntouched, Sides}
 use Rattle.hsds_cli.specs.declared.status.Status.{Status}
-use Rattle.hsds_cli.specs.declared.status.Status.TheVariants.{Done, Words, Configuration, ReadFault, WriteFault, DiskFault, NotAJournal, Refused, JournalExists, InputCut, UsedUp, Budget, NoMemory}
+use Rattle.hsds_cli.specs.declared.status.Status.TheVariants.{Done, Words, Configuration, ReadFault, WriteFault, DiskFault, NotAJournal, Refused, JournalExists, DoorFault, InputCut, UsedUp, Budget, NoMemory}
 use Rattle.hsds_cli.proofs.Printing.{whole_line}
 
 -- the numbers of an opened journal and its kept run
@@ -69,6 +69,7 @@ module _ {D : Type 0} (met : Ghosts D) (sides : Sides) (before after : D) where
   reported r run told left NotAJournal h = absurd h
   reported r run told left Refused h = absurd h
   reported r run told left JournalExists h = absurd h
+  reported r run told left DoorFault h = absurd h
   reported r run told left InputCut h = absurd h
   reported r run told left UsedUp h = absurd h
   reported r run told left Budget h = absurd h

@@ -19,7 +19,7 @@ use Rattle.service_core.specs.Journals.Opening.{IsOf}
 use Rattle.service_core.specs.Journals.Begun.{IsRecovered}
 use Rattle.service_core.specs.Steps.{World}
 use Rattle.hsds_cli.specs.declared.status.Status.{Status}
-use Rattle.hsds_cli.specs.declared.status.Status.TheVariants.{Done, Words, Configuration, ReadFault, WriteFault, DiskFault, NotAJournal, Refused, JournalExists, InputCut, UsedUp, Budget, NoMemory}
+use Rattle.hsds_cli.specs.declared.status.Status.TheVariants.{Done, Words, Configuration, ReadFault, WriteFault, DiskFault, NotAJournal, Refused, JournalExists, DoorFault, InputCut, UsedUp, Budget, NoMemory}
 use Rattle.hsds_cli.specs.Lines.{IsPrinted}
 use Rattle.hsds_cli.specs.Openings.{HasNoRun, HasNoWorld}
 use Rattle.hsds_cli.specs.Sides.{IsUntouched, OutFailed, Sides}
@@ -75,6 +75,7 @@ IsExported met path sides before after Words = ⊥
 IsExported met path sides before after Configuration = ⊥
 IsExported met path sides before after ReadFault = ⊥
 IsExported met path sides before after JournalExists = ⊥
+IsExported met path sides before after DoorFault = ⊥
 IsExported met path sides before after InputCut = ⊥
 IsExported met path sides before after Budget = ⊥
 

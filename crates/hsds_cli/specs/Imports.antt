@@ -17,7 +17,7 @@ use Rattle.service_core.specs.Journals.Begun.{IsUnbegun}
 use Rattle.service_core.specs.Steps.{World}
 use Rattle.edge_traits.specs.SourceTexts.Texts.{IsTaken}
 use Rattle.hsds_cli.specs.declared.status.Status.{Status}
-use Rattle.hsds_cli.specs.declared.status.Status.TheVariants.{Done, Words, Configuration, ReadFault, WriteFault, DiskFault, NotAJournal, Refused, JournalExists, InputCut, UsedUp, Budget, NoMemory}
+use Rattle.hsds_cli.specs.declared.status.Status.TheVariants.{Done, Words, Configuration, ReadFault, WriteFault, DiskFault, NotAJournal, Refused, JournalExists, DoorFault, InputCut, UsedUp, Budget, NoMemory}
 use Rattle.hsds_cli.specs.Lines.{IsTold, import_line}
 use Rattle.hsds_cli.specs.Openings.{HasNoRun, HasNoWorld, opening_status, refusal_status}
 use Rattle.hsds_cli.specs.Sides.{InputFailed, IsUntouched, OutFailed, Sides}
@@ -71,6 +71,7 @@ IsImported met path owner sides before after NoMemory =
 IsImported met path owner sides before after Words = ⊥
 IsImported met path owner sides before after Configuration = ⊥
 IsImported met path owner sides before after JournalExists = ⊥
+IsImported met path owner sides before after DoorFault = ⊥
 IsImported met path owner sides before after InputCut = ⊥
 IsImported met path owner sides before after Budget = ⊥
 

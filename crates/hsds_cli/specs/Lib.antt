@@ -2,10 +2,13 @@ pub mod Status
 pub mod Lines
 pub mod Sides
 pub mod Makings
+pub mod Closings
 pub mod Openings
 pub mod Exports
 pub mod Imports
 pub mod Sampled
+pub mod Doors
+pub mod Serves
 pub mod Runs
 pub mod Completeness
 pub mod Files

@@ -11,7 +11,7 @@ use Rattle.flush_journal.specs.declared.why.Why.{Why}
 use Rattle.flush_journal.specs.declared.why.Why.TheVariants as why
 use Rattle.service_core.specs.Journals.FirstJournals.{IsFirstJournal, MayRefuseMaking}
 use Rattle.hsds_cli.specs.declared.status.Status.{Status}
-use Rattle.hsds_cli.specs.declared.status.Status.TheVariants.{Done, Words, Configuration, ReadFault, WriteFault, DiskFault, NotAJournal, Refused, JournalExists, InputCut, UsedUp, Budget, NoMemory}
+use Rattle.hsds_cli.specs.declared.status.Status.TheVariants.{Done, Words, Configuration, ReadFault, WriteFault, DiskFault, NotAJournal, Refused, JournalExists, DoorFault, InputCut, UsedUp, Budget, NoMemory}
 use Rattle.hsds_cli.specs.Lines.{init_line}
 use Rattle.hsds_cli.specs.Sides.{ConfigFailed, IsUntouched, OutFailed, Sides, Spells, SpellsNone}
 
@@ -49,6 +49,7 @@ IsInit met lanes sides before after NoMemory = IsAsBefore sides before after
 IsInit met lanes sides before after Words = ⊥
 IsInit met lanes sides before after NotAJournal = ⊥
 IsInit met lanes sides before after Refused = ⊥
+IsInit met lanes sides before after DoorFault = ⊥
 IsInit met lanes sides before after InputCut = ⊥
 IsInit met lanes sides before after Budget = ⊥
 

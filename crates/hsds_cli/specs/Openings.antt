@@ -15,7 +15,7 @@ use Rattle.service_core.specs.declared.journals.faults.OpenFault.TheVariants as 
 use Rattle.rest_session.specs.Kept.Sessions.{HoldsHeld, IsLinkKept, IsServedFrom}
 use Rattle.flush_journal.specs.Moments.{CrashLeavesSince}
 use Rattle.service_core.specs.Journals.Begun.{IsUnbegun}
-use Rattle.rest_session.specs.declared.kept.outcome.Closed.{Closed}
+use Rattle.rest_session.specs.declared.kept.outcome.Closed.{Closed as LinkClosed}
 use Rattle.rest_session.specs.declared.kept.outcome.Outcome.{Outcome}
 use Rattle.rest_session.specs.declared.kept.outcome.Outcome.TheVariants as outcome
 use Rattle.rest_session.specs.Links.Links.{HasCauses}
@@ -25,8 +25,10 @@ use Rattle.register.specs.Kept.{IsUsedUp}
 use Rattle.rest_session.specs.Sessions.{Served}
 use Rattle.service_core.specs.Records.{DescribesWorld, IsWorldFault}
 use Rattle.service_core.specs.Steps.{World}
+use Rattle.hsds_cli.specs.declared.closed.Closed.{Closed}
 use Rattle.hsds_cli.specs.declared.status.Status.{Status}
-use Rattle.hsds_cli.specs.declared.status.Status.TheVariants.{Done, Words, Configuration, ReadFault, WriteFault, DiskFault, NotAJournal, Refused, JournalExists, InputCut, UsedUp, Budget, NoMemory}
+use Rattle.hsds_cli.specs.declared.status.Status.TheVariants.{Done, Words, Configuration, ReadFault, WriteFault, DiskFault, NotAJournal, Refused, JournalExists, DoorFault, InputCut, UsedUp, Budget, NoMemory}
+use Rattle.hsds_cli.specs.Closings.{of_link}
 use Rattle.hsds_cli.specs.Lines.{verify_line}
 use Rattle.hsds_cli.specs.Sides.{ConfigFailed, InputFailed, IsUntouched, OutFailed, Sides, Spells, SpellsNone}
 
@@ -72,12 +74,13 @@ IsVerified met sides before after Configuration = ⊥
 IsVerified met sides before after ReadFault = ⊥
 IsVerified met sides before after Refused = ⊥
 IsVerified met sides before after JournalExists = ⊥
+IsVerified met sides before after DoorFault = ⊥
 IsVerified met sides before after InputCut = ⊥
 IsVerified met sides before after Budget = ⊥
 
 -- ---- session
 
--- the status of a session whose link ended so, and whose last keeping was answered so
+-- the status of a session whose link ended so, where all is kept
 abbrev pub status_of : LinkEnd → Status
 status_of end.Closed = Done
 status_of (end.Cut unread) = InputCut
@@ -94,8 +97,9 @@ refusal_status (why.NotAJournal at) = NoMemory
 refusal_status why.Exists = NoMemory
 refusal_status why.NoMemory = NoMemory
 
-abbrev pub status_after : LinkEnd → Result ℕ Why → Status
-status_after ended (Ok kept) = status_of ended
+-- the status of links that ended with one, and whose last keeping was answered so
+abbrev pub status_after : Status → Result ℕ Why → Status
+status_after ended (Ok kept) = ended
 status_after ended (Err why) = refusal_status why
 
 -- the status where no world was opened
@@ -110,12 +114,12 @@ opening_status fault.NoMemory = NoMemory
 abbrev pub status_by : Outcome → Status
 status_by (outcome.Unopened why) = opening_status why
 status_by (outcome.Unbegun why) = refusal_status why
-status_by (outcome.Served closed last) = status_after closed.end last
+status_by (outcome.Served closed last) = status_after (status_of closed.end) last
 
 abbrev pub closed_by : Outcome → Option Closed
 closed_by (outcome.Unopened why) = None
 closed_by (outcome.Unbegun why) = None
-closed_by (outcome.Served closed last) = Some closed
+closed_by (outcome.Served closed last) = Some (of_link closed)
 
 -- The input was served as one link, by the configuration that the text spells, from the world on that the disk kept, at the begin of its
 -- next run; and that ended with a status. On a disk that keeps its rule, whatever a crash left since the begin holds the world that the disk
@@ -126,13 +130,13 @@ pub record Serves {D : Type 0} (met : Ghosts D) (sides : Sides) (before after : 
   pub first : Served met
   pub tokens : first.tokens ≡ config.tokens
   pub begun : met.honest → IsOf (met.reads before) (λ c. IsServedFrom c first)
-  pub link_closed : Closed
-  pub is_closed : closed ≡ Some link_closed
+  pub link_closed : LinkClosed
+  pub is_closed : closed ≡ Some (of_link link_closed)
   pub last : Result ℕ Why
   pub served : IsLinkKept first after sides.left_before sides.left_after sides.held_before sides.held_after link_closed last
   pub crash : met.honest → IsOf (met.reads before) (λ c. CrashLeavesSince met before after (HoldsHeld c.held first served.final served.taken))
   pub causes : HasCauses sides.input_before sides.input_after sides.out_before sides.out_after link_closed.end
-  pub ended : status_after link_closed.end last ≡ status
+  pub ended : status_after (status_of link_closed.end) last ≡ status
 
 -- nothing was taken from the input or written to the output, and nothing is closed
 abbrev pub IsUnserved : Sides → Option Closed → Type 0
@@ -168,3 +172,4 @@ IsSession met sides before after closed NoMemory = (IsUnserved sides closed × I
 IsSession met sides before after closed Words = ⊥
 IsSession met sides before after closed Refused = ⊥
 IsSession met sides before after closed JournalExists = ⊥
+IsSession met sides before after closed DoorFault = ⊥

@@ -2,16 +2,18 @@
 use Rattle.std.specs.Prelude.{◌≡◌, ◌⊎◌, ℕ, List, Option, Some, None, ⊤}
 use Rattle.edge_traits.specs.Causes.{Rose}
 use Rattle.edge_traits.specs.declared.disk.Disk.{Ghosts}
-use Rattle.command_words.specs.Commands.{Command, command_of, export, import, init, sample, session, verify}
+use Rattle.command_words.specs.Commands.{Command, command_of, export, import, init, sample, serve, session, verify}
 use Rattle.flush_journal.specs.Unchanged.{SameBytes}
-use Rattle.rest_session.specs.declared.kept.outcome.Closed.{Closed}
+use Rattle.hsds_cli.specs.declared.closed.Closed.{Closed}
 use Rattle.hsds_cli.specs.declared.status.Status.{Status}
 use Rattle.hsds_cli.specs.declared.status.Status.TheVariants.{Words, Configuration, ReadFault, NoMemory}
+use Rattle.hsds_cli.specs.Doors.{Doors}
 use Rattle.hsds_cli.specs.Exports.{IsExported}
 use Rattle.hsds_cli.specs.Imports.{IsImported}
 use Rattle.hsds_cli.specs.Makings.{IsAsBefore, IsInit}
 use Rattle.hsds_cli.specs.Openings.{IsSession, IsVerified}
 use Rattle.hsds_cli.specs.Sampled.{IsSampled}
+use Rattle.hsds_cli.specs.Serves.{IsServe}
 use Rattle.hsds_cli.specs.Sides.{Sides, SpellsNone}
 
 -- the words are none, or there was no memory to find one in them
@@ -19,19 +21,22 @@ abbrev pub IsNoCommand : Status → Type 0
 IsNoCommand status = (status ≡ Words) ⊎ (status ≡ NoMemory)
 
 -- what a command does; `export` and `verify` write nothing to the disk, and `sample` doesn't touch it
-abbrev pub IsCommanded : {D : Type 0} (met : Ghosts D) → Option Command → Sides → D → D → Option Closed → Status → Type 0
-IsCommanded met None sides before after closed status = IsNoCommand status × IsAsBefore sides before after × (closed ≡ None)
-IsCommanded met (Some (init config journal lanes)) sides before after closed status = IsInit met lanes sides before after status × (closed ≡ None)
-IsCommanded met (Some (session config journal)) sides before after closed status = IsSession met sides before after closed status
-IsCommanded met (Some (export path journal)) sides before after closed status =
+abbrev pub IsCommanded : {F L D : Type 0} (met : Ghosts D) → Option Command → Sides → Doors F L → D → D → Option Closed → Status → Type 0
+IsCommanded met None sides doors before after closed status = IsNoCommand status × IsAsBefore sides before after × (closed ≡ None)
+IsCommanded met (Some (init config journal lanes)) sides doors before after closed status = IsInit met lanes sides before after status × (closed ≡ None)
+IsCommanded met (Some (session config journal)) sides doors before after closed status = IsSession met sides before after closed status
+IsCommanded met (Some (serve config journal listen workers links)) sides doors before after closed status =
+    IsServe met links sides doors before after closed status
+IsCommanded met (Some (export path journal)) sides doors before after closed status =
     IsExported met path sides before after status × (met.honest → SameBytes met before after) × (closed ≡ None)
-IsCommanded met (Some (import path journal owner)) sides before after closed status = IsImported met path owner sides before after status × (closed ≡ None)
-IsCommanded met (Some (sample n)) sides before after closed status = IsSampled n sides status × (after ≡ before) × (closed ≡ None)
-IsCommanded met (Some (verify journal)) sides before after closed status =
+IsCommanded met (Some (import path journal owner)) sides doors before after closed status =
+    IsImported met path owner sides before after status × (closed ≡ None)
+IsCommanded met (Some (sample n)) sides doors before after closed status = IsSampled n sides status × (after ≡ before) × (closed ≡ None)
+IsCommanded met (Some (verify journal)) sides doors before after closed status =
     IsVerified met sides before after status × (met.honest → SameBytes met before after) × (closed ≡ None)
 
-abbrev pub IsRun : {D : Type 0} (met : Ghosts D) → List (List ℕ) → Sides → D → D → Option Closed → Status → Type 0
-IsRun met words sides before after closed status = IsCommanded met (command_of words) sides before after closed status
+abbrev pub IsRun : {F L D : Type 0} (met : Ghosts D) → List (List ℕ) → Sides → Doors F L → D → D → Option Closed → Status → Type 0
+IsRun met words sides doors before after closed status = IsCommanded met (command_of words) sides doors before after closed status
 
 -- the numbers of the statuses at which the last keeping may have been refused
 abbrev pub MayBeUnkept : ℕ → Type 0
@@ -48,6 +53,7 @@ IsRefusal text before after status = ⊥
 abbrev pub IsUnconfigured : Option Command → Type 0
 IsUnconfigured (Some (init config journal lanes)) = ⊥
 IsUnconfigured (Some (session config journal)) = ⊥
+IsUnconfigured (Some (serve config journal listen workers links)) = ⊥
 IsUnconfigured command = ⊤
 
 -- a command that takes no input
@@ -55,3 +61,8 @@ abbrev pub TakesNone : Option Command → Type 0
 TakesNone (Some (session config journal)) = ⊥
 TakesNone (Some (import path journal owner)) = ⊥
 TakesNone command = ⊤
+
+-- a command that asks nothing of a door
+abbrev pub OpensNone : Option Command → Type 0
+OpensNone (Some (serve config journal listen workers links)) = ⊥
+OpensNone command = ⊤

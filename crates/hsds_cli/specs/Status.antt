@@ -7,7 +7,7 @@ use Rattle.json_export.specs.declared.faults.ExportFault.TheVariants as export
 use Rattle.edge_traits.specs.declared.source_texts.reading.TextFault.{TextFault}
 use Rattle.edge_traits.specs.declared.source_texts.reading.TextFault.TheVariants as text
 use Rattle.hsds_cli.specs.declared.status.Status.{Status}
-use Rattle.hsds_cli.specs.declared.status.Status.TheVariants.{Done, Words, Configuration, ReadFault, WriteFault, DiskFault, NotAJournal, Refused, JournalExists, InputCut, UsedUp, Budget, NoMemory}
+use Rattle.hsds_cli.specs.declared.status.Status.TheVariants.{Done, Words, Configuration, ReadFault, WriteFault, DiskFault, NotAJournal, Refused, JournalExists, DoorFault, InputCut, UsedUp, Budget, NoMemory}
 
 abbrev pub number_of : Status → ℕ
 number_of Done = 0
@@ -19,6 +19,7 @@ number_of DiskFault = 5
 number_of NotAJournal = 6
 number_of Refused = 7
 number_of JournalExists = 8
+number_of DoorFault = 9
 number_of InputCut = 10
 number_of UsedUp = 11
 number_of Budget = 12
@@ -35,6 +36,7 @@ word_of DiskFault = codes "disk-fault"
 word_of NotAJournal = codes "not-a-journal"
 word_of Refused = codes "refused"
 word_of JournalExists = codes "journal-exists"
+word_of DoorFault = codes "door-fault"
 word_of InputCut = codes "input-cut"
 word_of UsedUp = codes "used-up"
 word_of Budget = codes "budget"

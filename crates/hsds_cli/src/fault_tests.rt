@@ -12,7 +12,9 @@ use crate::trials::{
 };
 use edge_traits::{MemDisk, MemDoor, MemSource, StdSink};
 use std::alloc::Global;
+use std::sync::Wait;
 use std::test::Fail;
+use std::thread::Threads;
 
 // The request comes in seven pieces of ten bytes, and the eighth read finds the end. An opening syncs, asks for the length and
 // reads once; the record of a run is two writes and two syncs, and so is a keeping. An `init` reads once, writes the header and
@@ -90,11 +92,12 @@ const LAB_NODE: &str =
      {\"class\":\"domain\",\"owner\":\"alice\",\"root\":\"g-00000000-0001-8000-8000-000000000000\"}";
 
 /// The bytes of a disk before a run.
-fn start(alloc: Global, word: &str) -> Result<Vec<u8>, Fail> {
+fn start(rt: &(impl Threads + Wait + Sync + AllocGlobal), word: &str) -> Result<Vec<u8>, Fail> {
+    let alloc = rt.alloc();
     match word {
-        "lab" => Ok(made(alloc, LAB)?.bytes().to_vec(alloc)?),
-        "written" => Ok(written(alloc)?.bytes().to_vec(alloc)?),
-        "small" => small(alloc),
+        "lab" => Ok(made(rt, LAB)?.bytes().to_vec(alloc)?),
+        "written" => Ok(written(rt)?.bytes().to_vec(alloc)?),
+        "small" => small(rt),
         _ => Ok(Vec::new(alloc)),
     }
 }
@@ -129,12 +132,13 @@ fn out_word(bytes: &[u8]) -> &'static str {
 
 /// A run whose input comes in pieces of ten bytes, in which these calls fail.
 fn run_row(
-    alloc: Global,
+    rt: &(impl Threads + Wait + Sync + AllocGlobal),
     row: &str,
     reads: &[u64],
     writes: &[u64],
     disk: MemDisk,
 ) -> Result<Ran, Fail> {
+    let alloc = rt.alloc();
     let given = Streams {
         config: config_of(column(row, 0)).as_bytes(),
         input: input_of(column(row, 2)).as_bytes(),
@@ -142,34 +146,40 @@ fn run_row(
         reads,
         writes,
     };
-    run_line(alloc, column(row, 1), given, disk)
+    run_line(rt, column(row, 1), given, disk)
 }
 
 /// The run of a row on a disk with these bytes.
-fn run_on(alloc: Global, row: &str, bytes: &[u8]) -> Result<Ran, Fail> {
+fn run_on(
+    rt: &(impl Threads + Wait + Sync + AllocGlobal),
+    row: &str,
+    bytes: &[u8],
+) -> Result<Ran, Fail> {
+    let alloc = rt.alloc();
     let (kind, number) = column(row, 3).split_once(' ').ok_or("no fault")?;
     let number = number.parse::<u64>().ok().ok_or("no number")?;
     let calls = [number];
     let none = Vec::new(alloc);
     match kind {
-        "r" => run_row(alloc, row, &calls, &[], disk_of(alloc, bytes, ROOM, none)?),
-        "w" => run_row(alloc, row, &[], &calls, disk_of(alloc, bytes, ROOM, none)?),
+        "r" => run_row(rt, row, &calls, &[], disk_of(alloc, bytes, ROOM, none)?),
+        "w" => run_row(rt, row, &[], &calls, disk_of(alloc, bytes, ROOM, none)?),
         "d" => {
             let disk = disk_of(alloc, bytes, ROOM, calls.to_vec(alloc)?)?;
-            run_row(alloc, row, &[], &[], disk)
+            run_row(rt, row, &[], &[], disk)
         }
-        "R" => run_row(alloc, row, &[], &[], disk_of(alloc, bytes, number, none)?),
+        "R" => run_row(rt, row, &[], &[], disk_of(alloc, bytes, number, none)?),
         _ => {
             let room = number.saturating_add(bytes.len() as u64);
-            run_row(alloc, row, &[], &[], disk_of(alloc, bytes, room, none)?)
+            run_row(rt, row, &[], &[], disk_of(alloc, bytes, room, none)?)
         }
     }
 }
 
 /// Whether a run ends and prints as its row says. One that a call of the disk stops leaves no session behind.
-fn holds(alloc: Global, row: &str) -> Result<bool, Fail> {
-    let bytes = start(alloc, column(row, 0))?;
-    let done = run_on(alloc, row, bytes.as_slice())?;
+fn holds(rt: &(impl Threads + Wait + Sync + AllocGlobal), row: &str) -> Result<bool, Fail> {
+    let alloc = rt.alloc();
+    let bytes = start(rt, column(row, 0))?;
+    let done = run_on(rt, row, bytes.as_slice())?;
     let status = format!(in alloc; "{}", done.status)?;
     let quiet = done.status != 5 || done.closed.is_none();
     let same = status.as_str() == column(row, 4);
@@ -179,7 +189,7 @@ fn holds(alloc: Global, row: &str) -> Result<bool, Fail> {
 #[test]
 fn faults_of_each_call_are_told(rt: HostRuntime) -> Result<(), Fail> {
     for row in FAULTS.split('\n') {
-        assert!(rt; holds(rt.alloc(), row)?, "{row}");
+        assert!(rt; holds(&rt, row)?, "{row}");
     }
     Ok(())
 }
@@ -187,17 +197,18 @@ fn faults_of_each_call_are_told(rt: HostRuntime) -> Result<(), Fail> {
 #[test]
 fn disks_without_room_are_told(rt: HostRuntime) -> Result<(), Fail> {
     for row in ROOMS.split('\n') {
-        assert!(rt; holds(rt.alloc(), row)?, "{row}");
+        assert!(rt; holds(&rt, row)?, "{row}");
     }
     Ok(())
 }
 
 /// Whether `/home/y27` has a document once a row was run.
-fn is_imported(alloc: Global, row: &str) -> Result<bool, Fail> {
-    let bytes = start(alloc, column(row, 0))?;
-    let disk = run_on(alloc, row, bytes.as_slice())?.disk;
+fn is_imported(rt: &(impl Threads + Wait + Sync + AllocGlobal), row: &str) -> Result<bool, Fail> {
+    let alloc = rt.alloc();
+    let bytes = start(rt, column(row, 0))?;
+    let disk = run_on(rt, row, bytes.as_slice())?.disk;
     let room = disk_of(alloc, disk.bytes(), ROOM, Vec::new(alloc))?;
-    Ok(printed(alloc, "export /home/y27", room)?.0 == 0)
+    Ok(printed(rt, "export /home/y27", room)?.0 == 0)
 }
 
 // Where the run's record fits and the document doesn't, the record is all that is kept.
@@ -212,7 +223,7 @@ fn a_document_is_imported_whole_or_not_at_all(rt: HostRuntime) -> Result<(), Fai
         ("lab|import /home/y27|small|+ 60", false),
         ("lab|import /home/y27|small|+ 10000", true),
     ] {
-        assert!(rt; is_imported(rt.alloc(), row)? == there, "{row}");
+        assert!(rt; is_imported(&rt, row)? == there, "{row}");
     }
     Ok(())
 }
@@ -220,18 +231,22 @@ fn a_document_is_imported_whole_or_not_at_all(rt: HostRuntime) -> Result<(), Fai
 #[test]
 fn the_record_of_a_run_is_all_that_is_kept(rt: HostRuntime) -> Result<(), Fail> {
     let alloc = rt.alloc();
-    let bytes = start(alloc, "lab")?;
-    let done = run_on(alloc, "lab|import /home/y27|small|+ 60", bytes.as_slice())?;
+    let bytes = start(&rt, "lab")?;
+    let done = run_on(&rt, "lab|import /home/y27|small|+ 60", bytes.as_slice())?;
     let end = bytes.len().saturating_add(21);
     let told = format!(in alloc; "version 1, lanes 2, run 1, batches 2, end {end}\n")?;
     let disk = disk_of(alloc, done.disk.bytes(), ROOM, Vec::new(alloc))?;
-    let (_, line) = printed(alloc, "verify", disk)?;
+    let (_, line) = printed(&rt, "verify", disk)?;
     assert!(rt; line.as_slice() == told.as_bytes());
     Ok(())
 }
 
 /// The status of `sample 0` over an output that takes as many bytes as the slice has.
-fn sample_into(alloc: Global, room: &mut [u8]) -> Result<u8, Fail> {
+fn sample_into(
+    rt: &(impl Threads + Wait + Sync + AllocGlobal),
+    room: &mut [u8],
+) -> Result<u8, Fail> {
+    let alloc = rt.alloc();
     let words = words_of(alloc, "sample 0")?;
     let mut config = MemSource::new(Vec::new(alloc), 1, Vec::new(alloc));
     let mut input = MemSource::new(Vec::new(alloc), 1, Vec::new(alloc));
@@ -239,6 +254,7 @@ fn sample_into(alloc: Global, room: &mut [u8]) -> Result<u8, Fail> {
     let disk = disk_of(alloc, b"", ROOM, Vec::new(alloc))?;
     let doors: Vec<MemDoor> = Vec::new(alloc);
     let done = run(
+        rt,
         alloc,
         words.as_slice(),
         &mut config,
@@ -253,9 +269,9 @@ fn sample_into(alloc: Global, room: &mut [u8]) -> Result<u8, Fail> {
 #[test]
 fn a_front_of_a_sample_is_printed_where_the_output_fails(rt: HostRuntime) -> Result<(), Fail> {
     let mut held = [0u8; 50];
-    assert_eq!(rt; sample_into(rt.alloc(), held.as_mut_slice())?, 4);
+    assert_eq!(rt; sample_into(&rt, held.as_mut_slice())?, 4);
     let front = "slab 0 count 14300 sum 15204565899741\nslab 100 count 14300";
     assert!(rt; front.as_bytes().starts_with(held.as_slice()));
-    assert!(rt; holds(rt.alloc(), "none|sample 0||w 0|4|")?);
+    assert!(rt; holds(&rt, "none|sample 0||w 0|4|")?);
     Ok(())
 }

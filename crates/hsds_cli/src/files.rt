@@ -64,6 +64,11 @@ fn files_wanted<'a>(wanted: &Wanted<'a>) -> CommandFiles<'a>
             ..
         } => both(*config, *journal, Access::Make),
         Wanted::Session { config, journal } => both(*config, *journal, Access::Change),
+        Wanted::Serve {
+            config,
+            journal,
+            ..
+        } => both(*config, *journal, Access::Change),
         Wanted::Import { journal, .. } => alone(*journal, Access::Change),
         Wanted::Export { journal, .. } => alone(*journal, Access::Read),
         Wanted::Verify { journal } => alone(*journal, Access::Read),

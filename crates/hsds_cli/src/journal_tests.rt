@@ -9,7 +9,9 @@ use rest_session::kept::Closed;
 use rest_session::links::LinkEnd;
 use std::alloc::{AllocError, Global};
 use std::process::Abort;
+use std::sync::Wait;
 use std::test::Fail;
+use std::thread::Threads;
 
 const ASKED: &str = "GET / HTTP/1.1\r\n\r\n";
 
@@ -20,12 +22,15 @@ const DENIED: &str =
 
 /// The status with which a journal of an empty configuration is opened. It is that of both commands; where it is 0 a session
 /// answers from a world, and else it answers nothing and the bytes stay.
-fn opening(rt: &(impl Abort + AllocGlobal), bytes: &[u8]) -> Result<u8, Fail> {
+fn opening(
+    rt: &(impl Abort + Threads + Wait + Sync + AllocGlobal),
+    bytes: &[u8],
+) -> Result<u8, Fail> {
     let alloc = rt.alloc();
     let disk = disk_of(alloc, bytes, ROOM, Vec::new(alloc))?;
-    let told = run_line(alloc, "verify", plain("", ""), disk)?;
+    let told = run_line(rt, "verify", plain("", ""), disk)?;
     assert!(rt; told.disk.bytes() == bytes);
-    let done = run_line(alloc, "session", plain("", ASKED), told.disk)?;
+    let done = run_line(rt, "session", plain("", ASKED), told.disk)?;
     assert_eq!(rt; done.status, told.status);
     if done.status == 0 {
         assert!(rt; done.out.bytes() == DENIED.as_bytes());
@@ -50,7 +55,7 @@ fn flipped(alloc: Global, bytes: &[u8], at: usize, bits: u8) -> Result<Vec<u8>, 
 #[test]
 fn bytes_that_are_no_journal_are_refused(rt: HostRuntime) -> Result<(), Fail> {
     let alloc = rt.alloc();
-    let journal = small(alloc)?;
+    let journal = small(&rt)?;
     let whole = journal.as_slice();
     for length in 0..whole.len() {
         assert_eq!(rt; opening(&rt, &whole[..length])?, 6, "{length}");
@@ -77,7 +82,7 @@ fn bytes_that_are_no_journal_are_refused(rt: HostRuntime) -> Result<(), Fail> {
 #[test]
 fn a_changed_byte_is_refused_or_read(rt: HostRuntime) -> Result<(), Fail> {
     let alloc = rt.alloc();
-    let journal = small(alloc)?;
+    let journal = small(&rt)?;
     for at in 0..journal.len() {
         for bits in [1u8, 2, 128] {
             let changed = flipped(alloc, journal.as_slice(), at, bits)?;
@@ -118,13 +123,18 @@ const AFTER: &str =
      \"owner\":\"alice\"}";
 
 /// A session in which alice gives bob an entry, on a disk of so much room: whether she has the answer, and the run.
-fn entered(alloc: Global, room: u64, answer: &str) -> Result<(bool, Ran), Fail> {
-    let journal = made(alloc, OWN_ROOT)?;
+fn entered(
+    rt: &(impl Threads + Wait + Sync + AllocGlobal),
+    room: u64,
+    answer: &str,
+) -> Result<(bool, Ran), Fail> {
+    let alloc = rt.alloc();
+    let journal = made(rt, OWN_ROOT)?;
     let row = format!(in alloc; "PUT /acls/bob?domain=/|{{\"read\":true}}|{answer}")?;
     let exchange = exchange_of(alloc, row.as_str())?;
     let disk = disk_of(alloc, journal.bytes(), room, Vec::new(alloc))?;
     let given = plain(OWN_ROOT, exchange.sent.as_str());
-    let done = run_line(alloc, "session", given, disk)?;
+    let done = run_line(rt, "session", given, disk)?;
     Ok((done.out.bytes() == exchange.answers.as_bytes(), done))
 }
 
@@ -133,7 +143,7 @@ fn entered(alloc: Global, room: u64, answer: &str) -> Result<(bool, Ran), Fail> 
 fn a_full_disk_is_told(rt: HostRuntime) -> Result<(), Fail> {
     let alloc = rt.alloc();
     let size = (16 + 9 + 13 + 17 + 10 + 1usize).saturating_add(BEFORE.len());
-    assert_eq!(rt; made(alloc, OWN_ROOT)?.bytes().len(), size);
+    assert_eq!(rt; made(&rt, OWN_ROOT)?.bytes().len(), size);
     let end = size.saturating_add(21);
     let need = (10 + 10usize).saturating_add(AFTER.len());
     let fits = end.saturating_add(need);
@@ -142,11 +152,11 @@ fn a_full_disk_is_told(rt: HostRuntime) -> Result<(), Fail> {
         "503 Service Unavailable|\
          {{\"end\":{end},\"need\":{need},\"reason\":\"journal-full\",\"room\":{short}}}"
     )?;
-    let (answered, done) = entered(alloc, short as u64, answer.as_str())?;
+    let (answered, done) = entered(&rt, short as u64, answer.as_str())?;
     assert!(rt; answered && done.status == 11);
     assert!(rt; done.closed == closed(1, 0, LinkEnd::Closed));
     assert_eq!(rt; done.disk.bytes().len(), end.saturating_add(1));
-    let (answered, done) = entered(alloc, fits as u64, "201 Created|{}")?;
+    let (answered, done) = entered(&rt, fits as u64, "201 Created|{}")?;
     assert!(rt; answered && done.status == 0);
     assert_eq!(rt; done.disk.bytes().len(), fits);
     Ok(())
@@ -161,8 +171,14 @@ fn closed(front: u64, kept: u64, end: LinkEnd) -> Option<Closed> {
 const NODE: &str = "GET /?domain=/home/lab HTTP/1.1\r\nAuthorization: Bearer ta\r\n\r\n";
 
 /// A session of some requests in one piece, whose reads and whose disk fail at these calls.
-fn left(alloc: Global, input: &str, reads: &[u64], failing: Vec<u64>) -> Result<Ran, Fail> {
-    let disk = disk_of(alloc, made(alloc, LAB)?.bytes(), ROOM, failing)?;
+fn left(
+    rt: &(impl Threads + Wait + Sync + AllocGlobal),
+    input: &str,
+    reads: &[u64],
+    failing: Vec<u64>,
+) -> Result<Ran, Fail> {
+    let alloc = rt.alloc();
+    let disk = disk_of(alloc, made(rt, LAB)?.bytes(), ROOM, failing)?;
     let given = Streams {
         config: LAB.as_bytes(),
         input: input.as_bytes(),
@@ -170,7 +186,7 @@ fn left(alloc: Global, input: &str, reads: &[u64], failing: Vec<u64>) -> Result<
         reads,
         writes: &[],
     };
-    run_line(alloc, "session", given, disk)
+    run_line(rt, "session", given, disk)
 }
 
 #[test]
@@ -197,7 +213,7 @@ fn a_link_leaves_the_world_at_a_place(rt: HostRuntime) -> Result<(), Fail> {
         ("\0", [].as_slice(), 10, closed(0, 0, fault)),
         (NODE, [1u64].as_slice(), 3, closed(1, 1, LinkEnd::ReadFault)),
     ] {
-        let done = left(alloc, input, reads, Vec::new(alloc))?;
+        let done = left(&rt, input, reads, Vec::new(alloc))?;
         assert_eq!(rt; done.status, status, "{input}");
         assert!(rt; done.closed == end, "{input}");
     }
@@ -210,7 +226,7 @@ fn a_stop_leaves_the_last_keeping(rt: HostRuntime) -> Result<(), Fail> {
     let alloc = rt.alloc();
     let exchange = exchange_of(alloc, format!(in alloc; "{WRITTEN}\n{AND_AGAIN}")?.as_str())?;
     for (call, kept) in [(7u64, 0u64), (11, 3)] {
-        let done = left(alloc, exchange.sent.as_str(), &[], from_on(alloc, call)?)?;
+        let done = left(&rt, exchange.sent.as_str(), &[], from_on(alloc, call)?)?;
         assert_eq!(rt; done.status, 5, "{call}");
         assert!(rt; done.closed == closed(4, kept, LinkEnd::Closed), "{call}");
     }

@@ -8,6 +8,7 @@ ghost use Rattle.hsds_cli.specs.Sides.{sides_of};
 ghost use Rattle.hsds_cli.specs.Openings.{IsSession, closed_by, refusal_status};
 ghost use Rattle.hsds_cli.specs.Openings.{status_by, status_of};
 
+use crate::closed::{Closed, Ends};
 use crate::command_end::CommandEnd;
 use crate::configured::configured;
 use crate::operate::opening_status;
@@ -16,7 +17,7 @@ use crate::two_ends::TwoEnds;
 use edge_traits::{Disk, Sink, Source};
 use flush_journal::Why;
 use rest_requests::Tokens;
-use rest_session::kept::{Closed, Ended, Outcome, serve_disk};
+use rest_session::kept::{Ended, Outcome, serve_disk};
 use rest_session::links::LinkEnd;
 use std::alloc::Global;
 
@@ -99,7 +100,11 @@ fn closed_by(outcome: &Outcome) -> Option<Closed>
 {
     match outcome {
         Outcome::Unopened(_) | Outcome::Unbegun(_) => None,
-        Outcome::Served { closed, .. } => Some(*closed),
+        Outcome::Served { closed, .. } => Some(Closed {
+            front: closed.front,
+            kept: closed.kept,
+            ends: Ends::Link(closed.end),
+        }),
     }
 }
 

@@ -27,11 +27,13 @@ pub enum Status {
     Refused,
     /// A journal stands on the disk already.
     JournalExists,
+    /// A door had a fault.
+    DoorFault,
     /// The input ended inside a request, or at one that ends the link.
     InputCut,
     /// No run is left, or no room on the disk.
     UsedUp,
-    /// The link made as many requests as it may.
+    /// A link made as many requests as it may.
     Budget,
     /// There was no memory to begin with.
     NoMemory,
@@ -52,6 +54,7 @@ impl Status {
             Status::NotAJournal => 6,
             Status::Refused => 7,
             Status::JournalExists => 8,
+            Status::DoorFault => 9,
             Status::InputCut => 10,
             Status::UsedUp => 11,
             Status::Budget => 12,
@@ -108,6 +111,7 @@ pub fn status_word(number: u8) -> &'static str
         6 => "not-a-journal",
         7 => "refused",
         8 => "journal-exists",
+        9 => "door-fault",
         10 => "input-cut",
         11 => "used-up",
         12 => "budget",

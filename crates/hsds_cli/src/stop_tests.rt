@@ -9,7 +9,9 @@ use rest_session::kept::Closed;
 use rest_session::links::LinkEnd;
 use std::alloc::Global;
 use std::process::Abort;
+use std::sync::Wait;
 use std::test::Fail;
+use std::thread::Threads;
 
 static OLD: &str = r#"GET /datasets/d~0/value||200 OK|{"value":[1,2]}"#;
 
@@ -24,38 +26,55 @@ static DOCUMENT: &str =
 "#;
 
 /// The session of alice on a journal, whose disk stops at a call: whether she has these answers, and the run.
-fn stopped(alloc: Global, rows: &str, bytes: &[u8], call: u64) -> Result<(bool, Ran), Fail> {
+fn stopped(
+    rt: &(impl Threads + Wait + Sync + AllocGlobal),
+    rows: &str,
+    bytes: &[u8],
+    call: u64,
+) -> Result<(bool, Ran), Fail> {
+    let alloc = rt.alloc();
     let exchange = exchange_of(alloc, rows)?;
     let disk = disk_of(alloc, bytes, ROOM, from_on(alloc, call)?)?;
-    let done = run_line(alloc, "session", plain(LAB, exchange.sent.as_str()), disk)?;
+    let done = run_line(rt, "session", plain(LAB, exchange.sent.as_str()), disk)?;
     Ok((done.out.bytes() == exchange.answers.as_bytes(), done))
 }
 
 /// Whether a session on a disk answers the rows of alice.
-fn finds(alloc: Global, disk: MemDisk, rows: &str) -> Result<bool, Fail> {
+fn finds(
+    rt: &(impl Threads + Wait + Sync + AllocGlobal),
+    disk: MemDisk,
+    rows: &str,
+) -> Result<bool, Fail> {
+    let alloc = rt.alloc();
     let exchange = exchange_of(alloc, rows)?;
-    let done = run_line(alloc, "session", plain(LAB, exchange.sent.as_str()), disk)?;
+    let done = run_line(rt, "session", plain(LAB, exchange.sent.as_str()), disk)?;
     Ok(done.status == 0 && done.out.bytes() == exchange.answers.as_bytes())
 }
 
 /// The session that makes the dataset, writes it, flushes it and writes it again, whose disk stops at a call.
-fn written_twice(rt: &(impl Abort + AllocGlobal), call: u64) -> Result<Ran, Fail> {
+fn written_twice(
+    rt: &(impl Abort + Threads + Wait + Sync + AllocGlobal),
+    call: u64,
+) -> Result<Ran, Fail> {
     let alloc = rt.alloc();
     let rows = format!(in alloc; "{WRITTEN}\n{AND_AGAIN}")?;
-    let journal = made(alloc, LAB)?;
-    let (answered, done) = stopped(alloc, rows.as_str(), journal.bytes(), call)?;
+    let journal = made(rt, LAB)?;
+    let (answered, done) = stopped(rt, rows.as_str(), journal.bytes(), call)?;
     assert!(rt; answered, "{call}");
     Ok(done)
 }
 
 /// Whether what was flushed stands in an image, or what was written after it, in the answers and in the document.
-fn is_old(rt: &(impl Abort + AllocGlobal), image: &MemDisk) -> Result<bool, Fail> {
+fn is_old(
+    rt: &(impl Abort + Threads + Wait + Sync + AllocGlobal),
+    image: &MemDisk,
+) -> Result<bool, Fail> {
     let alloc = rt.alloc();
-    let (status, document) = printed(alloc, "export /home/lab", image.crash(0)?)?;
+    let (status, document) = printed(rt, "export /home/lab", image.crash(0)?)?;
     let old = spelled(alloc, DOCUMENT)?;
     let new = old.replace(alloc, "[1,2]", "[3,4]")?;
-    let is_old = finds(alloc, image.crash(0)?, OLD)?;
-    assert!(rt; status == 0 && (is_old || finds(alloc, image.crash(0)?, NEW)?));
+    let is_old = finds(rt, image.crash(0)?, OLD)?;
+    assert!(rt; status == 0 && (is_old || finds(rt, image.crash(0)?, NEW)?));
     let wanted = if is_old { old } else { new };
     assert!(rt; document.as_slice() == wanted.as_bytes());
     Ok(is_old)
@@ -96,7 +115,7 @@ fn a_flush_of_one_cell_is_two_writes_and_two_syncs(rt: HostRuntime) -> Result<()
         (10, 5, 46, 1, false),
         (11, 0, 46, 1, true),
     ] {
-        let (answered, done) = stopped(alloc, FLUSHED, before.bytes(), call)?;
+        let (answered, done) = stopped(&rt, FLUSHED, before.bytes(), call)?;
         assert_eq!(rt; done.status, status, "{call}");
         assert!(rt; answered == (status == 0), "{call}");
         let bytes = done.disk.bytes();
@@ -119,12 +138,12 @@ static DENIED: &str = r#"PUT /datasets/d~0/value|{"value":1}|403 Forbidden|{"dom
 fn a_change_that_is_not_kept_stands_and_is_kept_later(rt: HostRuntime) -> Result<(), Fail> {
     let alloc = rt.alloc();
     let exchange = exchange_of(alloc, format!(in alloc; "{TAKEN_AWAY}\n{DENIED}")?.as_str())?;
-    let journal = made(alloc, LAB)?;
+    let journal = made(&rt, LAB)?;
     for call in 7..11u64 {
         let mut failing = Vec::new(alloc);
         failing.push(call)?;
         let disk = disk_of(alloc, journal.bytes(), ROOM, failing)?;
-        let done = run_line(alloc, "session", plain(LAB, exchange.sent.as_str()), disk)?;
+        let done = run_line(&rt, "session", plain(LAB, exchange.sent.as_str()), disk)?;
         assert_eq!(rt; done.status, 0, "{call}");
         assert!(rt; done.out.bytes() == exchange.answers.as_bytes(), "{call}");
         let end = Some(Closed {
@@ -133,7 +152,7 @@ fn a_change_that_is_not_kept_stands_and_is_kept_later(rt: HostRuntime) -> Result
             end: LinkEnd::Closed,
         });
         assert!(rt; done.closed == end, "{call}");
-        assert!(rt; finds(alloc, done.disk.crash(0)?, DENIED)?, "{call}");
+        assert!(rt; finds(&rt, done.disk.crash(0)?, DENIED)?, "{call}");
     }
     Ok(())
 }
@@ -150,11 +169,14 @@ static LAB_EXPORT: &str =
 "#;
 
 /// Whether an image has the imported domain; the other stands as it was.
-fn is_new(rt: &(impl Abort + AllocGlobal), image: &MemDisk) -> Result<bool, Fail> {
+fn is_new(
+    rt: &(impl Abort + Threads + Wait + Sync + AllocGlobal),
+    image: &MemDisk,
+) -> Result<bool, Fail> {
     let alloc = rt.alloc();
-    let (status, text) = printed(alloc, "export /home/lab", image.crash(0)?)?;
+    let (status, text) = printed(rt, "export /home/lab", image.crash(0)?)?;
     assert!(rt; status == 0 && text.as_slice() == spelled(alloc, LAB_EXPORT)?.as_bytes());
-    let (status, text) = printed(alloc, "export /home/y27", image.crash(0)?)?;
+    let (status, text) = printed(rt, "export /home/y27", image.crash(0)?)?;
     assert!(rt; status == 7 || text.as_slice() == spelled(alloc, SMALL_EXPORT)?.as_bytes());
     Ok(status == 0)
 }
@@ -162,12 +184,12 @@ fn is_new(rt: &(impl Abort + AllocGlobal), image: &MemDisk) -> Result<bool, Fail
 #[test]
 fn a_stop_leaves_the_old_world_or_the_new_one(rt: HostRuntime) -> Result<(), Fail> {
     let alloc = rt.alloc();
-    let journal = made(alloc, LAB)?;
+    let journal = made(&rt, LAB)?;
     let mut news = 0u8;
     for call in 3..12u64 {
         let disk = disk_of(alloc, journal.bytes(), ROOM, from_on(alloc, call)?)?;
         let small = plain("", "{\"groups\":{\"g\":{}},\"root\":\"g\"}");
-        let stopped = run_line(alloc, "import /home/y27 --owner bob", small, disk)?.disk;
+        let stopped = run_line(&rt, "import /home/y27 --owner bob", small, disk)?.disk;
         for kept in [0u64, 1, 8, 9, 45, 500] {
             let there = is_new(&rt, &stopped.crash(kept)?)?;
             assert!(rt; there || call < 11, "{call} {kept}");

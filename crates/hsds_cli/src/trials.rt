@@ -2,12 +2,15 @@
 
 ghost use Rattle.std.specs.Prelude.{◌<◌};
 
+use crate::closed::{Closed as LeftClosed, Ends};
 use crate::exchanges::exchange_of;
 use crate::run::{Finished, run};
 use edge_traits::{MemDisk, MemDoor, MemSink, MemSource};
 use rest_session::kept::Closed;
 use std::alloc::{AllocError, Global};
+use std::sync::Wait;
 use std::test::Fail;
+use std::thread::Threads;
 
 /// The room of a disk.
 pub const ROOM: u64 = 1 << 24;
@@ -83,6 +86,7 @@ pub struct Ran {
     pub status: u8,
     pub out: MemSink,
     pub disk: MemDisk,
+    /// How the link left the world, where the run was a session.
     pub closed: Option<Closed>,
 }
 
@@ -103,10 +107,30 @@ pub fn words_of(alloc: Global, line: &str) -> Result<Vec<String>, AllocError> {
     Ok(words)
 }
 
+/// How a session's link left the world.
+fn link_closed(closed: Option<LeftClosed>) -> Option<Closed> {
+    match closed {
+        Some(
+            LeftClosed {
+                front,
+                kept,
+                ends: Ends::Link(end),
+            },
+        ) => Some(Closed { front, kept, end }),
+        _ => None,
+    }
+}
+
 /// One run of the words of a line on a disk.
-pub fn run_line(alloc: Global, line: &str, streams: Streams<'_>, disk: MemDisk) -> Result<Ran, Fail>
+pub fn run_line(
+    rt: &(impl Threads + Wait + Sync + AllocGlobal),
+    line: &str,
+    streams: Streams<'_>,
+    disk: MemDisk,
+) -> Result<Ran, Fail>
     requires { 0 < streams.piece }
 {
+    let alloc = rt.alloc();
     let words = words_of(alloc, line)?;
     let mut config = MemSource::new(streams.config.to_vec(alloc)?, 4096, Vec::new(alloc));
     let mut input = MemSource::new(
@@ -122,6 +146,7 @@ pub fn run_line(alloc: Global, line: &str, streams: Streams<'_>, disk: MemDisk) 
         closed,
         ..
     } = run(
+        rt,
         alloc,
         words.as_slice(),
         &mut config,
@@ -135,16 +160,20 @@ pub fn run_line(alloc: Global, line: &str, streams: Streams<'_>, disk: MemDisk) 
             status,
             out,
             disk,
-            closed,
+            closed: link_closed(closed),
         }),
         None => Err(Fail::from("no disk")),
     }
 }
 
 /// A disk with the journal that `init` makes of a configuration for two lanes.
-pub fn made(alloc: Global, config: &str) -> Result<MemDisk, Fail> {
+pub fn made(
+    rt: &(impl Threads + Wait + Sync + AllocGlobal),
+    config: &str,
+) -> Result<MemDisk, Fail> {
+    let alloc = rt.alloc();
     let disk = disk_of(alloc, b"", ROOM, Vec::new(alloc))?;
-    let done = run_line(alloc, "init --lanes 2", plain(config, ""), disk)?;
+    let done = run_line(rt, "init --lanes 2", plain(config, ""), disk)?;
     if done.status == 0 {
         Ok(done.disk)
     } else {
@@ -165,10 +194,11 @@ pub static AND_AGAIN: &str = r#"PUT /?flush=1||204 No Content|
 PUT /datasets/d~0/value|{"value":[3,4]}|200 OK|{}"#;
 
 /// A disk with the journal of a session that made the dataset and wrote it once.
-pub fn written(alloc: Global) -> Result<MemDisk, Fail> {
+pub fn written(rt: &(impl Threads + Wait + Sync + AllocGlobal)) -> Result<MemDisk, Fail> {
+    let alloc = rt.alloc();
     let exchange = exchange_of(alloc, WRITTEN)?;
     let given = plain(LAB, exchange.sent.as_str());
-    let done = run_line(alloc, "session", given, made(alloc, LAB)?)?;
+    let done = run_line(rt, "session", given, made(rt, LAB)?)?;
     if done.status == 0 && done.out.bytes() == exchange.answers.as_bytes() {
         Ok(done.disk)
     } else {
@@ -177,9 +207,10 @@ pub fn written(alloc: Global) -> Result<MemDisk, Fail> {
 }
 
 /// The bytes of the journal of an empty configuration, for one lane.
-pub fn small(alloc: Global) -> Result<Vec<u8>, Fail> {
+pub fn small(rt: &(impl Threads + Wait + Sync + AllocGlobal)) -> Result<Vec<u8>, Fail> {
+    let alloc = rt.alloc();
     let disk = disk_of(alloc, b"", ROOM, Vec::new(alloc))?;
-    let done = run_line(alloc, "init --lanes 1", plain("", ""), disk)?;
+    let done = run_line(rt, "init --lanes 1", plain("", ""), disk)?;
     if done.status == 0 && done.disk.bytes().len() == 112 {
         Ok(done.disk.bytes().to_vec(alloc)?)
     } else {
@@ -188,8 +219,13 @@ pub fn small(alloc: Global) -> Result<Vec<u8>, Fail> {
 }
 
 /// What a line prints on a disk with these bytes, and the status.
-pub fn printed(alloc: Global, line: &str, disk: MemDisk) -> Result<(u8, Vec<u8>), Fail> {
-    let done = run_line(alloc, line, plain("", ""), disk)?;
+pub fn printed(
+    rt: &(impl Threads + Wait + Sync + AllocGlobal),
+    line: &str,
+    disk: MemDisk,
+) -> Result<(u8, Vec<u8>), Fail> {
+    let alloc = rt.alloc();
+    let done = run_line(rt, line, plain("", ""), disk)?;
     Ok((done.status, done.out.bytes().to_vec(alloc)?))
 }
 

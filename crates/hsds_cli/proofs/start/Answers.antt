@@ -2,6 +2,6 @@ use Rattle.std.proofs.Common.{inr}
 use Rattle.hsds_cli.proofs.start.Goals as goal
 
 pub returns : goal.returns
-returns c =
+returns g c =
     let ran = c.run-finished.ensures.run in
-    inr (_, c.journal_disk.result, ran.1, c.run-finished.result.closed, ran.0, ran.2, ran.5)
+    inr (_, c.journal_disk.result, ran.1, c.run-finished.result.closed, _, _, ran.0, ran.2, ran.5)

@@ -1,5 +1,5 @@
 use Rattle.std.proofs.Common.{◌≡◌, Option, sym, subst, ◌∙◌}
-use Rattle.rest_session.specs.declared.kept.outcome.Closed.{Closed}
+use Rattle.hsds_cli.specs.declared.closed.Closed.{Closed}
 use Rattle.hsds_cli.specs.Openings.{IsSession, closed_by}
 use Rattle.hsds_cli.specs.Sides.{Sides}
 use Rattle.hsds_cli.specs.declared.status.Status.{Status}

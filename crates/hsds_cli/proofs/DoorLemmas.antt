@@ -1,0 +1,85 @@
+-- What reports tell of the doors at their places.
+use Rattle.std.proofs.Common.{◌≡◌, ◌⊎◌, ℕ, ◌+◌, List, [], ◌∷◌, ◌∙◌, ◌||◌, length, map, Bool, true, false, Option, Some, None, zero, suc, refl, sym, ap, arith}
+use Rattle.std.specs.List.{list_any, slice_get}
+use Rattle.std.proofs.lemmas.Map.Keys.{any_passes_from_place}
+use Rattle.access_lists.specs.Tokens.Bearer.{TokenTable}
+use Rattle.edge_traits.specs.Causes.{Rose}
+use Rattle.service_core.specs.Worlds.{State}
+use Rattle.rest_session.specs.Halls.Histories.{IsServed}
+use Rattle.rest_session.specs.Halls.Visits.{IsAllOf, IsAskedToTheEnd, IsFailedFor, Telling}
+use Rattle.rest_session.specs.declared.halls.hiring.Report.{Report}
+use Rattle.hsds_cli.specs.Doors.{AreAskedOut, AreAskedUnlessFailed, Doors, IsAskedOut, SomeDoorFailed}
+use Rattle.hsds_cli.specs.Serves.{some_failed}
+
+-- ---- lists
+
+-- the place of an element that passes
+abbrev pub Place : {A : Type 0} → (A → Bool) → List A → Type 0
+Place {A} f xs = (i : ℕ) × (x : A) × (slice_get xs i ≡ Some x) × (f x ≡ true)
+
+any_step : {A : Type 0} (f : A → Bool) (x : A) (xs : List A) → (list_any f xs ≡ true → Place f xs) → (b : Bool) → f x ≡ b → (f x || list_any f xs) ≡ true → Place f (x ∷ xs)
+any_step f x xs later true is e = (0, x, refl, is)
+any_step f x xs later false is e = let p = later (sym (ap (λ b. b || list_any f xs) is) ∙ e) in (suc p.0, p.1, p.2, p.3)
+
+pub any_place : {A : Type 0} (f : A → Bool) (xs : List A) → list_any f xs ≡ true → Place f xs
+any_place f [] e = absurd (let no : false ≡ true = e in cc)
+any_place f (x ∷ xs) e = any_step f x xs (any_place f xs) (f x) refl e
+
+none_at : {A : Type 0} (f : A → Bool) (xs : List A) (i : ℕ) (x : A) → list_any f xs ≡ false → slice_get xs i ≡ Some x → f x ≡ false
+none_at f xs i x none at = by (f x) refl where
+  by : (b : Bool) → f x ≡ b → b ≡ false
+  by false is = refl
+  by true is = let no : true ≡ false = sym (any_passes_from_place f xs i x at is) ∙ none in cc
+
+-- of two lists of one length both have an element at a place
+pub there : {A B : Type 0} (xs : List A) (ys : List B) → length ys ≡ length xs → (i : ℕ) (x : A) → slice_get xs i ≡ Some x → (y : B) × (slice_get ys i ≡ Some y)
+there {A} [] ys e i x at = absurd (let no : ◌≡◌ {A = Option A} None (Some x) = at in cc)
+there (z ∷ xs) [] e i x at = absurd (omega (arith, e))
+there (z ∷ xs) (y ∷ ys) e zero x at = (y, refl)
+there (z ∷ xs) (y ∷ ys) e (suc i) x at = there xs ys (omega (arith, e)) i x at
+
+-- ---- doors
+
+rose_from : {F L : Type 0} (tells : Telling F L) (door after : F) (b : Bool) → b ≡ true → IsFailedFor tells door after b → Rose (tells.faults door) (tells.faults after)
+rose_from tells door after true is h = h
+rose_from tells door after false is h = absurd (let no : false ≡ true = is in cc)
+
+asked_from : {F L : Type 0} (tells : Telling F L) (links : ℕ) (door : F) (given : List L) (b : Bool) → b ≡ false → IsAskedToTheEnd tells links door given b
+    → (length given ≡ links) ⊎ IsAllOf (tells.left door) given
+asked_from tells links door given true is h = absurd (let no : true ≡ false = is in cc)
+asked_from tells links door given false is h = h
+
+module _ {F L : Type 0} (links : ℕ) (doors : Doors F L) (tokens : TokenTable) (first closing : State) (front : ℕ) (reports : List Report)
+    (s : IsServed (Unit {0}) doors.tells tokens links first closing front doors.before doors.after reports) where
+  -- a worker whose door didn't fail asked it to its end
+  asked_at : (i : ℕ) (door after : F) (report : Report) → slice_get doors.before i ≡ Some door → slice_get doors.after i ≡ Some after → slice_get reports i ≡ Some report
+      → report.door_failed ≡ false → IsAskedOut links doors.tells door after
+  asked_at i door after report d n r none =
+      let w = s.each i door after report d n r in record {
+        given = map (λ v. v.link) w.1.visits;
+        taken = w.1.attends.taken;
+        all = asked_from doors.tells links door (map (λ v. v.link) w.1.visits) report.door_failed none w.1.asked;
+      }
+
+  pub asked_out : some_failed reports ≡ false → AreAskedOut links doors
+  asked_out none = λ i door after at.
+      let r = there doors.before reports s.one_each i door at.0 in
+      asked_at i door after r.0 at.0 at.1 r.1 (none_at (λ r. r.door_failed) reports i r.0 none r.1)
+
+  pub asked_unless_failed : AreAskedUnlessFailed links doors
+  asked_unless_failed = λ i door after at calm.
+      let r = there doors.before reports s.one_each i door at.0 in
+      let w = s.each i door after r.0 at.0 at.1 r.1 in
+      asked_at i door after r.0 at.0 at.1 r.1 (calm_flag doors.tells door after r.0.door_failed w.1.cause calm) where
+        calm_flag : (tells : Telling F L) (door after : F) (b : Bool) → IsFailedFor tells door after b → (Rose (tells.faults door) (tells.faults after) → ⊥) → b ≡ false
+        calm_flag tells door after true h calm = absurd (calm h)
+        calm_flag tells door after false h calm = refl
+
+  -- a door failed only where its count rose
+  pub failed_rose : some_failed reports ≡ true → SomeDoorFailed doors
+  failed_rose e =
+      let p = any_place (λ r. r.door_failed) reports e in
+      let d = there reports doors.before (sym s.one_each) p.0 p.1 p.2 in
+      let n = there reports doors.after (s.as_many ∙ sym s.one_each) p.0 p.1 p.2 in
+      let w = s.each p.0 d.0 n.0 p.1 d.1 n.1 p.2 in
+      (p.0, d.0, n.0, (d.1, n.1), rose_from doors.tells d.0 n.0 p.1.door_failed p.3 w.1.cause)

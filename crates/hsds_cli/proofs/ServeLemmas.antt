@@ -1,0 +1,119 @@
+-- What `serve` does, by its status.
+use Rattle.std.proofs.Common.{◌≡◌, inl, inr, ℕ, List, Bool, true, false, Option, Some, None, Result, Ok, Err, refl, sym, ap, subst, ◌∙◌}
+use Rattle.std.specs.Prelude.{if◌then◌else◌}
+use Rattle.edge_traits.specs.Causes.{Rose}
+use Rattle.edge_traits.specs.declared.disk.Disk.{Ghosts}
+use Rattle.configuration.specs.declared.config.Config.{Config}
+use Rattle.flush_journal.specs.Unchanged.{SameBytes}
+use Rattle.flush_journal.specs.declared.why.Why.{Why}
+use Rattle.flush_journal.specs.declared.why.Why.TheVariants as why
+use Rattle.flush_journal.proofs.Unchanged.{bytes_here}
+use Rattle.service_core.specs.declared.journals.faults.OpenFault.{OpenFault}
+use Rattle.service_core.specs.declared.journals.faults.OpenFault.TheVariants as fault
+use Rattle.service_core.specs.Journals.Begun.{IsUnbegun}
+use Rattle.rest_session.specs.Kept.Doors.{HaveEnded, IsDoorsDiskFault}
+use Rattle.rest_session.specs.declared.kept.outcome.DoorsOutcome.{DoorsOutcome}
+use Rattle.rest_session.specs.declared.kept.outcome.DoorsOutcome.TheVariants as outcome
+use Rattle.rest_session.specs.declared.halls.hiring.Report.{Report}
+use Rattle.hsds_cli.specs.declared.closed.Closed.{Closed}
+use Rattle.hsds_cli.specs.declared.status.Status.{Status}
+use Rattle.hsds_cli.specs.declared.status.Status.TheVariants.{Done, Words, Configuration, ReadFault, WriteFault, DiskFault, NotAJournal, Refused, JournalExists, DoorFault, InputCut, UsedUp, Budget, NoMemory}
+use Rattle.hsds_cli.specs.Doors.{AreAskedOut, Doors, SomeDoorFailed}
+use Rattle.hsds_cli.specs.Openings.{SpellsSome, opening_status, refusal_status, status_after}
+use Rattle.hsds_cli.specs.Runs.{IsRefusal}
+use Rattle.hsds_cli.specs.Serves.{IsServedBy, ServesDoors, doors_closed, reports_status, served_status, some_budget, some_failed}
+use Rattle.hsds_cli.specs.Sides.{Sides, Spells}
+use Rattle.hsds_cli.proofs.DoorLemmas.{asked_out, asked_unless_failed, failed_rose}
+
+module _ {F L D : Type 0} (met : Ghosts D) (links : ℕ) (sides : Sides) (doors : Doors F L) (before after : D) where
+  -- doors that were served, all of which is kept, by what the workers tell
+  by_reports : (closed : Option Closed) (reports : List Report) → (some_failed reports ≡ true → SomeDoorFailed doors) → (some_failed reports ≡ false → AreAskedOut links doors)
+      → ((status : Status) → reports_status reports ≡ status → ServesDoors met links sides doors before after closed status)
+      → IsServedBy met links sides doors before after closed (reports_status reports)
+  by_reports closed reports failed whole s = by (some_failed reports) (some_budget reports) refl refl where
+    status_by : Bool → Bool → Status
+    status_by a b = if a then DoorFault else if b then Budget else Done
+
+    by : (a b : Bool) → some_failed reports ≡ a → some_budget reports ≡ b → IsServedBy met links sides doors before after closed (reports_status reports)
+    by true b p q =
+        let is : reports_status reports ≡ DoorFault = ap (λ x. status_by x (some_budget reports)) p in
+        subst (IsServedBy met links sides doors before after closed) (sym is) (failed p, s DoorFault is)
+    by false true p q =
+        let is : reports_status reports ≡ Budget = ap (λ x. status_by x (some_budget reports)) p ∙ ap (status_by false) q in
+        subst (IsServedBy met links sides doors before after closed) (sym is) (s Budget is, whole p)
+    by false false p q =
+        let is : reports_status reports ≡ Done = ap (λ x. status_by x (some_budget reports)) p ∙ ap (status_by false) q in
+        subst (IsServedBy met links sides doors before after closed) (sym is) (s Done is, whole p)
+
+  -- and by the last keeping
+  by_keeping : (closed : Option Closed) (reports : List Report) (last : Result ℕ Why) → (some_failed reports ≡ true → SomeDoorFailed doors) → (some_failed reports ≡ false → AreAskedOut links doors)
+      → ((status : Status) → status_after (reports_status reports) last ≡ status → ServesDoors met links sides doors before after closed status)
+      → (last ≡ Err why.DiskFault → Rose (met.faults before) (met.faults after))
+      → IsServedBy met links sides doors before after closed (status_after (reports_status reports) last)
+  by_keeping closed reports (Err why.DiskFault) failed whole s f = (f refl, inr (s DiskFault refl))
+  by_keeping closed reports (Err (why.JournalFull end need room)) failed whole s f = inr (s UsedUp refl)
+  by_keeping closed reports (Err (why.NotAJournal at)) failed whole s f = inr (s NoMemory refl)
+  by_keeping closed reports (Err why.Exists) failed whole s f = inr (s NoMemory refl)
+  by_keeping closed reports (Err why.NoMemory) failed whole s f = inr (s NoMemory refl)
+  by_keeping closed reports (Ok n) failed whole s f = by_reports closed reports failed whole s
+
+  module _ (config : Config) (spelled : Spells sides.text config) where
+    unopened : (refusal : OpenFault) → HaveEnded met doors.tells config.tokens links before after doors.before doors.after (outcome.Unopened refusal)
+        → (refusal ≡ fault.DiskFault → Rose (met.faults before) (met.faults after)) → IsServedBy met links sides doors before after None (opening_status refusal)
+    unopened fault.DiskFault e f = (f refl, inl ((config, spelled), (refl, e.2), inl e.1))
+    unopened (fault.NotAJournal at) e f = ((config, spelled), (refl, e.2), λ honest. inl (at, e.0 honest), e.1)
+    unopened (fault.BadRecord key) e f = ((config, spelled), (refl, e.2), λ honest. inr (let found = e.0 honest in (found.0, found.1, (key.items, found.2))), e.1)
+    unopened fault.RunsUsed e f = inl ((config, spelled), (refl, e.2), inl (e.0, e.1))
+    unopened fault.NoMemory e f = inl ((refl, e.2), inl (inl e.1))
+
+    unbegun : (refusal : Why) → IsUnbegun met before after refusal → doors.after ≡ doors.before → (refusal ≡ why.DiskFault → Rose (met.faults before) (met.faults after))
+        → IsServedBy met links sides doors before after None (refusal_status refusal)
+    unbegun why.DiskFault u same f = (f refl, inl ((config, spelled), (refl, same), inr u))
+    unbegun (why.JournalFull end need room) u same f = inl ((config, spelled), (refl, same), inr (end, need, room, u))
+    unbegun (why.NotAJournal at) u same f = absurd u.cause
+    unbegun why.Exists u same f = absurd u.cause
+    unbegun why.NoMemory u same f = inl ((refl, same), inl (inr u))
+
+    pub doors_ended : (o : DoorsOutcome) → HaveEnded met doors.tells config.tokens links before after doors.before doors.after o
+        → (IsDoorsDiskFault o → Rose (met.faults before) (met.faults after)) → IsServedBy met links sides doors before after (doors_closed o) (served_status o)
+    doors_ended (outcome.Unopened refusal) e f = unopened refusal e f
+    doors_ended (outcome.Unbegun refusal) e f = unbegun refusal e.0 e.1 f
+    doors_ended outcome.Unserved e f = inl ((refl, e.4), inr (e.0, e.1, e.2, e.3))
+    doors_ended (outcome.Served closed last) e f =
+        let k = e.3 in
+        let rs = closed.reports.items in
+        by_keeping (doors_closed (outcome.Served closed last)) rs last
+        (failed_rose links doors config.tokens e.1 k.closing closed.front rs k.served)
+        (asked_out links doors config.tokens e.1 k.closing closed.front rs k.served)
+        (λ status is. record {
+          config = config;
+          spelled = spelled;
+          journal = e.0;
+          first = e.1;
+          begun = e.2;
+          left = closed;
+          is_closed = refl;
+          last = last;
+          served = k;
+          crash = e.4;
+          asked = asked_unless_failed links doors config.tokens e.1 k.closing closed.front rs k.served;
+          ended = is;
+        }) f
+
+  -- the configuration was refused
+  pub serve_refused : (status : Status) → IsRefusal sides.text sides.config_before sides.config_after status → after ≡ before → doors.after ≡ doors.before
+      → IsServedBy met links sides doors before after None status
+  serve_refused Configuration h same doors_same = (h, (refl, doors_same), same)
+  serve_refused ReadFault h same doors_same = (h, (refl, doors_same), same)
+  serve_refused NoMemory h same doors_same = inl ((refl, doors_same), inl (inl (λ honest. subst (λ (d : D). SameBytes met before d) (sym same) (bytes_here met before))))
+  serve_refused Done h same doors_same = absurd h
+  serve_refused Words h same doors_same = absurd h
+  serve_refused WriteFault h same doors_same = absurd h
+  serve_refused DiskFault h same doors_same = absurd h
+  serve_refused NotAJournal h same doors_same = absurd h
+  serve_refused Refused h same doors_same = absurd h
+  serve_refused JournalExists h same doors_same = absurd h
+  serve_refused DoorFault h same doors_same = absurd h
+  serve_refused InputCut h same doors_same = absurd h
+  serve_refused UsedUp h same doors_same = absurd h
+  serve_refused Budget h same doors_same = absurd h

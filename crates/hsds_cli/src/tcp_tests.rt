@@ -1,0 +1,59 @@
+//! Doors and links over TCP, at the loopback address.
+
+use crate::tcp_door::{TcpDoor, doors_at};
+use edge_traits::{Door, Source, write_all};
+use std::io;
+use std::io::{Read, Write};
+use std::net::{Shutdown, TcpListener, TcpStream};
+use std::test::Fail;
+
+/// More than is read before the answer, and less than is dropped at the end.
+const LATE: usize = 40_000;
+
+/// The door at what is listened at.
+fn door_at(rt: &HostRuntime, listener: Option<&TcpListener>) -> Result<TcpDoor<HostRuntime>, Fail> {
+    let mut doors = doors_at(rt.alloc(), listener, *rt, 1)?;
+    Ok(doors.pop().ok_or("no door")?)
+}
+
+/// A client that asks, and sends more behind it.
+fn asking(rt: &HostRuntime, listener: &TcpListener) -> io::Result<TcpStream> {
+    let mut client = TcpStream::connect(rt, listener.local_addr()?)?;
+    client.write_all(b"ask")?;
+    client.write_all(&[b'x'; LATE])?;
+    client.shutdown(Shutdown::Write)?;
+    Ok(client)
+}
+
+/// Serves one link of a door, which is answered once it asked: whether that was done.
+fn is_served(door: &mut TcpDoor<HostRuntime>) -> bool {
+    let Ok(Some(mut link)) = door.next() else {
+        return false;
+    };
+    let mut asked = [0u8; 3];
+    let read = link.read(&mut asked).is_ok();
+    let answered = write_all(&mut link, b"answer").is_ok();
+    door.give_back(link);
+    read && &asked == b"ask" && answered
+}
+
+#[test]
+fn an_answer_comes_whole_though_more_was_sent(rt: HostRuntime) -> Result<(), Fail> {
+    let listener = TcpListener::bind(&rt, "127.0.0.1:0")?;
+    let mut door = door_at(&rt, Some(&listener))?;
+    let mut client = asking(&rt, &listener)?;
+    assert!(rt; is_served(&mut door));
+    let mut answer = [0u8; 6];
+    client.read_exact(&mut answer)?;
+    assert!(rt; &answer == b"answer" && client.read(&mut [0u8; 1])? == 0);
+    Ok(())
+}
+
+#[test]
+fn a_door_where_nothing_is_listened_at_has_faults(rt: HostRuntime) -> Result<(), Fail> {
+    let mut door = door_at(&rt, None)?;
+    assert!(rt; door.next().is_err());
+    let listener = TcpListener::bind(&rt, "127.0.0.1:0")?;
+    assert!(rt; TcpListener::bind(&rt, listener.local_addr()?).is_err());
+    Ok(())
+}
