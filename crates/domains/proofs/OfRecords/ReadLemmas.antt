@@ -1,18 +1,25 @@
 -- What the steps of a reading answer.
-use Rattle.std.proofs.Common.{◌≡◌, ◌≤◌, ◌+◌, ℕ, suc, Bool, true, false, cond, List, [], ◌∷◌, length, Option, Some, None, option_map, option_and_then, if◌then◌else◌, String, Global, refl, sym, ap, arith, ◌∙◌}
+use Rattle.std.proofs.Common.{◌≡◌, ◌≢◌, ◌↔◌, ◌<◌, ◌≤◌, ◌+◌, ℕ, suc, Bool, true, false, cond, List, [], ◌∷◌, length, Option, Some, None, option_map, option_and_then, Err, if◌then◌else◌, String, Global, refl, sym, ap, arith, ◌∙◌}
 use Rattle.std.specs.FinMap.{contains_key, insert, len, len-insert}
 use Rattle.std.specs.Str.{IsUtf8, is_utf8}
 use Rattle.std.proofs.lemmas.Cmp.{nat_list_cmp_total}
 use Rattle.std.proofs.lemmas.Str.{IsUtf8-from_is_utf8, is_utf8-from_IsUtf8}
 use Rattle.serde_json.specs.Data.{Data}
+use Rattle.serde_json.specs.Errors.{IsMemory}
 use Rattle.serde_json.specs.Read.{read}
 use Rattle.serde_json.specs.View.{members_view}
+use Rattle.serde_json.specs.declared.error.Error.{Error}
 use Rattle.serde_json.specs.declared.value.Value.{Value}
 use Rattle.json_trees.specs.Trees.{all_in, pairs_of}
+use Rattle.json_trees.proofs.TreeLemmas.{nothing_read}
 use Rattle.access_lists.specs.InForce.{Entries}
 use Rattle.access_lists.specs.declared.rights.Rights.{Rights}
+use Rattle.domains.specs.declared.classes.Node.{Node}
+use Rattle.domains.specs.declared.records.faults.NodeFault.{NodeFault}
+use Rattle.domains.specs.declared.records.faults.NodeFault.TheVariants.{BadNode, NoMemory}
 use Rattle.domains.specs.Records.Lists.{entry_of}
 use Rattle.domains.specs.Records.Nodes.{node_in, node_of_body}
+use Rattle.domains.specs.Records.Readings.{Reads}
 use Rattle.containers.specs.TextMaps.Keyed.{with_entries}
 
 -- ---- a walk over the members of an object
@@ -71,3 +78,16 @@ not_a_text text never = at (is_utf8 text) refl where
   at : (b : Bool) → is_utf8 text ≡ b → node_of_body text ≡ None
   at true e = absurd (never (IsUtf8-from_is_utf8 text e))
   at false e = ap (λ (b : Bool). if b then option_and_then node_in (read text) else None) e
+
+-- an error of the reading of JSON
+pub json_told : (text : List ℕ) (error : Error) (e : NodeFault) → (¬ (IsMemory error) → read text ≡ None) → ((e ≡ NoMemory) ↔ IsMemory error)
+    → Reads {A = Node} (Err e) (node_of_body text)
+json_told text error BadNode none told = not_a_tree text (none (λ is. let clash : BadNode ≡ NoMemory = told.1 is in cc))
+json_told text error NoMemory none told = tt
+
+-- what was read has bytes, and so has that of which want of memory is told
+pub read_some : (text : List ℕ) (d : Data) → read text ≡ Some d → text ≢ []
+read_some text d reads none = let clash : None ≡ Some d = sym nothing_read ∙ ap read (sym none) ∙ reads in cc
+
+pub some_bytes : (text body : List ℕ) → text ≡ body → 0 < length text → body ≢ []
+some_bytes text body same some none = omega (arith, some, ap length (same ∙ none))

@@ -1,6 +1,6 @@
 //! The access list that a tree spells.
 
-ghost use Rattle.std.specs.Prelude.{◌≡◌, ◌<◌, Err, OnOk};
+ghost use Rattle.std.specs.Prelude.{◌≡◌, ◌<◌, Err, IsErrOf, IsSome, OnOk};
 ghost use Rattle.std.specs.FinMap as map;
 ghost use Rattle.serde_json.specs.View.{members_view, view};
 ghost use Rattle.access_lists.specs.InForce.{most_entries};
@@ -72,7 +72,8 @@ fn entry_of(alloc: Global, key: &str, value: &Value) -> Result<(Name, Rights), N
 
 /// The name that a text is.
 pub(crate) fn name_in(alloc: Global, text: &str) -> Result<Name, NodeFault>
-    ensures { Reads result (name_in text.now) }
+    ensures reads { Reads result (name_in text.now) }
+    ensures memory { IsErrOf result NodeFault.NoMemory → IsSome (name_in text.now) }
 {
     Ok(Name::read(alloc, text, text.len())?)
 }

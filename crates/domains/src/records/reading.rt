@@ -1,6 +1,7 @@
 //! The node that a body is the text of.
 
-ghost use Rattle.std.specs.Prelude.{◌≡◌, IfOk, IfSome};
+ghost use Rattle.std.specs.Prelude.{◌≡◌, ◌≢◌, ◌↔◌, [], IfOk, IfSome, IsErrOf, IsSome, IsUtf8};
+ghost use Rattle.serde_json.specs.Errors.{IsMemory};
 ghost use Rattle.serde_json.specs.View.{view};
 ghost use Rattle.groups_links.specs.IdTexts.{id_of};
 ghost use Rattle.domains.specs.Contents.{HasRoot};
@@ -15,16 +16,18 @@ use crate::records::nodes::is_whole;
 use crate::{Node, NodeClass};
 use json_trees::{member_text, whole_number};
 use object_ids::{Kind, Name, ObjectId, read_id};
-use serde_json::Value;
+use serde_json::{Error, Value};
 use std::alloc::Global;
 
 /// The node that a body is the text of.
 ///
 /// # Errors
 ///
-/// [`NodeFault::BadNode`] exactly where there is none, or [`NodeFault::NoMemory`].
+/// [`NodeFault::BadNode`] exactly where there is none, or [`NodeFault::NoMemory`], which comes only of a body that is UTF-8 and
+/// isn't empty.
 pub fn read_node(alloc: Global, body: &[u8]) -> Result<Node, NodeFault>
     ensures reads { Reads result (node_of_body body.now) }
+    ensures memory { IsErrOf result NodeFault.NoMemory → IsUtf8 body.now × (body.now ≢ []) }
     ensures kept { IfOk result IsKeptNode }
 {
     let Ok(text) = str::from_utf8(body) else {
@@ -32,8 +35,18 @@ pub fn read_node(alloc: Global, body: &[u8]) -> Result<Node, NodeFault>
     };
     match Value::from_str(alloc, text) {
         Ok(tree) => node_in(alloc, &tree),
-        Err(error) if error.is_memory() => Err(NodeFault::NoMemory),
-        Err(_) => Err(NodeFault::BadNode),
+        Err(error) => Err(json_fault(&error)),
+    }
+}
+
+// Memory ran out exactly where `serde_json` says so; else the text is no JSON, and so no node's.
+fn json_fault(error: &Error) -> NodeFault
+    ensures { (result ≡ NodeFault.NoMemory) ↔ IsMemory error.now }
+{
+    if error.is_memory() {
+        NodeFault::NoMemory
+    } else {
+        NodeFault::BadNode
     }
 }
 
@@ -41,9 +54,12 @@ pub fn read_node(alloc: Global, body: &[u8]) -> Result<Node, NodeFault>
 ///
 /// # Errors
 ///
-/// [`NodeFault::BadNode`] exactly where there is none, or [`NodeFault::NoMemory`].
+/// [`NodeFault::BadNode`] exactly where there is none, or [`NodeFault::NoMemory`], which comes only of a tree with the class and
+/// the owner of a node.
 pub fn node_in(alloc: Global, tree: &Value) -> Result<Node, NodeFault>
     ensures reads { Reads result (node_in (view tree.now)) }
+    ensures memory { IsErrOf result NodeFault.NoMemory
+        → IsSome (class_in (view tree.now)) × IsSome (owner_in (view tree.now)) }
     ensures kept { IfOk result IsKeptNode }
 {
     let Some(class) = class_in(tree) else {
@@ -57,7 +73,8 @@ pub fn node_in(alloc: Global, tree: &Value) -> Result<Node, NodeFault>
 }
 
 fn owner_in(alloc: Global, tree: &Value) -> Result<Name, NodeFault>
-    ensures { Reads result (owner_in (view tree.now)) }
+    ensures reads { Reads result (owner_in (view tree.now)) }
+    ensures memory { IsErrOf result NodeFault.NoMemory → IsSome (owner_in (view tree.now)) }
 {
     let Some(text) = member_text(tree, "owner") else {
         return Err(NodeFault::BadNode);
