@@ -1,6 +1,6 @@
 //! A document with its text.
 
-ghost use Rattle.std.specs.Prelude.{◌≡◌, ◌<◌, ◌≤◌, ◌^◌, Err, IfOk, length};
+ghost use Rattle.std.specs.Prelude.{◌≡◌, ◌<◌, ◌≤◌, ◌^◌, Err, IfErr, IfOk, length};
 ghost use Rattle.std.specs.FinMap.{entries};
 ghost use Rattle.serde_json.specs.Written.{compact_text};
 ghost use Rattle.documents.specs.Domains.Documents.{document_tree};
@@ -52,7 +52,7 @@ impl From<AllocError> for PrintFault {
 /// # Errors
 ///
 /// [`PrintFault::TooLarge`] exactly where the text has more than [`MAX_TEXT`] bytes, or [`PrintFault::NoMemory`] where memory
-/// runs out.
+/// runs out, which is before the text stands.
 pub fn print_domain<S: ObjectStore>(
     alloc: Global,
     store: &S,
@@ -73,8 +73,17 @@ pub fn print_domain<S: ObjectStore>(
     }
     let tree = domain_json(alloc, store, home)?;
     let text = tree.to_string(alloc)?;
+    check_length(text.as_str())?;
+    Ok(Printed { tree, text })
+}
+
+// Refuses a text that is too long, and that alone: it takes no memory.
+fn check_length(text: &str) -> Result<(), PrintFault>
+    ensures ok { IfOk result (λ _. length text.now ≤ 2 ^ 27) }
+    ensures err { IfErr result (λ e. (e ≡ PrintFault.TooLarge) × (2 ^ 27 < length text.now)) }
+{
     if text.len() > MAX_TEXT {
         return Err(PrintFault::TooLarge);
     }
-    Ok(Printed { tree, text })
+    Ok(())
 }
