@@ -1,11 +1,14 @@
 -- What the steps of a reading answer.
-use Rattle.std.proofs.Common.{◌≡◌, ◌≢◌, ℕ, List, [], ◌∷◌, All, Bool, true, false, not, ◌==◌, ◌&&◌, nat_lt, if◌then◌else◌, Option, Some, None, option_map, option_and_then, is_some, Result, Ok, Err, codes, refl, sym, ap, subst, ◌∙◌}
+use Rattle.std.proofs.Common.{◌≡◌, ◌≢◌, ◌↔◌, ◌<◌, ℕ, List, [], length, arith, ◌∷◌, All, Bool, true, false, not, ◌==◌, ◌&&◌, nat_lt, if◌then◌else◌, Option, Some, None, option_map, option_and_then, is_some, Result, Ok, Err, codes, refl, sym, ap, subst, ◌∙◌}
 use Rattle.std.specs.FinMap.{FinMap, empty, get, insert, len}
 use Rattle.std.specs.List.{list_all}
 use Rattle.std.proofs.lemmas.Bool.{eqb-true}
 use Rattle.std.proofs.lemmas.Cmp.{nat_list_cmp_total}
 use Rattle.std.proofs.lemmas.List.Elements.{All-head, All-tail}
 use Rattle.serde_json.specs.Data.{Data}
+use Rattle.serde_json.specs.Errors.{IsMemory}
+use Rattle.serde_json.specs.declared.error.Error.{Error}
+use Rattle.json_trees.proofs.TreeLemmas.{nothing_read}
 use Rattle.object_ids.specs.Puts.{Blames, put_fault}
 use Rattle.object_ids.specs.declared.puts.PutFault.{PutFault}
 use Rattle.object_ids.specs.declared.puts.PutFault.TheVariants.{Taken, Limit, NoMemory}
@@ -24,6 +27,7 @@ use Rattle.std.specs.Str.{IsUtf8, is_utf8}
 use Rattle.std.proofs.lemmas.Str.{IsUtf8-from_is_utf8, is_utf8-from_IsUtf8}
 use Rattle.serde_json.specs.Read.{read}
 use Rattle.object_ids.specs.declared.ids.Kind.{Kind}
+use Rattle.object_records.specs.Entries.{entry_of}
 use Rattle.object_records.specs.Readings.{Reads}
 use Rattle.object_records.specs.Objects.{object_of_body, spelled_in}
 use Rattle.object_records.specs.declared.faults.BodyFault.{BodyFault}
@@ -120,6 +124,19 @@ not_a_text k text never = at (is_utf8 text) refl where
   at : (b : Bool) → is_utf8 text ≡ b → object_of_body k text ≡ None
   at true e = absurd (never (IsUtf8-from_is_utf8 text e))
   at false e = ap (λ (b : Bool). if b then option_and_then (spelled_in k) (read text) else None) e
+
+-- an error of the reading of JSON
+pub json_told : (k : Kind) (text : List ℕ) (error : Error) (e : BodyFault) → (¬ (IsMemory error) → read text ≡ None) → ((e ≡ body.NoMemory) ↔ IsMemory error)
+    → Reads entry_of (Err e) (object_of_body k text)
+json_told k text error NoObject none told = not_a_tree k text (none (λ is. let clash : NoObject ≡ body.NoMemory = told.1 is in cc))
+json_told k text error body.NoMemory none told = tt
+
+-- what was read has bytes, and so has that of which want of memory is told
+pub read_some : (text : List ℕ) (d : Data) → read text ≡ Some d → text ≢ []
+read_some text d reads none = let clash : None ≡ Some d = sym nothing_read ∙ ap read (sym none) ∙ reads in cc
+
+pub some_bytes : (text body : List ℕ) → text ≡ body → 0 < length text → body ≢ []
+some_bytes text body same some none = omega (arith, some, ap length (same ∙ none))
 
 -- ---- arrays
 

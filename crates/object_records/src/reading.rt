@@ -1,6 +1,7 @@
 //! The object that a body is the text of.
 
-ghost use Rattle.std.specs.Prelude.{◌≡◌, [], IfOk};
+ghost use Rattle.std.specs.Prelude.{◌≡◌, ◌≢◌, ◌↔◌, [], IfOk, IsErrOf, IsUtf8};
+ghost use Rattle.serde_json.specs.Errors.{IsMemory};
 ghost use Rattle.serde_json.specs.View.{view};
 ghost use Rattle.hdf_types.specs.Types.{IsSoundType};
 ghost use Rattle.hdf_types.specs.Views.{elem as elem_of};
@@ -20,7 +21,7 @@ use chunk_store::Array;
 use hdf_types::{ElemType, read_type};
 use object_acts::{Body, Object};
 use object_ids::Kind;
-use serde_json::Value;
+use serde_json::{Error, Value};
 use shapes::read_shape;
 use std::alloc::Global;
 
@@ -29,9 +30,11 @@ use std::alloc::Global;
 ///
 /// # Errors
 ///
-/// [`BodyFault::NoObject`] exactly where there is none, or [`BodyFault::NoMemory`].
+/// [`BodyFault::NoObject`] exactly where there is none, or [`BodyFault::NoMemory`], which comes only of
+/// a body that is UTF-8 and isn't empty.
 pub fn read_object(alloc: Global, kind: Kind, body: &[u8]) -> Result<Object, BodyFault>
     ensures reads { Reads entry_of result (object_of_body kind body.now) }
+    ensures memory { IsErrOf result BodyFault.NoMemory → IsUtf8 body.now × (body.now ≢ []) }
     ensures kind { IfOk result (IsOfKind kind) }
     ensures fresh { IfOk result (λ o. IsFresh o.body) }
     ensures tracked { IfOk result (λ o. IsTrackedBody (λ _. []) o.body) }
@@ -41,8 +44,18 @@ pub fn read_object(alloc: Global, kind: Kind, body: &[u8]) -> Result<Object, Bod
     };
     match Value::from_str(alloc, text) {
         Ok(tree) => object_in(alloc, kind, &tree),
-        Err(error) if error.is_memory() => Err(BodyFault::NoMemory),
-        Err(_) => Err(BodyFault::NoObject),
+        Err(error) => Err(json_fault(&error)),
+    }
+}
+
+// Memory ran out exactly where `serde_json` says so; else the text is no JSON, and so no object's.
+fn json_fault(error: &Error) -> BodyFault
+    ensures { (result ≡ BodyFault.NoMemory) ↔ IsMemory error.now }
+{
+    if error.is_memory() {
+        BodyFault::NoMemory
+    } else {
+        BodyFault::NoObject
     }
 }
 
