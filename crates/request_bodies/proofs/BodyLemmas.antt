@@ -25,14 +25,14 @@ tree_read text d utf8 is = ap (λ b. cond b (read text) None) (is_utf8-from_IsUt
 -- what was read, or why it was refused
 pub tree_gives : (text : List ℕ) (read_as : Result Value Error) (given : Result Value BodyFault) → IfOk read_as (λ v. IsUtf8 text × (read text ≡ Some (view v)))
     → IfErr read_as (λ e. ¬ (IsMemory e) → IsUtf8 text → read text ≡ None)
-    → MatchResult read_as (λ v. given ≡ Ok v) (λ e. IsErrAnd given (λ f. (f ≡ NoMemory) ⊎ ((f ≡ Refused BadJson) × ¬ (IsMemory e))))
+    → MatchResult read_as (λ v. given ≡ Ok v) (λ e. IsErrAnd given (λ f. ((f ≡ NoMemory) × IsMemory e) ⊎ ((f ≡ Refused BadJson) × ¬ (IsMemory e))))
     → Gives view given (or_refuse BadJson (tree_in text))
 tree_gives text (Ok v) (Ok w) ok err is = let same : v ≡ w = cc in ap (or_refuse BadJson) (tree_read text (view v) ok.0 ok.1) ∙ ap (λ v. Ok (view v)) same
 tree_gives text (Ok v) (Err f) ok err is = let other : Err f ≡ Ok v = is in absurd (cc)
 tree_gives text (Err e) (Ok w) ok err is = absurd is
 tree_gives text (Err e) (Err NoMemory) ok err is = tt
 tree_gives text (Err e) (Err (Refused refusal)) ok err is = elim is [
-  | inl x ↦ let other : Refused refusal ≡ NoMemory = x in absurd (cc)
+  | inl x ↦ let other : Refused refusal ≡ NoMemory = x.0 in absurd (cc)
   | inr x ↦ let same : Refused BadJson ≡ Refused refusal = sym x.0 in ap (or_refuse BadJson) (no_tree text (err x.1)) ∙ cc
 ]
 

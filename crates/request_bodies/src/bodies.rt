@@ -46,8 +46,10 @@ fn parsed(alloc: Global, bytes: &[u8]) -> Result<Value, BodyFault>
     Value::from_slice(alloc, bytes).map_err(json_fault)
 }
 
+// Memory ran out where `serde_json` says so, and nowhere else.
 fn json_fault(error: Error) -> BodyFault
-    ensures { (result ≡ NoMemory) ⊎ ((result ≡ Refused BadJson) × ¬ (IsMemory error)) }
+    ensures { ((result ≡ NoMemory) × IsMemory error)
+        ⊎ ((result ≡ Refused BadJson) × ¬ (IsMemory error)) }
 {
     if error.is_memory() {
         BodyFault::NoMemory
