@@ -1,6 +1,6 @@
 -- The objects that the next cut looks at.
 use Rattle.std.proofs.Common.{◌≡◌, ◌≢◌, ℕ, ◌<◌, ◌||◌, Bool, true, false, cond, length, Option, Some, None, is_some, IfSome, refl, sym, ap, subst, ◌∙◌}
-use Rattle.std.specs.FinMap.{FinMap, entries, get, insert, get-insert}
+use Rattle.std.specs.FinMap.{FinMap, empty, entries, get, insert, get-empty, get-insert}
 use Rattle.std.specs.Ordering.{eq_by_cmp}
 use Rattle.containers.specs.TextMaps.Nexts.{is_behind, left, IsNext}
 use Rattle.object_ids.specs.IdOrder.{id_order}
@@ -32,6 +32,11 @@ module _ {X : Type 0} (all : Bool) (m n : FinMap id_order X) (id : Id) (x : X) (
     at : (b : Bool) → (b || is_some (get m q)) ≡ true → (b || is_some (get n q)) ≡ true
     at true there = refl
     at false there = ap (λ (w : FinMap id_order X). is_some (get w q)) put ∙ ap is_some (get-insert id_order_total m id x q) ∙ found (eq_by_cmp id_order q id) there
+
+-- none stands in an empty list
+module _ {X : Type 0} (m : FinMap id_order X) (none : m ≡ empty) where
+  pub none_listed : (q : Id) → (false || is_some (get m q)) ≡ false
+  none_listed q = ap (λ (w : FinMap id_order X). is_some (get w q)) none ∙ ap is_some (get-empty id_order q)
 
 -- what is looked at by none was so before
 pub unlisted : (old new : Changes) → KeepsListed old new → (q : Id) → is_listed new q ≡ false → is_listed old q ≡ false

@@ -25,7 +25,9 @@ pub struct Changes {
 
 impl Changes {
     /// Nothing changed. It takes no memory.
-    pub fn new(alloc: Global) -> Changes {
+    pub fn new(alloc: Global) -> Changes
+        ensures none { (id : Id) → is_listed result id ≡ false }
+    {
         Changes {
             listed: IdMap::new(alloc),
             all: false,
@@ -83,7 +85,9 @@ impl Changes {
     }
 
     /// Takes all as unchanged. It takes no memory.
-    pub fn clear(&mut self, alloc: Global) {
+    pub fn clear(&mut self, alloc: Global)
+        ensures none { (id : Id) → is_listed self.new id ≡ false }
+    {
         self.listed = IdMap::new(alloc);
         self.all = false;
     }

@@ -11,7 +11,7 @@ ghost use Rattle.flush_journal.specs.Cuts.Cuts.{AppendsEach, IsCut};
 ghost use Rattle.object_records.specs.Keys.Keys.{object_key};
 ghost use Rattle.chunk_owner.specs.Slots.Slots.{AreOfKind, AreStill, IsMarked, Says, object_of};
 ghost use Rattle.chunk_owner.specs.Slots.Bodies.{IsSlotRecord};
-ghost use Rattle.chunk_owner.specs.Slots.Listed.{AreListed};
+ghost use Rattle.chunk_owner.specs.Slots.Listed.{AreListed, is_listed};
 ghost use Rattle.chunk_owner.specs.Slots.Cutting.{AddsAll, AddsAt, AddsChunksIn, AddsFront, AddsFrontAt, AddsSlot};
 ghost use Rattle.chunk_owner.specs.Slots.Settled.{Settles};
 
@@ -27,7 +27,7 @@ use object_records::keys::object_key;
 use std::alloc::{AllocError, Global};
 
 /// Appends the records of what changed since the last cut, and takes it as kept: what is held then says of each id what
-/// stands there. It looks at what is listed alone.
+/// stands there. It looks at what is listed alone, and nothing is listed then.
 ///
 /// # Errors
 ///
@@ -52,6 +52,7 @@ pub fn cut(
     ensures same { (id : Id) → object_of (get slots.new id) ≡ object_of (get slots.old id) }
     ensures kinds { AreOfKind slots.new }
     ensures listed { AreListed changes.new slots.new }
+    ensures none { OnOk result ((id : Id) → is_listed changes.new id ≡ false) }
     ensures err { OnErr result (slots.new ≡ slots.old) }
     ensures back { OnErr result (records into.new ≡ records into.old) }
 {

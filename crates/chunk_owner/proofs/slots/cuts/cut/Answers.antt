@@ -23,3 +23,6 @@ returns-clause-kinds c = kinds_settled c.args.slots.now c.settle_all.new.slots c
 
 pub returns-clause-listed : goal.returns-clause-listed
 returns-clause-listed c = still_listed _ c.settle_all.new.slots (still_settled c.args.slots.now c.settle_all.new.slots c.settle_all.ensures)
+
+pub returns-clause-none : goal.returns-clause-none
+returns-clause-none c = c.clear.ensures.none
