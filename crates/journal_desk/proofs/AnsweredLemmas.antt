@@ -13,7 +13,7 @@ use Rattle.lane_histories.specs.KeptContents.{IsAsFar}
 use Rattle.lane_histories.proofs.Lists.{all_at}
 use Rattle.journal_desk.specs.KeptServices.{KeptService}
 use Rattle.journal_desk.specs.Desks.{AreAnswered, HoldsAsFar, HoldSince}
-use Rattle.journal_desk.specs.declared.note.Note.{Ghosts as Notes}
+use Rattle.journal_desk.specs.Notes.{NoteOf}
 use Rattle.journal_desk.proofs.ImageLemmas.{as_far, lasts_by, longer_image, prefix_itself}
 
 module _ (k : KeptService) (start : World k.service) {D : Type 0} (met : Ghosts D) (h : History k.service) where
@@ -56,7 +56,7 @@ module _ (k : KeptService) (start : World k.service) {D : Type 0} (met : Ghosts 
           → (moment ≤ met.moment disk) × HoldSince met k start g disk moment own
       longer moment own since = (since.0, λ image left. longer_image k start h g own image legal prefix (since.1 image left))
 
-module _ {D N : Type 0} (met : Ghosts D) (notes : Notes N) (disk at : D) (kept : Reach) (before after : N) (start : notes.start after ≡ notes.start before)
+module _ {D N : Type 0} (met : Ghosts D) (notes : NoteOf N) (disk at : D) (kept : Reach) (before after : N) (start : notes.start after ≡ notes.start before)
     (legal : IsLegal notes.kept.service (notes.start before) (notes.history after)) (prefix : IsPrefix (notes.history before) (notes.history after))
     (was : AreAnswered met notes.kept (notes.start before) (notes.history before) disk at kept) where
   pub answered_note : ((i : Keeping) → IsIn (notes.history after).keepings i → i.answer ≡ Kept

@@ -20,8 +20,8 @@ use Rattle.lane_histories.proofs.RegisterLists.{register_is_earlier}
 use Rattle.lane_histories.proofs.SaidCuts.{cuts_stay_said}
 use Rattle.lane_histories.proofs.Sound.{cuts_longer}
 use Rattle.journal_desk.specs.KeptServices.{contents}
-use Rattle.journal_desk.specs.Notes.{AreAlike}
-use Rattle.journal_desk.specs.Standing.{Standing, standing_of}
+use Rattle.journal_desk.specs.Notes.{AreAlike, NoteOf, at_lanes}
+use Rattle.journal_desk.specs.Standing.{standing_of}
 use Rattle.journal_desk.specs.Desks.{IsDesk, HoldsAsFar}
 use Rattle.journal_desk.specs.Cuts.{Advances, CutsEach, DrawsCut, Resumes, TakesRegisterCut}
 use Rattle.journal_desk.specs.Keepings.{Continues}
@@ -34,7 +34,7 @@ use Rattle.journal_desk.proofs.StepLemmas.{not_both, places_at, register_before,
 use Rattle.journal_desk.proofs.StepLemmas.{registers_advance, registers_whole, whole_before}
 
 -- what is true of the desk and its note after the lanes' cuts
-pub record AreLanesCut {D N : Type 0} {met : Ghosts D} (notes : Notes N) (j : Journal D met) (built : List Record) (cut kept : Reach) (before after : N)
+pub record AreLanesCut {D N : Type 0} {met : Ghosts D} (notes : NoteOf N) (j : Journal D met) (built : List Record) (cut kept : Reach) (before after : N)
     (whole : Bool) (c : ℕ) : Type 0 where
   pub start : notes.start after ≡ notes.start before
   pub legal : IsLegal notes.kept.service (notes.start before) (notes.history after)
@@ -45,7 +45,7 @@ pub record AreLanesCut {D N : Type 0} {met : Ghosts D} (notes : Notes N) (j : Jo
   pub well : whole ≡ true → IsDesk notes.kept (notes.start after) (notes.history after) (notes.was after) j built (record cut { c = c }) kept
 
 -- and after the register's
-pub record IsRegisterCut {D N : Type 0} {met : Ghosts D} (notes : Notes N) (j : Journal D met) (built : List Record) (cut kept : Reach) (before after : N)
+pub record IsRegisterCut {D N : Type 0} {met : Ghosts D} (notes : NoteOf N) (j : Journal D met) (built : List Record) (cut kept : Reach) (before after : N)
     (found : Bool) (p : ℕ) : Type 0 where
   pub start : notes.start after ≡ notes.start before
   pub legal : IsLegal notes.kept.service (notes.start before) (notes.history after)
@@ -56,18 +56,17 @@ pub record IsRegisterCut {D N : Type 0} {met : Ghosts D} (notes : Notes N) (j : 
   pub well : found ≡ true → IsDesk notes.kept (notes.start after) (notes.history after) (notes.was after) j built (record cut { p = p }) kept
   pub last : found ≡ true → last_cut None (notes.history after).register ≡ Some p
 
-module _ {D N : Type 0} {met : Ghosts D} (notes : Notes N) (j : Journal D met) (building : List Record) (cut kept : Reach) (before : N)
+module _ {D N : Type 0} {met : Ghosts D} (notes : NoteOf N) (j : Journal D met) (building : List Record) (cut kept : Reach) (before : N)
     (inv : IsDesk notes.kept (notes.start before) (notes.history before) (notes.was before) j building cut kept) where
   -- no call of the disk, and longer lists in the note
   pub continues_grown : (after : N) → notes.start after ≡ notes.start before → IsLegal notes.kept.service (notes.start before) (notes.history after)
       → IsPrefix (notes.history before) (notes.history after)
       → (met.honest → (c : List ℕ) → met.left_since (disk_of j) (met.moment (disk_of j)) c → met.images (disk_of j) c)
-      → (at : D) (v : Standing D N) → standing_of j building cut kept at before ≡ v → (built : List Record) (now : Reach)
-      → Continues met notes v (standing_of j built now kept at after)
-  continues_grown after start legal prefix only_now at v is built now =
-      subst (λ (x : Standing D N). Continues met notes x (standing_of j built now kept at after)) is
-      (continues_by met notes (standing_of j building cut kept at before) (standing_of j built now kept at after) start legal prefix
-      (same_here met (disk_of j)) (as_far kept) leaves)
+      → (lanes : ℕ) (at : D) (built : List Record) (now : Reach)
+      → Continues met notes (standing_of lanes j building cut kept at before) (standing_of lanes j built now kept at after)
+  continues_grown after start legal prefix only_now lanes at built now =
+      continues_by met notes (standing_of lanes j building cut kept at before) (standing_of lanes j built now kept at after) refl start legal prefix
+      (same_here met (disk_of j)) (as_far kept) leaves
     where
       leaves : met.honest → CrashLeaves met (disk_of j) (disk_of j) (HoldsAsFar notes.kept (notes.start before) (notes.history after) kept)
       leaves honest = no_call met (disk_of j) (HoldsAsFar notes.kept (notes.start before) (notes.history after) kept)
@@ -280,3 +279,38 @@ module _ {D N : Type 0} {met : Ghosts D} (notes : Notes N) (j : Journal D met) (
         well = recut_desk;
         last = last_is;
       }
+
+-- ---- over as many lanes as the desk has, which each step of the callers' side leaves
+
+module _ {D N : Type 0} {met : Ghosts D} (family : Notes N) (lanes : ℕ) (j : Journal D met) (building : List Record) (cut kept : Reach) (before : N)
+    (inv : IsDesk (family.kept lanes) (family.start lanes before) (family.history lanes before) (family.was lanes before) j building cut kept)
+    (idle : pending_of j ≡ None) where
+  pub lanes_are_cut_over : (built : List Record) (whole : Bool) (number c : ℕ) (n0 n1 n2 after : N) (l l1 l2 : ℕ)
+      → l ≡ lanes → l1 ≡ l → l2 ≡ l1 → AreAlike (at_lanes family lanes) before n0
+      → DrawsCut (family.kept l).service (family.start l n0) (family.history l n0) (family.history l n1) number c
+      → family.start l n1 ≡ family.start l n0 → family.was l n1 ≡ family.was l n0
+      → CutsEach (family.kept l1) (family.start l1 n1) (family.history l1 n1) (family.history l1 n2) (family.was l1 n1) (family.was l1 n2) number c
+      (family.kept l1).service.lanes whole building built
+      → family.start l1 n2 ≡ family.start l1 n1 → AreAlike (at_lanes family l2) after n2
+      → AreLanesCut (at_lanes family lanes) j built cut kept before after whole c
+  lanes_are_cut_over built whole number c n0 n1 n2 after l l1 l2 e e1 e2 at draws first first_was each second noted =
+      let f1 : l1 ≡ lanes = e1 ∙ e in
+      let f2 : l2 ≡ lanes = e2 ∙ f1 in
+      lanes_are_cut (at_lanes family lanes) j building cut kept before inv idle built whole number c n0 n1 n2 after at
+      (subst (λ (m : ℕ). DrawsCut (family.kept m).service (family.start m n0) (family.history m n0) (family.history m n1) number c) e draws)
+      (subst (λ (m : ℕ). family.start m n1 ≡ family.start m n0) e first) (subst (λ (m : ℕ). family.was m n1 ≡ family.was m n0) e first_was)
+      (subst (λ (m : ℕ). CutsEach (family.kept m) (family.start m n1) (family.history m n1) (family.history m n2) (family.was m n1) (family.was m n2)
+      number c (family.kept m).service.lanes whole building built) f1 each)
+      (subst (λ (m : ℕ). family.start m n2 ≡ family.start m n1) f1 second) (subst (λ (m : ℕ). AreAlike (at_lanes family m) after n2) f2 noted)
+
+  pub register_is_cut_over : (built : List Record) (found : Bool) (p : ℕ) (n0 n1 after : N) (l l1 : ℕ)
+      → l ≡ lanes → l1 ≡ l → AreAlike (at_lanes family lanes) before n0
+      → TakesRegisterCut (family.kept l) (family.start l n0) (family.history l n0) (family.history l n1) p found building built
+      → family.start l n1 ≡ family.start l n0 → family.was l n1 ≡ family.was l n0 → AreAlike (at_lanes family l1) after n1
+      → IsRegisterCut (at_lanes family lanes) j built cut kept before after found p
+  register_is_cut_over built found p n0 n1 after l l1 e e1 at cuts first first_was noted =
+      let f1 : l1 ≡ lanes = e1 ∙ e in
+      register_is_cut (at_lanes family lanes) j building cut kept before inv idle built found p n0 n1 after at
+      (subst (λ (m : ℕ). TakesRegisterCut (family.kept m) (family.start m n0) (family.history m n0) (family.history m n1) p found building built) e cuts)
+      (subst (λ (m : ℕ). family.start m n1 ≡ family.start m n0) e first) (subst (λ (m : ℕ). family.was m n1 ≡ family.was m n0) e first_was)
+      (subst (λ (m : ℕ). AreAlike (at_lanes family m) after n1) f1 noted)

@@ -20,7 +20,7 @@ use Rattle.lane_histories.specs.declared.items.Keeping.{Keeping}
 use Rattle.lane_histories.specs.Legal.{IsPrefix}
 use Rattle.lane_histories.specs.KeptContents.{IsAsFar}
 use Rattle.journal_desk.specs.Standing.{Standing}
-use Rattle.journal_desk.specs.Notes.{AreAlike}
+use Rattle.journal_desk.specs.Notes.{AreAlike, NoteOf, at_lanes}
 use Rattle.journal_desk.specs.Desks.{HoldSince}
 use Rattle.journal_desk.specs.declared.note.Note.{Ghosts as Notes}
 
@@ -31,7 +31,20 @@ pub record IsAllKept {D N : Type 0} (d : Standing D N) : Type 0 where
   pub kept : d.kept ≡ d.cut
   pub at : d.at ≡ d.disk
 
-module _ {D N : Type 0} (met : Ghosts D) (notes : Notes N) where
+-- the note is what the callers' side has seen, over as many lanes
+pub record IsUpTo {D N : Type 0} (notes : Notes N) (d : Standing D N) (lanes : ℕ) (seen : N) : Type 0 where
+  pub lanes_are : lanes ≡ d.lanes
+  pub alike : AreAlike (at_lanes notes d.lanes) d.note seen
+
+-- the journal stayed
+pub record SameJournal {D N : Type 0} (old new : Standing D N) : Type 0 where
+  pub disk : new.disk ≡ old.disk
+  pub end : new.end ≡ old.end
+  pub pending : new.pending ≡ old.pending
+  pub kept : new.kept ≡ old.kept
+  pub at : new.at ≡ old.at
+
+module _ {D N : Type 0} (met : Ghosts D) (notes : NoteOf N) where
   -- the note's lists
   abbrev pub lists : Standing D N → History notes.kept.service
   lists d = notes.history d.note
@@ -41,6 +54,7 @@ module _ {D N : Type 0} (met : Ghosts D) (notes : Notes N) where
   HasKept d moment own = HoldSince met notes.kept (notes.start d.note) (lists d) d.disk moment own
 
   pub record Continues (old new : Standing D N) : Type 0 where
+    pub lanes : new.lanes ≡ old.lanes
     pub start : notes.start new.note ≡ notes.start old.note
     pub longer : IsPrefix (lists old) (lists new)
     pub disk : SameDisk met old.disk new.disk
@@ -49,17 +63,16 @@ module _ {D N : Type 0} (met : Ghosts D) (notes : Notes N) where
     pub lasts : met.honest → (moment : ℕ) (own : Reach) → moment ≤ met.moment old.disk → IsAsFar own old.kept
         → HasKept old moment own → HasKept new moment own
 
-  abbrev pub IsUpTo : Standing D N → N → Type 0
-  IsUpTo d seen = AreAlike notes d.note seen
+  -- of the keepings in these lists that were answered Ok each is in the note, or is the desk's last
+  abbrev pub AreItsKeepings : Standing D N → History notes.kept.service → Type 0
+  AreItsKeepings d h = (i : Keeping) → IsIn h.keepings i → i.answer ≡ Kept
+      → IsIn (lists d).keepings i ⊎ ((i.own ≡ d.kept) × (i.moment ≡ met.moment d.at))
 
-  -- the journal stayed
-  pub record SameJournal (old new : Standing D N) : Type 0 where
-    pub disk : new.disk ≡ old.disk
-    pub end : new.end ≡ old.end
-    pub pending : new.pending ≡ old.pending
-    pub kept : new.kept ≡ old.kept
-    pub at : new.at ≡ old.at
+abbrev pub answer_of : {T : Type 0} → Result T Why → Answer
+answer_of (Ok x) = Kept
+answer_of (Err why) = Refused
 
+module _ {D N : Type 0} (met : Ghosts D) where
   -- by a fault only where the disk's count rose, and for want of room only where what is pending then doesn't fit
   abbrev pub MayRefuseTurn : Standing D N → Standing D N → Why → Type 0
   MayRefuseTurn old new DiskFault = Rose (met.faults old.disk) (met.faults new.disk)
@@ -75,17 +88,7 @@ module _ {D N : Type 0} (met : Ghosts D) (notes : Notes N) where
   IsFullWhere new result = (rs : List Record) → new.pending ≡ Some rs → met.most new.disk < new.end + need_of rs
       → result ≡ Err (JournalFull new.end (need_of rs) (met.most new.disk))
 
-  -- of the keepings in these lists that were answered Ok each is in the note, or is the desk's last
-  abbrev pub AreItsKeepings : Standing D N → History notes.kept.service → Type 0
-  AreItsKeepings d h = (i : Keeping) → IsIn h.keepings i → i.answer ≡ Kept
-      → IsIn (lists d).keepings i ⊎ ((i.own ≡ d.kept) × (i.moment ≡ met.moment d.at))
-
-  -- ---- the item of the keepings' list
-
-  abbrev pub answer_of : {T : Type 0} → Result T Why → Answer
-  answer_of (Ok x) = Kept
-  answer_of (Err why) = Refused
-
+  -- the item of the keepings' list
   abbrev pub keeping_of : {T : Type 0} → Standing D N → Standing D N → Result T Why → Keeping
   keeping_of old new result = record {
     cut = new.cut;

@@ -16,13 +16,13 @@ use Rattle.journal_desk.specs.KeptServices.{KeptService, contents}
 use Rattle.journal_desk.specs.Standing.{Standing}
 use Rattle.journal_desk.specs.Keepings.{AreItsKeepings, IsAllKept, keeping_of, lists}
 use Rattle.journal_desk.specs.Cuts.{AddsRecords, CutsInLane, DrawsCut, TakesCut, TakesRegisterCut, WritesCatalogue}
-use Rattle.journal_desk.specs.declared.note.Note.{Ghosts as Notes}
+use Rattle.journal_desk.specs.Notes.{NoteOf}
 
 -- where it says Ok, its numbers are what the desk keeps, and its moment is from when on
-abbrev pub KeepingsFollow : {D N : Type 0} → Ghosts D → Notes N → Type 0
+abbrev pub KeepingsFollow : {D N : Type 0} → Ghosts D → NoteOf N → Type 0
 KeepingsFollow {D} {N} met notes =
     (old new : Standing D N) (result : Result ℕ Why) → OnOk result (IsAllKept new)
-    → AreItsKeepings met notes new (with_keeping (lists met notes new) (keeping_of met notes old new result))
+    → AreItsKeepings met notes new (with_keeping (lists met notes new) (keeping_of met old new result))
 
 pub record CutCanCome (k : KeptService) (start : World k.service) (h : History k.service) (was : ℕ → k.marking.Marked) : Type 0 where
   pub draws : (g : History k.service) × DrawsCut k.service start h g (drawn h.register) (places h.register)

@@ -19,6 +19,7 @@ ghost use Rattle.journal_desk.specs.Desks.{HoldsAsFar, HoldsKept};
 ghost use Rattle.journal_desk.specs.Keepings.{AreItsKeepings, Continues, HasKept, IsAllKept};
 ghost use Rattle.journal_desk.specs.Keepings.{IsFullWhere, IsUpTo, MayRefuseTurn, SameJournal};
 ghost use Rattle.journal_desk.specs.Cuts.{CutsEach, Resumes};
+ghost use Rattle.journal_desk.specs.Notes.{at_lanes};
 
 use crate::note::Note;
 use crate::turns::Turns;
@@ -35,6 +36,9 @@ use std::snapshot::Snapshot;
 #[derive(Drop)]
 pub struct Desk<D: Disk, N: Note> {
     alloc: Global,
+
+    // Over how many lanes the note is read.
+    lanes: u32,
     journal: Journal<D>,
 
     // What was cut and not appended yet.
@@ -61,11 +65,12 @@ impl<D: Disk, N: Note> Model for Desk<D, N> {
     ghost use Rattle.journal_desk.specs.Desks.{IsSoundDesk};
     ghost use Rattle.journal_desk.specs.Standing.{standing_of};
 
-    ghost view = { λ d. standing_of d.journal (records d.building) d.cut d.kept
+    ghost view = { λ d. standing_of d.lanes d.journal (records d.building) d.cut d.kept
         (disk_of d.at.value) d.note };
 
-    ghost invariant = { λ d. IsSoundDesk N.kept (N.start d.note) (N.history d.note) (N.was d.note)
-        d.journal (records d.building) d.cut d.kept (disk_of d.at.value) };
+    ghost invariant = { λ d. IsSoundDesk (N.kept d.lanes) (N.start d.lanes d.note)
+        (N.history d.lanes d.note) (N.was d.lanes d.note) d.journal (records d.building)
+        d.cut d.kept (disk_of d.at.value) };
 }
 
 impl<D: Disk, N: Note> Desk<D, N> {
@@ -76,11 +81,13 @@ impl<D: Disk, N: Note> Desk<D, N> {
 
     /// A desk at the opening, before any request. The journal says each lane and tells the
     /// catalogue as they begin.
-    pub fn begin(alloc: Global, journal: Journal<D>, note: N) -> Desk<D, N>
-        requires none { N.history note ≡ no_history N.kept.service }
+    pub fn begin(alloc: Global, lanes: u32, journal: Journal<D>, note: N) -> Desk<D, N>
+        requires none { N.history lanes note ≡ no_history (N.kept lanes).service }
         requires idle { pending_of journal ≡ None }
-        requires says_all { SaysAll N.kept.marking }
-        requires opens { D.honest → Opens N.kept (N.start note) (N.was note) journal }
+        requires says_all { SaysAll (N.kept lanes).marking }
+        requires opens { D.honest
+            → Opens (N.kept lanes) (N.start lanes note) (N.was lanes note) journal }
+        ensures lanes { result.lanes ≡ lanes }
         ensures disk { (result.disk ≡ disk_of journal) × (result.at ≡ disk_of journal)
             × (result.end ≡ end_of journal) }
         ensures idle { (result.pending ≡ None) × (result.building ≡ []) }
@@ -91,6 +98,7 @@ impl<D: Disk, N: Note> Desk<D, N> {
         let none = Reach { c: 0, p: 0 };
         Desk {
             alloc,
+            lanes,
             journal,
             building: Batch::new(alloc),
             cut: none,
@@ -104,14 +112,15 @@ impl<D: Disk, N: Note> Desk<D, N> {
     /// or with those of the batch that is pending, which are no smaller.
     pub fn images_are_kept(&self)
         ensures images { D.honest → (image : List ℕ) → D.images self.now.disk image
-            → HoldsAsFar N.kept (N.start self.now.note) (N.history self.now.note)
-            self.now.kept image }
+            → HoldsAsFar (N.kept self.now.lanes) (N.start self.now.lanes self.now.note)
+            (N.history self.now.lanes self.now.note) self.now.kept image }
         ensures settled { D.honest → self.now.pending ≡ None
             → (image : List ℕ) → D.images self.now.disk image
-            → HoldsKept N.kept (N.start self.now.note) (N.history self.now.note)
-            self.now.kept image }
+            → HoldsKept (N.kept self.now.lanes) (N.start self.now.lanes self.now.note)
+            (N.history self.now.lanes self.now.note) self.now.kept image }
         ensures since { D.honest
-            → HasKept D.Disk N.Note self.now (D.moment self.now.disk) self.now.kept }
+            → HasKept D.Disk (at_lanes N.Note self.now.lanes) self.now (D.moment self.now.disk)
+            self.now.kept }
     {
         let _ = &self.journal;
     }
@@ -120,12 +129,14 @@ impl<D: Disk, N: Note> Desk<D, N> {
     /// kept with numbers at least as large. So it is for `kept`, since the disk was as `at` says.
     /// No keeping in the note reaches farther than `kept`.
     pub fn keepings_are_kept(&self)
-        ensures each { D.honest → (i : Keeping) → IsIn (N.history self.now.note).keepings i
-            → i.answer ≡ Kept → HasKept D.Disk N.Note self.now i.moment i.own }
+        ensures each { D.honest → (i : Keeping)
+            → IsIn (N.history self.now.lanes self.now.note).keepings i → i.answer ≡ Kept
+            → HasKept D.Disk (at_lanes N.Note self.now.lanes) self.now i.moment i.own }
         ensures own { D.honest
-            → HasKept D.Disk N.Note self.now (D.moment self.now.at) self.now.kept }
+            → HasKept D.Disk (at_lanes N.Note self.now.lanes) self.now (D.moment self.now.at)
+            self.now.kept }
         ensures far { AllByRecursion (λ i. IsAsFar i.own self.now.kept)
-            (N.history self.now.note).keepings }
+            (N.history self.now.lanes self.now.note).keepings }
     {
         let _ = &self.journal;
     }
@@ -134,11 +145,15 @@ impl<D: Disk, N: Note> Desk<D, N> {
     /// done in every lane, and at the last register cut that found memory, each 0 before there is
     /// one. `kept` has the numbers of earlier cuts.
     pub fn reach_is_of_cuts(&self)
-        ensures lanes { IsCutTo N.kept.service (N.history self.now.note) self.now.cut.c }
-        ensures register { self.now.cut.p ≡ register_cut (N.history self.now.note).register }
-        ensures kept { IsOfCuts N.kept.service (N.history self.now.note) self.now.kept }
+        ensures lanes { IsCutTo (N.kept self.now.lanes).service
+            (N.history self.now.lanes self.now.note) self.now.cut.c }
+        ensures register { self.now.cut.p
+            ≡ register_cut (N.history self.now.lanes self.now.note).register }
+        ensures kept { IsOfCuts (N.kept self.now.lanes).service
+            (N.history self.now.lanes self.now.note) self.now.kept }
         ensures far { IsAsFar self.now.kept self.now.cut }
-        ensures legal { IsLegal N.kept.service (N.start self.now.note) (N.history self.now.note) }
+        ensures legal { IsLegal (N.kept self.now.lanes).service
+            (N.start self.now.lanes self.now.note) (N.history self.now.lanes self.now.note) }
     {
         let _ = &self.journal;
     }
@@ -154,19 +169,23 @@ impl<D: Disk, N: Note> Desk<D, N> {
     pub fn into_disk(self) -> D
         ensures disk { result ≡ self.disk }
         ensures images { D.honest → (image : List ℕ) → D.images result image
-            → HoldsAsFar N.kept (N.start self.note) (N.history self.note) self.kept image }
+            → HoldsAsFar (N.kept self.lanes) (N.start self.lanes self.note)
+            (N.history self.lanes self.note) self.kept image }
     {
         self.journal.into_disk()
     }
 
     /// Brings the note up to lists that are longer by what others did since the desk's last turn.
     pub fn resume(&mut self, note: N)
-        requires start { N.start note ≡ N.start self.old.note }
-        requires was { N.was note ≡ N.was self.old.note }
-        requires legal { IsLegal N.kept.service (N.start note) (N.history note) }
-        requires resumes { Resumes (N.history self.old.note) (N.history note) self.old.kept }
-        requires keepings { AreItsKeepings D.Disk N.Note self.old (N.history note) }
-        ensures continues { Continues D.Disk N.Note self.old self.new }
+        requires start { N.start self.old.lanes note ≡ N.start self.old.lanes self.old.note }
+        requires was { N.was self.old.lanes note ≡ N.was self.old.lanes self.old.note }
+        requires legal { IsLegal (N.kept self.old.lanes).service (N.start self.old.lanes note)
+            (N.history self.old.lanes note) }
+        requires resumes { Resumes (N.history self.old.lanes self.old.note)
+            (N.history self.old.lanes note) self.old.kept }
+        requires keepings { AreItsKeepings D.Disk (at_lanes N.Note self.old.lanes) self.old
+            (N.history self.old.lanes note) }
+        ensures continues { Continues D.Disk (at_lanes N.Note self.old.lanes) self.old self.new }
         ensures note { self.new ≡ record self.old { note = note } }
     {
         self.note = note;
@@ -180,7 +199,7 @@ impl<D: Disk, N: Note> Desk<D, N> {
     /// `DiskFault` only where the disk had a fault, and `JournalFull` exactly where the batch
     /// doesn't fit behind the journal's end. The batch stays pending.
     pub fn settle(&mut self) -> Result<(), Why>
-        ensures continues { Continues D.Disk N.Note self.old self.new }
+        ensures continues { Continues D.Disk (at_lanes N.Note self.old.lanes) self.old self.new }
         ensures ok { OnOk result (self.new.pending ≡ None) }
         ensures written { (rs : List Record) → self.old.pending ≡ Some rs
             → OnOk result ((self.new.kept ≡ self.old.cut) × (self.new.at ≡ self.new.disk)) }
@@ -189,8 +208,8 @@ impl<D: Disk, N: Note> Desk<D, N> {
             × (self.new.kept ≡ self.old.kept) × (self.new.at ≡ self.old.at)) }
         ensures same { (self.new.building ≡ self.old.building) × (self.new.cut ≡ self.old.cut)
             × (self.new.note ≡ self.old.note) }
-        ensures cause { IfErr result (MayRefuseTurn D.Disk N.Note self.old self.new) }
-        ensures full { IsFullWhere D.Disk N.Note self.new result }
+        ensures cause { IfErr result (MayRefuseTurn D.Disk self.old self.new) }
+        ensures full { IsFullWhere D.Disk self.new result }
         ensures stopped { self.old.pending ≢ None → D.stopped self.old.disk → IsErr result }
     {
         if self.journal.pending() {
@@ -209,14 +228,14 @@ impl<D: Disk, N: Note> Desk<D, N> {
     /// Only where memory runs out in a lane. The other lanes are cut all the same.
     pub fn cut_lanes<T: Turns<N>>(&mut self, turns: &mut T) -> Result<u64, AllocError>
         requires idle { self.old.pending ≡ None }
-        requires here { IsUpTo D.Disk N.Note self.old (T.seen turns.old) }
-        requires lanes { T.next_lane turns.old ≡ N.kept.service.lanes }
-        ensures continues { Continues D.Disk N.Note self.old self.new }
-        ensures here { IsUpTo D.Disk N.Note self.new (T.seen turns.new) }
-        ensures lanes { T.next_lane turns.new ≡ N.kept.service.lanes }
-        ensures journal { SameJournal D.Disk N.Note self.old self.new }
+        requires here { IsUpTo N.Note self.old (T.lanes turns.old) (T.seen turns.old) }
+        requires lanes { T.next_lane turns.old ≡ (N.kept (T.lanes turns.old)).service.lanes }
+        ensures continues { Continues D.Disk (at_lanes N.Note self.old.lanes) self.old self.new }
+        ensures here { IsUpTo N.Note self.new (T.lanes turns.new) (T.seen turns.new) }
+        ensures lanes { T.next_lane turns.new ≡ (N.kept (T.lanes turns.new)).service.lanes }
+        ensures journal { SameJournal self.old self.new }
         ensures ok { IfOk result (λ c. (self.new.cut.c ≡ c)
-            × (places (N.history self.old.note).register ≤ c)) }
+            × (places (N.history self.old.lanes self.old.note).register ≤ c)) }
         ensures err { OnErr result (self.new.cut ≡ self.old.cut) }
     {
         let c = turns.draw_cut();
@@ -236,16 +255,16 @@ impl<D: Disk, N: Note> Desk<D, N> {
     /// Only where memory runs out.
     pub fn cut_register<T: Turns<N>>(&mut self, turns: &mut T) -> Result<(), AllocError>
         requires idle { self.old.pending ≡ None }
-        requires here { IsUpTo D.Disk N.Note self.old (T.seen turns.old) }
-        requires lanes { T.next_lane turns.old ≡ N.kept.service.lanes }
-        ensures continues { Continues D.Disk N.Note self.old self.new }
-        ensures here { IsUpTo D.Disk N.Note self.new (T.seen turns.new) }
-        ensures lanes { T.next_lane turns.new ≡ N.kept.service.lanes }
-        ensures journal { SameJournal D.Disk N.Note self.old self.new }
+        requires here { IsUpTo N.Note self.old (T.lanes turns.old) (T.seen turns.old) }
+        requires lanes { T.next_lane turns.old ≡ (N.kept (T.lanes turns.old)).service.lanes }
+        ensures continues { Continues D.Disk (at_lanes N.Note self.old.lanes) self.old self.new }
+        ensures here { IsUpTo N.Note self.new (T.lanes turns.new) (T.seen turns.new) }
+        ensures lanes { T.next_lane turns.new ≡ (N.kept (T.lanes turns.new)).service.lanes }
+        ensures journal { SameJournal self.old self.new }
         ensures last { OnOk result
-            (last_cut None (N.history self.new.note).register ≡ Some self.new.cut.p) }
+            (last_cut None (N.history self.new.lanes self.new.note).register ≡ Some self.new.cut.p) }
         ensures ok { OnOk result ((self.new.cut.c ≡ self.old.cut.c)
-            × (places (N.history self.old.note).register ≤ self.new.cut.p)) }
+            × (places (N.history self.old.lanes self.old.note).register ≤ self.new.cut.p)) }
         ensures err { OnErr result (self.new.cut ≡ self.old.cut) }
     {
         let places = turns.cut_register(&mut self.building);
@@ -263,17 +282,17 @@ impl<D: Disk, N: Note> Desk<D, N> {
     /// doesn't fit behind the journal's end. What was cut is then pending.
     pub fn append(&mut self) -> Result<(), Why>
         requires idle { self.old.pending ≡ None }
-        requires register { last_cut None (N.history self.old.note).register
+        requires register { last_cut None (N.history self.old.lanes self.old.note).register
             ≡ Some self.old.cut.p }
-        ensures continues { Continues D.Disk N.Note self.old self.new }
+        ensures continues { Continues D.Disk (at_lanes N.Note self.old.lanes) self.old self.new }
         ensures ok { OnOk result ((self.new.pending ≡ None) × (self.new.kept ≡ self.old.cut)
             × (self.new.at ≡ self.new.disk)) }
         ensures err { OnErr result ((self.new.pending ≡ Some self.old.building)
             × (self.new.kept ≡ self.old.kept) × (self.new.at ≡ self.old.at)) }
         ensures same { (self.new.building ≡ []) × (self.new.cut ≡ self.old.cut)
             × (self.new.note ≡ self.old.note) }
-        ensures cause { IfErr result (MayRefuseTurn D.Disk N.Note self.old self.new) }
-        ensures full { IsFullWhere D.Disk N.Note self.new result }
+        ensures cause { IfErr result (MayRefuseTurn D.Disk self.old self.new) }
+        ensures full { IsFullWhere D.Disk self.new result }
         ensures stopped { self.old.building ≢ [] → D.stopped self.old.disk → IsErr result }
     {
         append_all(self.alloc, &mut self.journal, &mut self.building)?;
@@ -292,16 +311,16 @@ impl<D: Disk, N: Note> Desk<D, N> {
     /// is pending then doesn't fit behind the journal's end; or `NoMemory`. After each, what was
     /// cut is pending or stays to be appended.
     pub fn flush<T: Turns<N>>(&mut self, turns: &mut T) -> Result<u64, Why>
-        requires here { IsUpTo D.Disk N.Note self.old (T.seen turns.old) }
-        requires lanes { T.next_lane turns.old ≡ N.kept.service.lanes }
-        ensures continues { Continues D.Disk N.Note self.old self.new }
-        ensures here { IsUpTo D.Disk N.Note self.new (T.seen turns.new) }
-        ensures lanes { T.next_lane turns.new ≡ N.kept.service.lanes }
+        requires here { IsUpTo N.Note self.old (T.lanes turns.old) (T.seen turns.old) }
+        requires lanes { T.next_lane turns.old ≡ (N.kept (T.lanes turns.old)).service.lanes }
+        ensures continues { Continues D.Disk (at_lanes N.Note self.old.lanes) self.old self.new }
+        ensures here { IsUpTo N.Note self.new (T.lanes turns.new) (T.seen turns.new) }
+        ensures lanes { T.next_lane turns.new ≡ (N.kept (T.lanes turns.new)).service.lanes }
         ensures ok { IfOk result (λ c. (self.new.kept.c ≡ c)
-            × (places (N.history self.old.note).register ≤ c)) }
+            × (places (N.history self.old.lanes self.old.note).register ≤ c)) }
         ensures all { OnOk result (IsAllKept self.new) }
-        ensures cause { IfErr result (MayRefuseTurn D.Disk N.Note self.old self.new) }
-        ensures full { IsFullWhere D.Disk N.Note self.new result }
+        ensures cause { IfErr result (MayRefuseTurn D.Disk self.old self.new) }
+        ensures full { IsFullWhere D.Disk self.new result }
         ensures stopped { self.old.pending ≢ None → D.stopped self.old.disk → IsErr result }
     {
         self.settle()?;
@@ -319,16 +338,16 @@ impl<D: Disk, N: Note> Desk<D, N> {
     ///
     /// Those of `flush`.
     pub fn keep_register<T: Turns<N>>(&mut self, turns: &mut T) -> Result<u64, Why>
-        requires here { IsUpTo D.Disk N.Note self.old (T.seen turns.old) }
-        requires lanes { T.next_lane turns.old ≡ N.kept.service.lanes }
-        ensures continues { Continues D.Disk N.Note self.old self.new }
-        ensures here { IsUpTo D.Disk N.Note self.new (T.seen turns.new) }
-        ensures lanes { T.next_lane turns.new ≡ N.kept.service.lanes }
+        requires here { IsUpTo N.Note self.old (T.lanes turns.old) (T.seen turns.old) }
+        requires lanes { T.next_lane turns.old ≡ (N.kept (T.lanes turns.old)).service.lanes }
+        ensures continues { Continues D.Disk (at_lanes N.Note self.old.lanes) self.old self.new }
+        ensures here { IsUpTo N.Note self.new (T.lanes turns.new) (T.seen turns.new) }
+        ensures lanes { T.next_lane turns.new ≡ (N.kept (T.lanes turns.new)).service.lanes }
         ensures ok { IfOk result (λ p. (self.new.kept.p ≡ p)
-            × (places (N.history self.old.note).register ≤ p)) }
+            × (places (N.history self.old.lanes self.old.note).register ≤ p)) }
         ensures all { OnOk result (IsAllKept self.new) }
-        ensures cause { IfErr result (MayRefuseTurn D.Disk N.Note self.old self.new) }
-        ensures full { IsFullWhere D.Disk N.Note self.new result }
+        ensures cause { IfErr result (MayRefuseTurn D.Disk self.old self.new) }
+        ensures full { IsFullWhere D.Disk self.new result }
         ensures stopped { self.old.pending ≢ None → D.stopped self.old.disk → IsErr result }
     {
         self.settle()?;
@@ -361,18 +380,25 @@ fn append_all<D: Disk>(
 
 // Cuts each lane, and answers whether all found memory.
 fn cut_each<N: Note, T: Turns<N>>(turns: &mut T, building: &mut Batch) -> bool
-    requires legal { IsLegal N.kept.service (N.start (T.seen turns.old))
-        (N.history (T.seen turns.old)) }
+    requires legal { IsLegal (N.kept (T.lanes turns.old)).service
+        (N.start (T.lanes turns.old) (T.seen turns.old))
+        (N.history (T.lanes turns.old) (T.seen turns.old)) }
     requires lanes { T.next_lane turns.old ≡ 0 }
-    ensures cut { CutsEach N.kept (N.start (T.seen turns.old))
-        (N.history (T.seen turns.old)) (N.history (T.seen turns.new))
-        (N.was (T.seen turns.old)) (N.was (T.seen turns.new))
-        (T.drawn turns.old).0 (T.drawn turns.old).1 N.kept.service.lanes result
+    ensures cut { CutsEach (N.kept (T.lanes turns.old))
+        (N.start (T.lanes turns.old) (T.seen turns.old))
+        (N.history (T.lanes turns.old) (T.seen turns.old))
+        (N.history (T.lanes turns.old) (T.seen turns.new))
+        (N.was (T.lanes turns.old) (T.seen turns.old))
+        (N.was (T.lanes turns.old) (T.seen turns.new))
+        (T.drawn turns.old).0 (T.drawn turns.old).1
+        (N.kept (T.lanes turns.old)).service.lanes result
         (records building.old) (records building.new) }
-    ensures lanes { T.next_lane turns.new ≡ N.kept.service.lanes }
-    ensures start { N.start (T.seen turns.new) ≡ N.start (T.seen turns.old) }
+    ensures lanes { T.next_lane turns.new ≡ (N.kept (T.lanes turns.old)).service.lanes }
+    ensures start { N.start (T.lanes turns.old) (T.seen turns.new)
+        ≡ N.start (T.lanes turns.old) (T.seen turns.old) }
+    ensures same { T.lanes turns.new ≡ T.lanes turns.old }
 {
-    let lanes = turns.lanes();
+    let lanes = turns.lane_count();
     let mut whole = true;
     let mut lane = 0;
     while lane < lanes {

@@ -51,4 +51,4 @@ module _ (k : KeptService) (start : World k.service) (h : History k.service) (wa
   }
 
 pub returns : goal.returns
-returns g c start h was legal seconds = can_come g.N.Note.kept start h was legal seconds
+returns g c lanes start h was legal seconds = can_come (g.N.Note.kept lanes) start h was legal seconds

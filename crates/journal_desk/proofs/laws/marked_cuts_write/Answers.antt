@@ -3,7 +3,7 @@ use Rattle.std.specs.FinMap.{empty}
 use Rattle.journal_desk.proofs.laws.marked_cuts_write.Goals as goal
 
 pub returns : goal.returns
-returns g c l was old now first added since cuts others catalogue = record {
+returns g c lanes l was old now first added since cuts others catalogue = record {
   now = now;
   later_is = refl;
   still = (cuts empty).still;

@@ -6,7 +6,8 @@ use Rattle.journal_desk.specs.Standing.{Standing}
 use Rattle.journal_desk.proofs.ImageLemmas.{as_far}
 use Rattle.journal_desk.proofs.AnsweredLemmas.{answered_call, answered_ok}
 use Rattle.journal_desk.proofs.ImageLemmas.{image_kept}
-use Rattle.journal_desk.proofs.ContinueLemmas.{continues_here}
+use Rattle.journal_desk.specs.Notes.{at_lanes}
+use Rattle.journal_desk.proofs.ContinueLemmas.{continues_from, continues_here}
 use Rattle.journal_desk.proofs.DeskLemmas.{append_err, append_leaves, append_ok}
 use Rattle.journal_desk.proofs.desk.Desk.append.Goals as goal
 
@@ -14,7 +15,7 @@ pub invariant_of-self : goal.invariant_of-self
 invariant_of-self g c =
     let d = c.self.inside in
     let idle = ap (λ (v : Standing g.row.D.Denot g.row.N.Denot). v.pending) c.self.view_is ∙ c.requires.idle in
-    let register = subst (λ (v : Standing g.row.D.Denot g.row.N.Denot). last_cut None (g.N.Note.history v.note).register ≡ Some v.cut.p)
+    let register = subst (λ (v : Standing g.row.D.Denot g.row.N.Denot). last_cut None (g.N.Note.history v.lanes v.note).register ≡ Some v.cut.p)
     (sym c.self.view_is) c.requires.register in
     rw c.in_err-append_all.ensures.none (record {
       desk = append_err _ _ _ _ d.journal c.append_all.new.journal (records d.building) d.cut d.kept c.self.invariant.desk idle register _
@@ -29,17 +30,18 @@ pub returns-in_err-append_all-clause-continues : goal.returns-in_err-append_all-
 returns-in_err-append_all-clause-continues g c =
     let d = c.self.inside in
     let idle = ap (λ (v : Standing g.row.D.Denot g.row.N.Denot). v.pending) c.self.view_is ∙ c.requires.idle in
-    let register = subst (λ (v : Standing g.row.D.Denot g.row.N.Denot). last_cut None (g.N.Note.history v.note).register ≡ Some v.cut.p)
+    let register = subst (λ (v : Standing g.row.D.Denot g.row.N.Denot). last_cut None (g.N.Note.history v.lanes v.note).register ≡ Some v.cut.p)
     (sym c.self.view_is) c.requires.register in
-    continues_here g.D.Disk g.N.Note d.journal c.append_all.new.journal _ _ d.cut d.cut d.kept d.kept (disk_of d.at.value) (disk_of d.at.value) d.note _ c.self.view_is
-    c.self.invariant.desk.legal c.append_all.ensures.same (as_far _)
-    (append_leaves _ _ _ _ d.journal c.append_all.new.journal (records d.building) d.cut d.kept c.self.invariant.desk idle register _ c.append_all.ensures.writes)
+    continues_from g.D.Disk g.N.Note _ _ _ c.self.view_is
+    (continues_here g.D.Disk (at_lanes g.N.Note d.lanes) d.lanes d.journal c.append_all.new.journal _ _ d.cut d.cut d.kept d.kept (disk_of d.at.value) (disk_of d.at.value)
+    d.note c.self.invariant.desk.legal c.append_all.ensures.same (as_far _)
+    (append_leaves _ _ _ _ d.journal c.append_all.new.journal (records d.building) d.cut d.kept c.self.invariant.desk idle register _ c.append_all.ensures.writes))
 
 pub invariant_of-self-2 : goal.invariant_of-self-2
 invariant_of-self-2 g c =
     let d = c.self.inside in
     let idle = ap (λ (v : Standing g.row.D.Denot g.row.N.Denot). v.pending) c.self.view_is ∙ c.requires.idle in
-    let register = subst (λ (v : Standing g.row.D.Denot g.row.N.Denot). last_cut None (g.N.Note.history v.note).register ≡ Some v.cut.p)
+    let register = subst (λ (v : Standing g.row.D.Denot g.row.N.Denot). last_cut None (g.N.Note.history v.lanes v.note).register ≡ Some v.cut.p)
     (sym c.self.view_is) c.requires.register in
     let desk = append_ok _ _ _ _ d.journal c.append_all.new.journal (records d.building) d.cut d.kept c.self.invariant.desk idle register c.in_ok-append_all.ensures.writes in
     rw (c.in_ok-append_all.ensures.none, c.of.ensures) (record {
@@ -55,8 +57,9 @@ pub returns-clause-continues : goal.returns-clause-continues
 returns-clause-continues g c =
     let d = c.self.inside in
     let idle = ap (λ (v : Standing g.row.D.Denot g.row.N.Denot). v.pending) c.self.view_is ∙ c.requires.idle in
-    let register = subst (λ (v : Standing g.row.D.Denot g.row.N.Denot). last_cut None (g.N.Note.history v.note).register ≡ Some v.cut.p)
+    let register = subst (λ (v : Standing g.row.D.Denot g.row.N.Denot). last_cut None (g.N.Note.history v.lanes v.note).register ≡ Some v.cut.p)
     (sym c.self.view_is) c.requires.register in
-    continues_here g.D.Disk g.N.Note d.journal c.append_all.new.journal _ _ d.cut d.cut d.kept d.cut (disk_of d.at.value) _ d.note _ c.self.view_is
-    c.self.invariant.desk.legal c.append_all.ensures.same c.self.invariant.desk.far
-    (append_leaves _ _ _ _ d.journal c.append_all.new.journal (records d.building) d.cut d.kept c.self.invariant.desk idle register _ c.append_all.ensures.writes)
+    continues_from g.D.Disk g.N.Note _ _ _ c.self.view_is
+    (continues_here g.D.Disk (at_lanes g.N.Note d.lanes) d.lanes d.journal c.append_all.new.journal _ _ d.cut d.cut d.kept d.cut (disk_of d.at.value) _
+    d.note c.self.invariant.desk.legal c.append_all.ensures.same c.self.invariant.desk.far
+    (append_leaves _ _ _ _ d.journal c.append_all.new.journal (records d.building) d.cut d.kept c.self.invariant.desk idle register _ c.append_all.ensures.writes))

@@ -1,7 +1,7 @@
 use Rattle.std.proofs.Common.{◌≡◌, false, true, Result, subst}
 use Rattle.std.specs.Prelude.{IsErr}
 use Rattle.flush_journal.specs.declared.why.Why.{Why}
-use Rattle.journal_desk.proofs.ContinueLemmas.{continues_both}
+use Rattle.journal_desk.proofs.ContinueLemmas.{continues_both, still_up_to}
 use Rattle.journal_desk.proofs.desk.Desk.keep_register.Goals as goal
 
 pub returns-in_err-cut_register-clause-continues : goal.returns-in_err-cut_register-clause-continues
@@ -22,3 +22,19 @@ pub returns-clause-stopped : goal.returns-clause-stopped
 returns-clause-stopped g c some off =
     let err = subst (λ (r : Result (Unit {0}) Why). IsErr r) c.in_ok-settle.was (c.settle.ensures.stopped some off) in
     absurd (let never : false ≡ true = err in cc)
+
+pub cut_register-requires-clause-here : goal.cut_register-requires-clause-here
+cut_register-requires-clause-here g c =
+    still_up_to g.N.Note _ _ _ _ c.settle.ensures.continues.lanes c.settle.ensures.same.2 c.requires.here
+
+pub returns-in_err-settle-clause-here : goal.returns-in_err-settle-clause-here
+returns-in_err-settle-clause-here g c =
+    still_up_to g.N.Note _ _ _ _ c.settle.ensures.continues.lanes c.settle.ensures.same.2 c.requires.here
+
+pub returns-in_err-append-clause-here : goal.returns-in_err-append-clause-here
+returns-in_err-append-clause-here g c =
+    still_up_to g.N.Note _ _ _ _ c.append.ensures.continues.lanes c.append.ensures.same.2 c.cut_register.ensures.here
+
+pub returns-clause-here : goal.returns-clause-here
+returns-clause-here g c =
+    still_up_to g.N.Note _ _ _ _ c.append.ensures.continues.lanes c.append.ensures.same.2 c.cut_register.ensures.here

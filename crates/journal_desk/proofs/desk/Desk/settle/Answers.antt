@@ -6,7 +6,8 @@ use Rattle.journal_desk.specs.Standing.{Standing}
 use Rattle.journal_desk.proofs.ImageLemmas.{as_far}
 use Rattle.journal_desk.proofs.AnsweredLemmas.{answered_call, answered_ok}
 use Rattle.journal_desk.proofs.ImageLemmas.{image_kept}
-use Rattle.journal_desk.proofs.ContinueLemmas.{continues_here}
+use Rattle.journal_desk.specs.Notes.{at_lanes}
+use Rattle.journal_desk.proofs.ContinueLemmas.{continues_from, continues_here}
 use Rattle.journal_desk.proofs.DeskLemmas.{settle_err, settle_leaves, settle_ok, is_pending}
 use Rattle.journal_desk.proofs.RefusalLemmas.{refused, refused_full}
 use Rattle.journal_desk.proofs.desk.Desk.settle.Goals as goal
@@ -27,9 +28,10 @@ pub returns-in_err-settle-clause-continues : goal.returns-in_err-settle-clause-c
 returns-in_err-settle-clause-continues g c =
     let d = c.self.inside in
     let p = is_pending d.journal (c.pending.ensures.0 c.if-pending.true) in
-    continues_here g.D.Disk g.N.Note d.journal c.settle.new.self _ _ d.cut d.cut d.kept d.kept (disk_of d.at.value) (disk_of d.at.value) d.note _ c.self.view_is
-    c.self.invariant.desk.legal c.settle.ensures.same (as_far _)
-    (settle_leaves _ _ _ _ d.journal c.settle.new.self (records d.building) d.cut d.kept c.self.invariant.desk p.0 p.1 _ c.settle.ensures.writes)
+    continues_from g.D.Disk g.N.Note _ _ _ c.self.view_is
+    (continues_here g.D.Disk (at_lanes g.N.Note d.lanes) d.lanes d.journal c.settle.new.self _ _ d.cut d.cut d.kept d.kept (disk_of d.at.value) (disk_of d.at.value)
+    d.note c.self.invariant.desk.legal c.settle.ensures.same (as_far _)
+    (settle_leaves _ _ _ _ d.journal c.settle.new.self (records d.building) d.cut d.kept c.self.invariant.desk p.0 p.1 _ c.settle.ensures.writes))
 
 pub returns-in_err-settle-clause-err : goal.returns-in_err-settle-clause-err
 returns-in_err-settle-clause-err g c =
@@ -47,7 +49,7 @@ returns-in_err-settle-clause-cause g c =
     let d = c.self.inside in
     let p = is_pending d.journal (c.pending.ensures.0 c.if-pending.true) in
     let found = err_from_is_err_and c.from_residual.result c.from_residual.ensures.1 in
-    refused g.D.Disk g.N.Note d.journal c.settle.new.self p.0 c.settle.ensures.same
+    refused g.D.Disk d.lanes d.journal c.settle.new.self p.0 c.settle.ensures.same
     (records d.building) (records d.building) d.cut d.kept (disk_of d.at.value) d.note _ _ _ c.self.view_is (found.1 ∙ ap Err found.2) (c.in_err-settle.ensures.tries p.0 p.1)
 
 pub returns-in_err-settle-clause-full : goal.returns-in_err-settle-clause-full
@@ -55,7 +57,7 @@ returns-in_err-settle-clause-full g c =
     let d = c.self.inside in
     let p = is_pending d.journal (c.pending.ensures.0 c.if-pending.true) in
     let found = err_from_is_err_and c.from_residual.result c.from_residual.ensures.1 in
-    refused_full g.D.Disk g.N.Note d.journal c.settle.new.self p.0 c.settle.ensures.same
+    refused_full g.D.Disk d.lanes d.journal c.settle.new.self p.0 c.settle.ensures.same
     (records d.building) (records d.building) d.cut d.kept (disk_of d.at.value) d.note _ _ (found.1 ∙ ap Err found.2) (c.in_err-settle.ensures.tries p.0 p.1)
 
 pub invariant_of-self-then-pending : goal.invariant_of-self-then-pending
@@ -76,6 +78,7 @@ pub returns-in_ok-settle-clause-continues : goal.returns-in_ok-settle-clause-con
 returns-in_ok-settle-clause-continues g c =
     let d = c.self.inside in
     let p = is_pending d.journal (c.pending.ensures.0 c.if-pending.true) in
-    continues_here g.D.Disk g.N.Note d.journal c.settle.new.self _ _ d.cut d.cut d.kept d.cut (disk_of d.at.value) _ d.note _ c.self.view_is
-    c.self.invariant.desk.legal c.settle.ensures.same c.self.invariant.desk.far
-    (settle_leaves _ _ _ _ d.journal c.settle.new.self (records d.building) d.cut d.kept c.self.invariant.desk p.0 p.1 _ c.settle.ensures.writes)
+    continues_from g.D.Disk g.N.Note _ _ _ c.self.view_is
+    (continues_here g.D.Disk (at_lanes g.N.Note d.lanes) d.lanes d.journal c.settle.new.self _ _ d.cut d.cut d.kept d.cut (disk_of d.at.value) _
+    d.note c.self.invariant.desk.legal c.settle.ensures.same c.self.invariant.desk.far
+    (settle_leaves _ _ _ _ d.journal c.settle.new.self (records d.building) d.cut d.kept c.self.invariant.desk p.0 p.1 _ c.settle.ensures.writes))
