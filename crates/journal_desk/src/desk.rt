@@ -230,9 +230,11 @@ impl<D: Disk, N: Note> Desk<D, N> {
         requires idle { self.old.pending ≡ None }
         requires here { IsUpTo N.Note self.old (T.lanes turns.old) (T.seen turns.old) }
         requires lanes { T.next_lane turns.old ≡ (N.kept (T.lanes turns.old)).service.lanes }
+        requires ready { T.ready turns.old }
         ensures continues { Continues D.Disk (at_lanes N.Note self.old.lanes) self.old self.new }
         ensures here { IsUpTo N.Note self.new (T.lanes turns.new) (T.seen turns.new) }
         ensures lanes { T.next_lane turns.new ≡ (N.kept (T.lanes turns.new)).service.lanes }
+        ensures ready { T.ready turns.new }
         ensures journal { SameJournal self.old self.new }
         ensures ok { IfOk result (λ c. (self.new.cut.c ≡ c)
             × (places (N.history self.old.lanes self.old.note).register ≤ c)) }
@@ -257,9 +259,11 @@ impl<D: Disk, N: Note> Desk<D, N> {
         requires idle { self.old.pending ≡ None }
         requires here { IsUpTo N.Note self.old (T.lanes turns.old) (T.seen turns.old) }
         requires lanes { T.next_lane turns.old ≡ (N.kept (T.lanes turns.old)).service.lanes }
+        requires ready { T.ready turns.old }
         ensures continues { Continues D.Disk (at_lanes N.Note self.old.lanes) self.old self.new }
         ensures here { IsUpTo N.Note self.new (T.lanes turns.new) (T.seen turns.new) }
         ensures lanes { T.next_lane turns.new ≡ (N.kept (T.lanes turns.new)).service.lanes }
+        ensures ready { T.ready turns.new }
         ensures journal { SameJournal self.old self.new }
         ensures last { OnOk result
             (last_cut None (N.history self.new.lanes self.new.note).register ≡ Some self.new.cut.p) }
@@ -313,9 +317,11 @@ impl<D: Disk, N: Note> Desk<D, N> {
     pub fn flush<T: Turns<N>>(&mut self, turns: &mut T) -> Result<u64, Why>
         requires here { IsUpTo N.Note self.old (T.lanes turns.old) (T.seen turns.old) }
         requires lanes { T.next_lane turns.old ≡ (N.kept (T.lanes turns.old)).service.lanes }
+        requires ready { T.ready turns.old }
         ensures continues { Continues D.Disk (at_lanes N.Note self.old.lanes) self.old self.new }
         ensures here { IsUpTo N.Note self.new (T.lanes turns.new) (T.seen turns.new) }
         ensures lanes { T.next_lane turns.new ≡ (N.kept (T.lanes turns.new)).service.lanes }
+        ensures ready { T.ready turns.new }
         ensures ok { IfOk result (λ c. (self.new.kept.c ≡ c)
             × (places (N.history self.old.lanes self.old.note).register ≤ c)) }
         ensures all { OnOk result (IsAllKept self.new) }
@@ -340,9 +346,11 @@ impl<D: Disk, N: Note> Desk<D, N> {
     pub fn keep_register<T: Turns<N>>(&mut self, turns: &mut T) -> Result<u64, Why>
         requires here { IsUpTo N.Note self.old (T.lanes turns.old) (T.seen turns.old) }
         requires lanes { T.next_lane turns.old ≡ (N.kept (T.lanes turns.old)).service.lanes }
+        requires ready { T.ready turns.old }
         ensures continues { Continues D.Disk (at_lanes N.Note self.old.lanes) self.old self.new }
         ensures here { IsUpTo N.Note self.new (T.lanes turns.new) (T.seen turns.new) }
         ensures lanes { T.next_lane turns.new ≡ (N.kept (T.lanes turns.new)).service.lanes }
+        ensures ready { T.ready turns.new }
         ensures ok { IfOk result (λ p. (self.new.kept.p ≡ p)
             × (places (N.history self.old.lanes self.old.note).register ≤ p)) }
         ensures all { OnOk result (IsAllKept self.new) }
@@ -384,6 +392,7 @@ fn cut_each<N: Note, T: Turns<N>>(turns: &mut T, building: &mut Batch) -> bool
         (N.start (T.lanes turns.old) (T.seen turns.old))
         (N.history (T.lanes turns.old) (T.seen turns.old)) }
     requires lanes { T.next_lane turns.old ≡ 0 }
+    requires ready { T.ready turns.old }
     ensures cut { CutsEach (N.kept (T.lanes turns.old))
         (N.start (T.lanes turns.old) (T.seen turns.old))
         (N.history (T.lanes turns.old) (T.seen turns.old))
@@ -397,6 +406,7 @@ fn cut_each<N: Note, T: Turns<N>>(turns: &mut T, building: &mut Batch) -> bool
     ensures start { N.start (T.lanes turns.old) (T.seen turns.new)
         ≡ N.start (T.lanes turns.old) (T.seen turns.old) }
     ensures same { T.lanes turns.new ≡ T.lanes turns.old }
+    ensures ready { T.ready turns.new }
 {
     let lanes = turns.lane_count();
     let mut whole = true;

@@ -11,6 +11,9 @@ use std::alloc::AllocError;
 /// What the callers' side does in a turn of its desk. Between two calls others ask and take turns
 /// of lanes; none of them cuts.
 pub trait Turns<N: Note> {
+    /// It stands between two steps of its own as they need it.
+    ghost ready: { Self → Type 0 };
+
     /// Over how many lanes notes are read here. No step changes it.
     ghost lanes: { Self → ℕ };
 
@@ -25,10 +28,12 @@ pub trait Turns<N: Note> {
 
     /// How many lanes there are.
     fn lane_count(&self) -> u32
+        requires ready { ready self.now }
         ensures { result ≡ (N.kept (lanes self.now)).service.lanes };
 
     /// A note of what was seen last.
     fn note(&mut self) -> N
+        requires ready { ready self.old }
         ensures start { N.start (lanes self.old) result
             ≡ N.start (lanes self.old) (seen self.old) }
         ensures history { N.history (lanes self.old) result
@@ -37,11 +42,13 @@ pub trait Turns<N: Note> {
         ensures seen { seen self.new ≡ seen self.old }
         ensures cut { (drawn self.new ≡ drawn self.old)
             × (next_lane self.new ≡ next_lane self.old) }
-        ensures same { lanes self.new ≡ lanes self.old };
+        ensures same { lanes self.new ≡ lanes self.old }
+        ensures ready { ready self.new };
 
     /// Draws a cut at the register, with a ticket in each lane, and answers how many places had
     /// been given.
     fn draw_cut(&mut self) -> u64
+        requires ready { ready self.old }
         requires passed { next_lane self.old ≡ (N.kept (lanes self.old)).service.lanes }
         ensures cut { DrawsCut (N.kept (lanes self.old)).service
             (N.start (lanes self.old) (seen self.old))
@@ -54,7 +61,8 @@ pub trait Turns<N: Note> {
             ≡ N.start (lanes self.old) (seen self.old) }
         ensures was { N.was (lanes self.old) (seen self.new)
             ≡ N.was (lanes self.old) (seen self.old) }
-        ensures same { lanes self.new ≡ lanes self.old };
+        ensures same { lanes self.new ≡ lanes self.old }
+        ensures ready { ready self.new };
 
     /// Cuts the next lane in its turn.
     ///
@@ -62,6 +70,7 @@ pub trait Turns<N: Note> {
     ///
     /// Only where memory runs out. Then no record is added, and the lane is marked as it was.
     fn cut_lane(&mut self, into: &mut Batch) -> Result<(), AllocError>
+        requires ready { ready self.old }
         requires left { next_lane self.old < (N.kept (lanes self.old)).service.lanes }
         ensures cut { TakesCut (N.kept (lanes self.old))
             (N.start (lanes self.old) (seen self.old))
@@ -74,7 +83,8 @@ pub trait Turns<N: Note> {
         ensures start { N.start (lanes self.old) (seen self.new)
             ≡ N.start (lanes self.old) (seen self.old) }
         ensures drawn { drawn self.new ≡ drawn self.old }
-        ensures same { lanes self.new ≡ lanes self.old };
+        ensures same { lanes self.new ≡ lanes self.old }
+        ensures ready { ready self.new };
 
     /// Cuts the register, and answers how many places had been given.
     ///
@@ -82,6 +92,7 @@ pub trait Turns<N: Note> {
     ///
     /// Only where memory runs out. Then no record is added.
     fn cut_register(&mut self, into: &mut Batch) -> Result<u64, AllocError>
+        requires ready { ready self.old }
         requires passed { next_lane self.old ≡ (N.kept (lanes self.old)).service.lanes }
         ensures cut { (p : ℕ) × TakesRegisterCut (N.kept (lanes self.old))
             (N.start (lanes self.old) (seen self.old))
@@ -93,5 +104,6 @@ pub trait Turns<N: Note> {
             ≡ N.start (lanes self.old) (seen self.old) }
         ensures was { N.was (lanes self.old) (seen self.new)
             ≡ N.was (lanes self.old) (seen self.old) }
-        ensures same { lanes self.new ≡ lanes self.old };
+        ensures same { lanes self.new ≡ lanes self.old }
+        ensures ready { ready self.new };
 }

@@ -8,13 +8,13 @@ use Rattle.journal_desk.proofs.StepLemmas.{cut_next, cut_none}
 use Rattle.journal_desk.proofs.desk.cut_each.Goals as goal
 
 pub loop-lane-init : goal.loop-lane-init
-loop-lane-init g c = (cut_none _ _ _ _ _ _ _ c.requires.legal, refl, refl, c.requires.lanes, omega arith, c.lane_count-lanes.ensures, refl)
+loop-lane-init g c = (cut_none _ _ _ _ _ _ _ c.requires.legal, refl, refl, c.requires.lanes, omega arith, c.lane_count-lanes.ensures, refl, c.requires.ready)
 
 pub cut_lane-requires : goal.cut_lane-requires
 cut_lane-requires g c =
     let i = c.loop-lane.invariant in
     let same = ap (λ (m : ℕ). (g.N.Note.kept m).service.lanes) i.6 in
-    omega (arith, same, i.3, i.5, c.loop-lane-test.true)
+    record { ready = i.7; left = omega (arith, same, i.3, i.5, c.loop-lane-test.true) }
 
 pub loop-lane-preserved : goal.loop-lane-preserved
 loop-lane-preserved g c =
@@ -39,6 +39,7 @@ loop-lane-preserved g c =
       omega (arith, c.loop-lane-test.true),
       i.5,
       taken.same ∙ i.6,
+      taken.ready,
     )
 
 pub returns-clause-cut : goal.returns-clause-cut
@@ -59,3 +60,6 @@ returns-clause-start g c = let i = c.loop-lane.invariant in i.1
 
 pub returns-clause-same : goal.returns-clause-same
 returns-clause-same g c = let i = c.loop-lane.invariant in i.6
+
+pub returns-clause-ready : goal.returns-clause-ready
+returns-clause-ready g c = let i = c.loop-lane.invariant in i.7

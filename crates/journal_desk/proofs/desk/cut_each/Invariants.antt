@@ -13,7 +13,7 @@ invariant-loop-lane g l =
     (turns.drawn l.fn.turns).0 (turns.drawn l.fn.turns).1 l.lane l.whole (records l.fn.building) (records l.building)
     × (note.start (turns.seen l.turns) ≡ note.start (turns.seen l.fn.turns)) × (turns.drawn l.turns ≡ turns.drawn l.fn.turns)
     × (turns.next_lane l.turns ≡ l.lane) × (l.lane ≤ l.lanes) × (l.lanes ≡ note.kept.service.lanes)
-    × (turns.lanes l.turns ≡ turns.lanes l.fn.turns)
+    × (turns.lanes l.turns ≡ turns.lanes l.fn.turns) × turns.ready l.turns
 
 abbrev pub decreases-loop-lane : goal.decreases-loop-lane
 decreases-loop-lane g l = l.lanes - l.lane
