@@ -16,3 +16,4 @@ pub mod ClosingLemmas
 pub mod LeftLemmas
 pub mod KeptLemmas
 pub mod WantLemmas
+pub mod DoneLemmas

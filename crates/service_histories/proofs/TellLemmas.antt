@@ -1,5 +1,6 @@
 -- What is held of a world of which all is kept, and of one that is installed.
-use Rattle.std.proofs.Common.{◌≡◌, ℕ, zero, suc, ◌+◌, ◌<◌, List, [], ◌∷◌, length, Option, Some, None, refl, sym, ap, subst, ◌∙◌, arith}
+use Rattle.std.proofs.Common.{◌≡◌, ◌≢◌, ⊎_elim, ℕ, zero, suc, ◌+◌, ◌<◌, List, [], ◌∷◌, length, Option, Some, None, refl, sym, ap, subst, ◌∙◌, arith}
+use Rattle.std.proofs.lemmas.Bool.Decides.{eqb_tells}
 use Rattle.std.proofs.Math.Nat.{mod-lt}
 use Rattle.std.specs.FinMap.{get}
 use Rattle.std.specs.List.{AllByRecursion}
@@ -31,9 +32,9 @@ use Rattle.lane_histories.specs.declared.items.Reach.{Reach}
 use Rattle.service_histories.specs.ArrayServices.{IsSameOrGone, KeptPart, array_service, gone, same}
 use Rattle.service_histories.specs.Readies.{IsGivenIn, array_readiness}
 use Rattle.service_core.specs.Steps.{IsGiven}
-use Rattle.service_histories.specs.JournalParts.{TellsLane, array_contents}
+use Rattle.service_histories.specs.JournalParts.{TellsLane, TellsRegister, array_contents}
 use Rattle.service_histories.specs.Markings.{IsOwner}
-use Rattle.service_histories.specs.Tellings.{InstallsAreTold, IsInstalledAs, IsWorldOfTold, KeptWorldsAreDescribed, KeptWorldsAreTold, objects_in}
+use Rattle.service_histories.specs.Tellings.{InstallsAreTold, IsInstalledAs, IsWorldOfTold, KeptWorldsAreDescribed, KeptWorldsAreTold, WorldsToldAreOne, objects_in}
 use Rattle.service_histories.proofs.CutLemmas.{says_all}
 
 -- records tell one object at an id
@@ -89,6 +90,31 @@ module _ (lanes : ℕ) where
 
   pub installs_are_told : RegistersAreOne → TellsOne → InstallsAreTold lanes
   installs_are_told one_register one_object held w s some told whole_ones is = installed one_register one_object held w s some told whole_ones is
+
+  -- ---- one world is told
+
+  away : (l : ℕ) (held : Held) (m : Objects) → TellsLane lanes l held m → (id : Id) → lane_of lanes id ≢ l → (p : Option Object) → get m id ≡ p → get m id ≡ None
+  away l held m told id far None at = at
+  away l held m told id far (Some o) at = absurd (far (told.home id o at))
+
+  module _ (one_object : TellsOne) (l : ℕ) (held : Held) (m n : Objects) (told : TellsLane lanes l held m) (again : TellsLane lanes l held n) where
+    same_object : (id : Id) → InRange id → get n id ≡ get m id
+    same_object id range = ⊎_elim
+        (λ here. one_object held id (get n id) (get m id) (again.parts id) (told.parts id) (again.described id range here.1) (told.described id range here.1))
+        (λ far. away l held n again id far.1 (get n id) refl ∙ sym (away l held m told id far.1 (get m id) refl))
+        (eqb_tells (lane_of lanes id) l)
+
+  module _ (one_register : RegistersAreOne) (held : Held) (c d : KeptPart) (told : TellsRegister held c) (again : TellsRegister held d) where
+    same_part : d ≡ c
+    same_part =
+        let one = one_register held c.run d.run c.contents d.contents (told.sound held told.says) (again.sound held again.says) in
+        λ i. record { contents = one.1 i; run = one.0 i }
+
+  pub worlds_told_are_one : RegistersAreOne → TellsOne → WorldsToldAreOne lanes
+  worlds_told_are_one one_register one_object held w v told again = record {
+    catalogue = same_part one_register held w.catalogue v.catalogue told.catalogue again.catalogue;
+    objects = λ l few id range. same_object one_object l held (w.objects l) (v.objects l) (told.lanes l few) (again.lanes l few) id range;
+  }
 
   -- ---- a world that is kept
 

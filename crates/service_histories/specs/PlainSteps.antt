@@ -4,7 +4,8 @@
 --     EntriesAreSteps           one entry is one step
 --     ReplaysAreSteps           and a register's list is the steps of its requests, in order of places
 --     HistoriesAreReplays       so a history in which all was done is the replay of one world
-use Rattle.std.specs.Prelude.{◌≡◌, ◌≢◌, ℕ, ◌<◌, List, [], ◌∷◌, length, map, option_map, slice_get}
+--     AllDoneExactly            which is one that found memory wherever it was wanted
+use Rattle.std.specs.Prelude.{◌≡◌, ◌≢◌, ◌↔◌, ℕ, ◌<◌, List, [], ◌∷◌, length, map, option_map, slice_get}
 use Rattle.std.specs.FinMap.{get}
 use Rattle.std.specs.List.{AllByRecursion}
 use Rattle.access_lists.specs.declared.people.Caller.{Caller}
@@ -23,7 +24,7 @@ use Rattle.service_core.specs.declared.answers.What.TheVariants as what
 use Rattle.lane_histories.specs.declared.items.Entry.{Entry}
 use Rattle.lane_histories.specs.declared.items.RegisterItem.{RegisterItem}
 use Rattle.lane_histories.specs.declared.items.RegisterItem.TheVariants.{Entered, DrawnCut, RegisterCut}
-use Rattle.lane_histories.specs.Histories.{History, objects_after, places, register_after}
+use Rattle.lane_histories.specs.Histories.{History, IsIn, issued, objects_after, places, register_after, tickets}
 use Rattle.lane_histories.specs.Laws.{IsWhole}
 use Rattle.lane_histories.specs.Legal.{IsLegal, IsLegalRegister}
 use Rattle.lane_histories.specs.PlainReplays.{plain_answers, plain_step, plainly, turns_reply}
@@ -31,6 +32,7 @@ use Rattle.lane_histories.specs.Replies.{by_register, by_turn, no_memory}
 use Rattle.lane_histories.specs.Replies.{reply as reply_at}
 use Rattle.lane_histories.specs.Replies.{What as LaneWhat}
 use Rattle.lane_histories.specs.Services.{World}
+use Rattle.lane_histories.specs.Shorts.{IsShortAt}
 use Rattle.service_histories.specs.ArrayServices.{Asked, MayDecide, array_service, turns_of}
 
 -- ---- one world
@@ -130,3 +132,14 @@ abbrev pub HistoriesAreReplays : ℕ → Type 0
 HistoriesAreReplays lanes =
     (start : World (array_service lanes)) (h : History (array_service lanes)) (v : OneWorld)
     → IsOverLanes lanes start → IsSeenAlike lanes start v → IsAllDone lanes start h → IsAsOneWorld lanes start h v
+
+-- each ticket was passed, no turn found no memory, and no verdict is that memory was wanting
+pub record WantsNothing (lanes : ℕ) (h : History (array_service lanes)) : Type 0 where
+  pub passed : (l : ℕ) → tickets (h.lane l) ≡ issued (array_service lanes) l h.register
+  pub turns : (place : ℕ) → IsShortAt h place → ⊥
+  pub verdicts : (e : Entry Asked Verdict) → IsIn h.register (Entered e) → e.verdict ≢ verdict.NoMemory
+
+abbrev pub AllDoneExactly : ℕ → Type 0
+AllDoneExactly lanes =
+    (start : World (array_service lanes)) (h : History (array_service lanes))
+    → IsAllDone lanes start h ↔ (IsLegal (array_service lanes) start h × WantsNothing lanes h)

@@ -5,6 +5,7 @@
 --     KeptWorldsAreTold      what is held of a world of which all is kept tells it
 --     KeptWorldsAreDescribed  what tells a world that is kept describes it, so that it opens again
 --     InstallsAreTold        a world that is installed from what tells a world is that, at the begin of the next run
+--     WorldsToldAreOne       what is held tells one world
 use Rattle.std.specs.Prelude.{◌≡◌, ℕ, zero, suc, ◌+◌, ◌<◌, List, [], ◌∷◌, length, Some, slice_get}
 use Rattle.std.specs.FinMap.{empty, get}
 use Rattle.std.specs.List.{AllByRecursion}
@@ -69,6 +70,18 @@ abbrev pub InstallsAreTold : ℕ → Type 0
 InstallsAreTold lanes =
     (held : Held) (w : ToldWorld (array_service lanes)) (s : State) → 0 < lanes → TellsAll (array_contents lanes) held w
     → AreWhole (whole s.lanes) → IsWorldOf held lanes s → IsInstalledAs lanes w s
+
+-- ---- one world is told
+
+-- the same run, folders and domains; and of each lane the same objects, at each id that a key may have
+pub record IsSameTold (lanes : ℕ) (w v : ToldWorld (array_service lanes)) : Type 0 where
+  pub catalogue : v.catalogue ≡ w.catalogue
+  pub objects : (l : ℕ) → l < lanes → (id : Id) → InRange id → get (v.objects l) id ≡ get (w.objects l) id
+
+abbrev pub WorldsToldAreOne : ℕ → Type 0
+WorldsToldAreOne lanes =
+    (held : Held) (w v : ToldWorld (array_service lanes)) → TellsAll (array_contents lanes) held w
+    → TellsAll (array_contents lanes) held v → IsSameTold lanes w v
 
 -- ---- a world that is kept
 

@@ -29,12 +29,12 @@ ghost use Rattle.service_histories.specs.JournalParts.{array_contents};
 ghost use Rattle.service_histories.specs.KeptArrays.{OwnerCutsWrite, RegisterCutsWrite};
 ghost use Rattle.service_histories.specs.KeptObjects.{KeptObjectsStand};
 ghost use Rattle.service_histories.specs.Markings.{array_marking};
-ghost use Rattle.service_histories.specs.PlainSteps.{EntriesAreSteps, HistoriesAreReplays};
-ghost use Rattle.service_histories.specs.PlainSteps.{ReplaysAreSteps};
+ghost use Rattle.service_histories.specs.PlainSteps.{AllDoneExactly, EntriesAreSteps};
+ghost use Rattle.service_histories.specs.PlainSteps.{HistoriesAreReplays, ReplaysAreSteps};
 ghost use Rattle.service_histories.specs.Readies.{TurnsFindWhatTheyNeed, array_readiness};
 ghost use Rattle.service_histories.specs.Tellings.{InstallsAreTold, KeptRegistersAreSince};
 ghost use Rattle.service_histories.specs.Tellings.{KeptWorldsAreDescribed, KeptWorldsAreTold};
-ghost use Rattle.service_histories.specs.Tellings.{OwnersAreSaid, WorldsOpen};
+ghost use Rattle.service_histories.specs.Tellings.{OwnersAreSaid, WorldsOpen, WorldsToldAreOne};
 ghost use Rattle.service_histories.specs.Wants.{WantsAreTold};
 
 use crate::service::ArrayService;
@@ -85,12 +85,15 @@ pub fn wants_of_memory_are_told()
 /// Where each ticket was passed and each turn found memory, the world and the answers are those of
 /// requests done one after another; and one such request is a step of `World::step`. So a history
 /// in which all was done and no memory was wanting is the replay of one world, in order of places.
+/// Such a history is a legal one in which each ticket was passed, and neither a verdict nor a turn
+/// found no memory.
 pub fn whole_histories_are_plain()
     ensures world { (lanes : ℕ) → WholeIsPlain (array_service lanes) }
     ensures answers { (lanes : ℕ) → WholeAnswersArePlain (array_service lanes) }
     ensures entry { (lanes : ℕ) → EntriesAreSteps lanes }
     ensures replay { (lanes : ℕ) → ReplaysAreSteps lanes }
     ensures history { (lanes : ℕ) → HistoriesAreReplays lanes }
+    ensures done { (lanes : ℕ) → AllDoneExactly lanes }
 {
     lane_histories::whole_histories_are_plain::<ArrayService>();
     decisions_keep();
@@ -231,13 +234,14 @@ pub fn worlds_close()
     lane_histories::turns_are_ready::<ArrayService>();
 }
 
-/// What is held of a world of which all is kept tells it, lane by lane. What tells a world that is
-/// kept from a legal history describes it, so that it opens again; and a world that is installed
-/// from it is the one that it tells, at the begin of the next run.
+/// What is held of a world of which all is kept tells it, lane by lane. What is held tells one
+/// world. What tells a world that is kept from a legal history describes it, so that it opens again;
+/// and a world that is installed from it is the one that it tells, at the begin of the next run.
 pub fn worlds_are_told()
     ensures all { (lanes : ℕ) → KeptWorldsAreTold lanes }
     ensures described { (lanes : ℕ) → KeptWorldsAreDescribed lanes }
     ensures installed { (lanes : ℕ) → InstallsAreTold lanes }
+    ensures one { (lanes : ℕ) → WorldsToldAreOne lanes }
 {
     decisions_keep();
     lane_histories::turns_are_ready::<ArrayService>();

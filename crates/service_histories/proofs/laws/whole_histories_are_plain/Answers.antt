@@ -1,3 +1,4 @@
+use Rattle.service_histories.proofs.DoneLemmas.{all_done_exactly}
 use Rattle.service_histories.proofs.EntryLemmas.{entries_are_steps, histories_are_replays, replays_are_steps}
 use Rattle.service_histories.proofs.laws.whole_histories_are_plain.Goals as goal
 
@@ -12,4 +13,5 @@ returns c =
       entry = entries_are_steps issues;
       replay = λ lanes. replays_are_steps issues lanes alike;
       history = λ lanes. histories_are_replays issues alike lanes (plain.world lanes) (plain.answers lanes);
+      done = all_done_exactly;
     }
