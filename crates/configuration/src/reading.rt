@@ -1,4 +1,5 @@
-ghost use Rattle.std.specs.Prelude.{◌≡◌, [], true, false, Some, None, IfOk, IsErrOf, IsSomeAnd, codes, option_and_then};
+ghost use Rattle.std.specs.Prelude.{◌≡◌, ◌⊎◌, [], true, false, Some, None, IfOk, IsErrOf, IsSomeAnd, codes, option_and_then};
+ghost use Rattle.toml.specs.Errors.{IsMemory};
 ghost use Rattle.toml.specs.View.{table_view};
 ghost use Rattle.configuration.specs.Configured.{catalogue_in, config_of, document_in, is_config_key, tokens_in};
 ghost use Rattle.configuration.specs.ConfiguredNodes.{HasFirstRoots, HasFirstSerials};
@@ -16,6 +17,7 @@ use domains::Catalogue;
 use std::alloc::Global;
 use std::str;
 use toml::Table;
+use toml::de::Error;
 
 /// Reads a configuration from the bytes of a TOML document.
 ///
@@ -58,8 +60,19 @@ fn read_document(alloc: Global, text: &[u8]) -> Result<Table, ConfigFault>
     };
     match toml::table_from_str(alloc, text) {
         Ok(table) => Ok(table),
-        Err(error) if error.is_memory() => Err(ConfigFault::NoMemory),
-        Err(_) => Err(ConfigFault::BadToml),
+        Err(error) => Err(toml_fault(&error)),
+    }
+}
+
+// Memory ran out where `toml` says so, and nowhere else.
+fn toml_fault(error: &Error) -> ConfigFault
+    ensures { ((result ≡ ConfigFault.NoMemory) × IsMemory error.now)
+        ⊎ ((result ≡ ConfigFault.BadToml) × ¬ (IsMemory error.now)) }
+{
+    if error.is_memory() {
+        ConfigFault::NoMemory
+    } else {
+        ConfigFault::BadToml
     }
 }
 
