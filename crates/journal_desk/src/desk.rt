@@ -235,6 +235,7 @@ impl<D: Disk, N: Note> Desk<D, N> {
         ensures here { IsUpTo N.Note self.new (T.lanes turns.new) (T.seen turns.new) }
         ensures lanes { T.next_lane turns.new ≡ (N.kept (T.lanes turns.new)).service.lanes }
         ensures ready { T.ready turns.new }
+        ensures fixed { T.fixed turns.new ≡ T.fixed turns.old }
         ensures journal { SameJournal self.old self.new }
         ensures ok { IfOk result (λ c. (self.new.cut.c ≡ c)
             × (places (N.history self.old.lanes self.old.note).register ≤ c)) }
@@ -264,6 +265,7 @@ impl<D: Disk, N: Note> Desk<D, N> {
         ensures here { IsUpTo N.Note self.new (T.lanes turns.new) (T.seen turns.new) }
         ensures lanes { T.next_lane turns.new ≡ (N.kept (T.lanes turns.new)).service.lanes }
         ensures ready { T.ready turns.new }
+        ensures fixed { T.fixed turns.new ≡ T.fixed turns.old }
         ensures journal { SameJournal self.old self.new }
         ensures last { OnOk result
             (last_cut None (N.history self.new.lanes self.new.note).register ≡ Some self.new.cut.p) }
@@ -322,6 +324,7 @@ impl<D: Disk, N: Note> Desk<D, N> {
         ensures here { IsUpTo N.Note self.new (T.lanes turns.new) (T.seen turns.new) }
         ensures lanes { T.next_lane turns.new ≡ (N.kept (T.lanes turns.new)).service.lanes }
         ensures ready { T.ready turns.new }
+        ensures fixed { T.fixed turns.new ≡ T.fixed turns.old }
         ensures ok { IfOk result (λ c. (self.new.kept.c ≡ c)
             × (places (N.history self.old.lanes self.old.note).register ≤ c)) }
         ensures all { OnOk result (IsAllKept self.new) }
@@ -351,6 +354,7 @@ impl<D: Disk, N: Note> Desk<D, N> {
         ensures here { IsUpTo N.Note self.new (T.lanes turns.new) (T.seen turns.new) }
         ensures lanes { T.next_lane turns.new ≡ (N.kept (T.lanes turns.new)).service.lanes }
         ensures ready { T.ready turns.new }
+        ensures fixed { T.fixed turns.new ≡ T.fixed turns.old }
         ensures ok { IfOk result (λ p. (self.new.kept.p ≡ p)
             × (places (N.history self.old.lanes self.old.note).register ≤ p)) }
         ensures all { OnOk result (IsAllKept self.new) }
@@ -407,6 +411,7 @@ fn cut_each<N: Note, T: Turns<N>>(turns: &mut T, building: &mut Batch) -> bool
         ≡ N.start (T.lanes turns.old) (T.seen turns.old) }
     ensures same { T.lanes turns.new ≡ T.lanes turns.old }
     ensures ready { T.ready turns.new }
+    ensures fixed { T.fixed turns.new ≡ T.fixed turns.old }
 {
     let lanes = turns.lane_count();
     let mut whole = true;

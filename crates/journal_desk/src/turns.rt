@@ -14,6 +14,11 @@ pub trait Turns<N: Note> {
     /// It stands between two steps of its own as they need it.
     ghost ready: { Self → Type 0 };
 
+    /// What no step changes.
+    ghost Fixed: { Type 0 };
+
+    ghost fixed: { Self → Fixed };
+
     /// Over how many lanes notes are read here. No step changes it.
     ghost lanes: { Self → ℕ };
 
@@ -43,6 +48,7 @@ pub trait Turns<N: Note> {
         ensures cut { (drawn self.new ≡ drawn self.old)
             × (next_lane self.new ≡ next_lane self.old) }
         ensures same { lanes self.new ≡ lanes self.old }
+        ensures fixed { fixed self.new ≡ fixed self.old }
         ensures ready { ready self.new };
 
     /// Draws a cut at the register, with a ticket in each lane, and answers how many places had
@@ -62,6 +68,7 @@ pub trait Turns<N: Note> {
         ensures was { N.was (lanes self.old) (seen self.new)
             ≡ N.was (lanes self.old) (seen self.old) }
         ensures same { lanes self.new ≡ lanes self.old }
+        ensures fixed { fixed self.new ≡ fixed self.old }
         ensures ready { ready self.new };
 
     /// Cuts the next lane in its turn.
@@ -84,6 +91,7 @@ pub trait Turns<N: Note> {
             ≡ N.start (lanes self.old) (seen self.old) }
         ensures drawn { drawn self.new ≡ drawn self.old }
         ensures same { lanes self.new ≡ lanes self.old }
+        ensures fixed { fixed self.new ≡ fixed self.old }
         ensures ready { ready self.new };
 
     /// Cuts the register, and answers how many places had been given.
@@ -105,5 +113,6 @@ pub trait Turns<N: Note> {
         ensures was { N.was (lanes self.old) (seen self.new)
             ≡ N.was (lanes self.old) (seen self.old) }
         ensures same { lanes self.new ≡ lanes self.old }
+        ensures fixed { fixed self.new ≡ fixed self.old }
         ensures ready { ready self.new };
 }

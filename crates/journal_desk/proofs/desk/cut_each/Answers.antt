@@ -8,7 +8,7 @@ use Rattle.journal_desk.proofs.StepLemmas.{cut_next, cut_none}
 use Rattle.journal_desk.proofs.desk.cut_each.Goals as goal
 
 pub loop-lane-init : goal.loop-lane-init
-loop-lane-init g c = (cut_none _ _ _ _ _ _ _ c.requires.legal, refl, refl, c.requires.lanes, omega arith, c.lane_count-lanes.ensures, refl, c.requires.ready)
+loop-lane-init g c = (cut_none _ _ _ _ _ _ _ c.requires.legal, refl, refl, c.requires.lanes, omega arith, c.lane_count-lanes.ensures, refl, c.requires.ready, refl)
 
 pub cut_lane-requires : goal.cut_lane-requires
 cut_lane-requires g c =
@@ -40,6 +40,7 @@ loop-lane-preserved g c =
       i.5,
       taken.same ∙ i.6,
       taken.ready,
+      taken.fixed ∙ i.8,
     )
 
 pub returns-clause-cut : goal.returns-clause-cut
@@ -63,3 +64,6 @@ returns-clause-same g c = let i = c.loop-lane.invariant in i.6
 
 pub returns-clause-ready : goal.returns-clause-ready
 returns-clause-ready g c = let i = c.loop-lane.invariant in i.7
+
+pub returns-clause-fixed : goal.returns-clause-fixed
+returns-clause-fixed g c = let i = c.loop-lane.invariant in i.8

@@ -14,6 +14,7 @@ invariant-loop-lane g l =
     × (note.start (turns.seen l.turns) ≡ note.start (turns.seen l.fn.turns)) × (turns.drawn l.turns ≡ turns.drawn l.fn.turns)
     × (turns.next_lane l.turns ≡ l.lane) × (l.lane ≤ l.lanes) × (l.lanes ≡ note.kept.service.lanes)
     × (turns.lanes l.turns ≡ turns.lanes l.fn.turns) × turns.ready l.turns
+    × (turns.fixed l.turns ≡ turns.fixed l.fn.turns)
 
 abbrev pub decreases-loop-lane : goal.decreases-loop-lane
 decreases-loop-lane g l = l.lanes - l.lane
