@@ -1,4 +1,5 @@
 pub mod Accounts
+pub mod Gates
 pub mod Exact
 pub mod Sent
 pub mod Tellings

@@ -11,4 +11,4 @@ pub use attending::{attend_door, serve_link};
 pub use hiring::Report;
 pub use session::HallSession;
 pub use top::{ClosedHall, ServedHall, serve_hall};
-pub use workers::{LinkEnds, Worker, work};
+pub use workers::{LinkEnds, Worker, limit_of_threads, work};

@@ -10,7 +10,7 @@ use Rattle.http_wire.proofs.MessageLemmas.{message_unique}
 use Rattle.rest_session.specs.declared.links.end.TheConstants.{BUDGET}
 use Rattle.rest_session.specs.declared.links.end.LinkEnd.{LinkEnd}
 use Rattle.rest_session.specs.declared.links.end.LinkEnd.TheVariants.{Closed, Cut, Ended, ReadFault, WriteFault, Budget, NoMemory}
-use Rattle.rest_session.specs.Links.Links.{Step, AllSpelled, AllOpen, spellings, IsEnd, IsCounted, IsTranscript, IsPeaceful, IsOfBytes}
+use Rattle.rest_session.specs.Links.Links.{Step, AllSpelled, AllOpen, spellings, IsEnd, IsCounted, IsTranscript, IsPeaceful, IsUncut, IsOfBytes}
 
 -- two readings of one stream are one
 pub same_reading : (ms ns : List RequestMessage) (x y : List ℕ) → AllOpen ms → AllOpen ns → HasNoMessage x → HasNoMessage y
@@ -69,24 +69,39 @@ not_refused : (more : List RequestMessage) (rest left : List ℕ) (fault : Messa
 not_refused [] rest left fault a e w = let s = some_refused rest fault w in let l = ap length e in let n = length-append rest left in omega (arith, s, l, n)
 not_refused (m ∷ more) rest left fault a e w = refused_first m (spellings more) rest left fault a.0 e w
 
-by_end : {W : Type 0} (step : Step W) (u v : W) (ms : List RequestMessage) (taken sent left : List ℕ) (end : LinkEnd)
-    (t : IsTranscript step u taken sent (Some left) v end) (more : List RequestMessage) → AllSpelled more → length ms ≡ length t.messages + length more
-    → t.tail ++ left ≡ spellings more → length ms < BUDGET → IsPeaceful end
-by_end step u v ms taken sent left Closed t more a n e few = tt
-by_end step u v ms taken sent left (Cut unread) t more a n e few =
+uncut_by_end : {W : Type 0} (step : Step W) (u v : W) (taken sent left : List ℕ) (end : LinkEnd) (t : IsTranscript step u taken sent (Some left) v end)
+    (more : List RequestMessage) → AllSpelled more → t.tail ++ left ≡ spellings more → IsUncut end
+uncut_by_end step u v taken sent left Closed t more a e = tt
+uncut_by_end step u v taken sent left (Cut unread) t more a e =
     let s = t.ends in not_cut more t.tail left a e s.4 (let p = s.2 in let q = s.3 in omega (arith, p, q)) s.0
-by_end step u v ms taken sent left (Ended fault) t more a n e few = not_refused more t.tail left fault a e t.ends.0
-by_end step u v ms taken sent left ReadFault t more a n e few = tt
-by_end step u v ms taken sent left WriteFault t more a n e few = tt
-by_end step u v ms taken sent left Budget t more a n e few = let k = t.counted in omega (arith, n, k, few)
-by_end step u v ms taken sent left NoMemory t more a n e few = tt
+uncut_by_end step u v taken sent left (Ended fault) t more a e = not_refused more t.tail left fault a e t.ends.0
+uncut_by_end step u v taken sent left ReadFault t more a e = tt
+uncut_by_end step u v taken sent left WriteFault t more a e = tt
+uncut_by_end step u v taken sent left Budget t more a e = tt
+uncut_by_end step u v taken sent left NoMemory t more a e = tt
 
--- an input of whole messages is served to its end
+-- an input of whole messages is served to its end, as far as the budget goes
+pub uncut : {W : Type 0} (step : Step W) (u v : W) (ms : List RequestMessage) (taken sent left : List ℕ) (end : LinkEnd)
+    → AllSpelled ms → spellings ms ≡ taken ++ left → IsTranscript step u taken sent (Some left) v end → IsUncut end
+uncut step u v ms taken sent left end a e t =
+    let w = first_messages ms t.messages (t.tail ++ left) a t.opened (e ∙ ap (λ l. l ++ left) t.bytes ∙ append_assoc (spellings t.messages) t.tail left) in
+    uncut_by_end step u v taken sent left end t w.0 w.1 w.3
+
+peace_by : (n m : ℕ) (end : LinkEnd) → IsUncut end → IsCounted n end → n ≤ m → m < BUDGET → IsPeaceful end
+peace_by n m Closed u c le few = tt
+peace_by n m (Cut unread) u c le few = absurd u
+peace_by n m (Ended fault) u c le few = absurd u
+peace_by n m ReadFault u c le few = tt
+peace_by n m WriteFault u c le few = tt
+peace_by n m Budget u c le few = omega (arith, c, le, few)
+peace_by n m NoMemory u c le few = tt
+
+-- and to its end, where the messages are fewer than a link may give
 pub peaceful : {W : Type 0} (step : Step W) (u v : W) (ms : List RequestMessage) (taken sent left : List ℕ) (end : LinkEnd)
     → AllSpelled ms → length ms < BUDGET → spellings ms ≡ taken ++ left → IsTranscript step u taken sent (Some left) v end → IsPeaceful end
 peaceful step u v ms taken sent left end a few e t =
     let w = first_messages ms t.messages (t.tail ++ left) a t.opened (e ∙ ap (λ l. l ++ left) t.bytes ∙ append_assoc (spellings t.messages) t.tail left) in
-    by_end step u v ms taken sent left end t w.0 w.1 w.2 w.3 few
+    peace_by (length t.messages) (length ms) end (uncut step u v ms taken sent left end a e t) t.counted (omega (arith, w.2)) few
 
 -- of two readings of one stream one goes on where the other ends
 one_goes_on : (ms ns : List RequestMessage) (x y : List ℕ) → AllOpen ms → AllOpen ns → spellings ms ++ x ≡ spellings ns ++ y

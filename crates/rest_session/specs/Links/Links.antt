@@ -142,6 +142,16 @@ IsPeaceful WriteFault = ⊤
 IsPeaceful Budget = ⊥
 IsPeaceful NoMemory = ⊤
 
+-- an end that doesn't come of bytes that are no whole message
+abbrev pub IsUncut : LinkEnd → Type 0
+IsUncut Closed = ⊤
+IsUncut (Cut unread) = ⊥
+IsUncut (Ended fault) = ⊥
+IsUncut ReadFault = ⊤
+IsUncut WriteFault = ⊤
+IsUncut Budget = ⊤
+IsUncut NoMemory = ⊤
+
 -- an end that comes of the bytes alone
 abbrev pub IsOfBytes : LinkEnd → Type 0
 IsOfBytes Closed = ⊤

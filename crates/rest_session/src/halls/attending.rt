@@ -7,6 +7,7 @@ ghost use Rattle.edge_traits.specs.Told.{IsToldEmpty};
 ghost use Rattle.hall.specs.Passes.{who};
 ghost use Rattle.rest_session.specs.Halls.Accounts.{IsReady, account};
 ghost use Rattle.rest_session.specs.Halls.Asking.{IsAskedOf};
+ghost use Rattle.rest_session.specs.Halls.Gates.{HasGoneThroughAll};
 ghost use Rattle.rest_session.specs.Halls.Visits.{Attends, Visit, Works, telling};
 ghost use Rattle.rest_session.specs.Links.Links.{HasCauses, IsTranscript};
 ghost use Rattle.rest_session.specs.declared.links.end.LinkEnd.TheVariants as end;
@@ -41,6 +42,10 @@ pub fn serve_link<D: Drop, G: Gate, L: Link, R: Wait>(
         × Appends (L.held link.old) (L.held link.new) sent
         × IsTranscript IsAskedOf (account tokens.now hall.now pass.old) taken sent
         (L.left link.new) (account tokens.now hall.now pass.new) result }
+
+    // Each turn of each request that the link asked went through the gate, in order.
+    ensures gates { HasGoneThroughAll G.goes (account tokens.now hall.now pass.old)
+        (account tokens.now hall.now pass.new) gate.old gate.new }
     ensures names { L.Source.names link.new ≡ L.Source.names link.old }
     ensures causes { HasCauses (L.Source.faults link.old) (L.Source.faults link.new)
         (L.Sink.faults link.old) (L.Sink.faults link.new) result }
@@ -85,6 +90,8 @@ fn attend_link<D: Drop, G: Gate, F: Door, R: Wait>(
         (λ more. MatchBool more ((v : Visit F.Link) × Attended (v ∷ []))
         (Attended [] × IsToldEmpty (F.left door.old)))
         (λ _. Attended [] × Rose (F.faults door.old) (F.faults door.new)) }
+    ensures gates { HasGoneThroughAll G.goes (account tokens.now hall.now pass.old)
+        (account tokens.now hall.now pass.new) gate.old gate.new }
 {
     let Some(mut link) = door.next()? else {
         return Ok(false);
@@ -115,6 +122,10 @@ pub fn attend_door<D: Drop, G: Gate, F: Door, R: Wait>(
     ensures works { Works (telling ⟦<F as Door>⟧ ⟦<F::Link as Source>⟧ ⟦<F::Link as Sink>⟧) links
         door.old door.new ends.new.items
         (account tokens.now hall.now pass.old) (account tokens.now hall.now pass.new) result }
+
+    // Each turn of each request that its links asked went through the gate, in order.
+    ensures gates { HasGoneThroughAll G.goes (account tokens.now hall.now pass.old)
+        (account tokens.now hall.now pass.new) gate.old gate.new }
 {
     'links: for _ in 0..links {
         match attend_link(rt, alloc, hall, pass, gate, tokens, door, ends) {

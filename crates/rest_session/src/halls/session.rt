@@ -6,6 +6,7 @@ ghost use Rattle.http_wire.specs.Replies.{no_memory_reply};
 ghost use Rattle.object_ops.specs.Conditions.{IsSoundOp};
 ghost use Rattle.rest_session.specs.Halls.Accounts.{IsReady, account};
 ghost use Rattle.rest_session.specs.Halls.Asking.{Asks, IsTaken};
+ghost use Rattle.rest_session.specs.Halls.Gates.{HasGoneThroughAll};
 ghost use Rattle.rest_session.specs.Links.Replies.{reply_bytes};
 ghost use Rattle.rest_session.specs.Sessions.{is_to_keep};
 
@@ -24,7 +25,7 @@ use std::alloc::Global;
 use std::convert::Infallible;
 use std::sync::Wait;
 
-/// A hall that is asked with a pass over one link, and the tokens by which callers are known.
+/// A hall that is asked with a pass over one link, through a gate, and the tokens by which callers are known.
 #[derive(Drop)]
 pub struct HallSession<'a, D: Drop, G, R> {
     pub rt: &'a R,
@@ -43,16 +44,19 @@ impl<'a, D: Drop, G: Gate, R: Wait> Service for HallSession<'a, D, G, R> {
     ghost use Rattle.hall.specs.Answers.{ArrayStart};
     ghost use Rattle.hall.specs.Passes.{who};
     ghost use Rattle.hall.specs.declared.hall.Hall.{Hall};
-    ghost use Rattle.rest_session.specs.Halls.Accounts.{Account, IsReady, account};
-    ghost use Rattle.rest_session.specs.Halls.Asking.{IsAskedOf};
+    ghost use Rattle.rest_session.specs.Halls.Accounts.{IsReady, account};
+    ghost use Rattle.rest_session.specs.Halls.Gates.{Gated, IsAskedThrough};
 
     type End = Infallible;
 
-    ghost World = { Account };
+    ghost World = { Gated G };
 
-    ghost world = { λ s. account s.tokens.now s.hall.now s.pass.now };
+    ghost world = { λ s. record {
+      account = account s.tokens.now s.hall.now s.pass.now;
+      gate = s.gate.now;
+    } };
 
-    ghost step = { IsAskedOf };
+    ghost step = { IsAskedThrough G.goes };
 
     ghost stop = { λ _ _ _ _. ⊥ };
 
@@ -63,6 +67,7 @@ impl<'a, D: Drop, G: Gate, R: Wait> Service for HallSession<'a, D, G, R> {
 
     ghost fixed = { λ s. (s.pass.ghost_name, s.gate.ghost_name, s.tokens.now, s.hall.now, who s.pass.now) };
 
+    #[tactic(auto, using(crate::proofs::OfHalls::Gates::gone_none))]
     fn answer(&mut self, message: &Message<'_>) -> Result<Response, Infallible> {
         match lent_request(self.alloc, &parts_of(message), self.tokens) {
             Ok((caller, request)) => {
@@ -97,6 +102,8 @@ fn take<D: Drop, G: Gate, R: Wait>(
         caller.now request.now close (reply_bytes result close) (account tokens hall.now pass.new)
         ⊎ ((reply_bytes result close ≡ no_memory_reply close)
         × (account tokens hall.now pass.new ≡ account tokens hall.now pass.old)) }
+    ensures gates { (tokens : TokenTable) → HasGoneThroughAll G.goes
+        (account tokens hall.now pass.old) (account tokens hall.now pass.new) gate.old gate.new }
 {
     if is_to_keep(&request.op) {
         return refuse(alloc, &Refusal::NoRoute, Methods::NONE);
@@ -120,6 +127,8 @@ fn ask<D: Drop, G: Gate, R: Wait>(
     ensures same { who pass.new ≡ who pass.old }
     ensures asked { (tokens : TokenTable) (close : Bool) → Asks (account tokens hall.now pass.old)
         caller.now request.now close (reply_bytes result close) (account tokens hall.now pass.new) }
+    ensures gates { (tokens : TokenTable) → HasGoneThroughAll G.goes
+        (account tokens hall.now pass.old) (account tokens hall.now pass.new) gate.old gate.new }
 {
     replies_have_no_floats();
     histories_are_legal();

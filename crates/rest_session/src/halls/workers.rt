@@ -3,6 +3,7 @@ ghost use Rattle.std.specs.Prelude.{◌≡◌, ℕ, ◌≤◌, [], All, Some, fa
 ghost use Rattle.hall.specs.Passes.{who};
 ghost use Rattle.rest_session.specs.Halls.Accounts.{IsReady, account};
 ghost use Rattle.rest_session.specs.Halls.Visits.{Works, telling};
+ghost use Rattle.rest_session.specs.declared.halls.workers.TheConstants.{MOST_THREADS};
 
 use crate::halls::attending::attend_door;
 use crate::links::LinkEnd;
@@ -14,7 +15,13 @@ use std::sync::Wait;
 use std::thread;
 use std::thread::Threads;
 
+/// How many workers run at a time at most.
 const MOST_THREADS: usize = 16;
+
+/// At most sixteen workers run at a time.
+pub fn limit_of_threads()
+    ensures { MOST_THREADS ≡ 16 }
+{}
 
 /// The ends of a worker's links, in order.
 pub type LinkEnds = Vec<LinkEnd>;

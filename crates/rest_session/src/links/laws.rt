@@ -5,7 +5,7 @@ ghost use Rattle.rest_session.specs.declared.links.end.LinkEnd.{LinkEnd};
 ghost use Rattle.rest_session.specs.declared.links.end.LinkEnd.TheVariants.{Closed};
 ghost use Rattle.rest_session.specs.declared.links.end.TheConstants.{BUDGET};
 ghost use Rattle.rest_session.specs.Links.Links.{AllOpen, AllSpelled, spellings, Replays, IsTranscript};
-ghost use Rattle.rest_session.specs.Links.Links.{AreAlike, IsOfBytes, IsPeaceful};
+ghost use Rattle.rest_session.specs.Links.Links.{AreAlike, IsOfBytes, IsPeaceful, IsUncut};
 ghost use Rattle.rest_session.specs.Links.Links.{closing_message};
 
 use crate::links::service::Service;
@@ -29,9 +29,12 @@ pub fn answers_of_parts<V: Service>()
         × Replays V.step u front first v × Replays V.step v back second w }
 {}
 
-/// An input of whole messages, fewer than a link may give, is served to its end or to a message that closes, but for a
-/// fault or want of memory; where none of them closes, each was answered.
+/// An input of whole messages is served to its end or to a message that closes, but for a fault, want of memory or the
+/// budget, and that isn't used up where they are fewer than a link may give; where none of them closes, each was answered.
 pub fn whole_messages_are_served<V: Service>()
+    ensures uncut { (u v : V.World) (messages : List RequestMessage) (taken sent left : List ℕ)
+        (end : LinkEnd) → AllSpelled messages → spellings messages ≡ taken ++ left
+        → IsTranscript V.step u taken sent (Some left) v end → IsUncut end }
     ensures served { (u v : V.World) (messages : List RequestMessage) (taken sent left : List ℕ)
         (end : LinkEnd) → AllSpelled messages → length messages < BUDGET
         → spellings messages ≡ taken ++ left

@@ -1,6 +1,7 @@
 use Rattle.std.proofs.Common.{◌≡◌, List, [], length, vec_capacity}
 use Rattle.hall.specs.Passes.{who}
 use Rattle.rest_session.specs.Halls.Accounts.{IsReady, account}
+use Rattle.rest_session.specs.Halls.Gates.{HasGoneThroughAll}
 use Rattle.rest_session.specs.Halls.Visits.{Visit, Attends, telling}
 use Rattle.rest_session.proofs.halls.attending.attend_door.Given as goal
 
@@ -13,4 +14,5 @@ invariant-links g l = record {
   one_each : length visits ≡ l.counter;
   attends : Attends (telling g.F.Door g.F.Link.Source g.F.Link.Sink) visits l.initial.door l.door [] l.ends.items
       (account l.tokens l.hall l.initial.pass) (account l.tokens l.hall l.pass);
+  gates : HasGoneThroughAll g.G.Gate.goes (account l.tokens l.hall l.initial.pass) (account l.tokens l.hall l.pass) l.initial.gate l.gate;
 }

@@ -2,6 +2,7 @@ use Rattle.std.proofs.Common.{arith, refl}
 use Rattle.std.proofs.lemmas.Result.{err_from_is_err_and}
 use Rattle.rest_session.specs.Halls.Accounts.{account}
 use Rattle.rest_session.specs.Halls.Visits.{Visit, telling}
+use Rattle.rest_session.proofs.OfHalls.Gates.{gone_none}
 use Rattle.rest_session.proofs.OfHalls.Talks.{attends_none, attends_one}
 use Rattle.rest_session.proofs.halls.attending.attend_link.Goals as goal
 
@@ -11,6 +12,12 @@ returns-in_err-link-clause-attends g c =
     let e = c.in_err-link.ensures in
     let failed = err_from_is_err_and c.from_residual.result c.from_residual.ensures.1 in
     rw failed.1 (attends_none t c.args.door.now c.next.new.self _ _ e.links e.ended (omega (arith, e.out)) e.cause.later, e.cause.cause)
+
+pub returns-in_err-link-clause-gates : goal.returns-in_err-link-clause-gates
+returns-in_err-link-clause-gates g c = gone_none g.G.Gate.goes _ _
+
+pub returns-in_default-clause-gates : goal.returns-in_default-clause-gates
+returns-in_default-clause-gates g c = gone_none g.G.Gate.goes _ _
 
 pub returns-in_default-clause-attends : goal.returns-in_default-clause-attends
 returns-in_default-clause-attends g c =

@@ -6,6 +6,7 @@ use Rattle.rest_session.specs.Halls.Accounts.{AllAnswered, told_by}
 use Rattle.rest_session.specs.Responses.{IsResponse}
 use Rattle.rest_session.specs.Links.Replies.{reply_bytes}
 use Rattle.rest_session.proofs.OfHalls.Accounts.{answered_more, entry_of, told_asked}
+use Rattle.rest_session.proofs.OfHalls.Gates.{gone_asked}
 use Rattle.rest_session.proofs.OfHalls.Exact.{answer_exact}
 use Rattle.rest_session.proofs.halls.session.ask.Goals as goal
 
@@ -40,3 +41,11 @@ returns-clause-asked g c = λ tokens close.
       front = c.ask-answer.ensures.front ∙ ap (λ (p : ℕ). p + 1) a.asked.place_is;
       response = subst (λ (path : List ℕ). IsResponse path c.ask-answer.result.what close (reply_bytes c.answer_reply.result close)) c.on_text.ensures (c.answer_reply.ensures close);
     }
+
+pub returns-clause-gates : goal.returns-clause-gates
+returns-clause-gates g c = λ tokens.
+    let start = opening c.args.hall.now in
+    let n = lanes_in start in
+    gone_asked g.G.Gate.goes start (view_of c.args.pass.now) (view_of c.ask-answer.new.pass) c.args.caller.now c.args.request.now c.ask-answer.result
+    (c.replies_are_replays.ensures.entry n) c.ask-answer.ensures.answered c.args.gate.now c.ask-answer.new.gate c.ask-answer.ensures.gates
+    (c.replies_are_replays.ensures.stay n) c.requires.ready.answered _ _ refl refl
