@@ -1,2 +1,3 @@
 mod LastLemmas
+mod PassLemmas
 pub mod OfExamples

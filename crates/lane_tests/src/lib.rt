@@ -1,5 +1,6 @@
 //! Tests of a service that is taken apart into a register, the owners of two lanes and a journal: lists of events, with
-//! the answers of one world in order of places, and after each event what every crash leaves.
+//! the answers of one world in order of places, and after each event what every crash leaves. And tests of a hall over
+//! the same parts, asked by one caller, and by many at a time.
 //!
 //! Where a cut finds no memory in one lane, and where a link does, no list here can say: the laws over lists of
 //! `examples` show it, `tears` and `turns` there.
@@ -8,6 +9,8 @@
 #[cfg(test)]
 mod events;
 pub mod examples;
+#[cfg(test)]
+mod halls;
 #[cfg(test)]
 mod kept;
 #[cfg(test)]

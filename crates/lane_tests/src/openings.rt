@@ -1,4 +1,4 @@
-//! The world with which each list of events begins: two groups in a domain, in two lanes.
+//! Worlds to begin with, which a journal holds.
 
 use crate::requests::{read_row, tokens};
 use edge_traits::MemDisk;
@@ -13,7 +13,7 @@ const ROOM: u64 = 1_000_000;
 const ROOT: &str =
     r#"{"acls":{"default":{"create":true,"delete":true,"read":true,"readACL":true,"update":true,"updateACL":true}},"class":"folder","owner":"default"}"#;
 
-/// What makes the first domain and its groups.
+/// What makes the world with which each list of events begins: two groups in a domain, in two lanes.
 const BEGIN: &str = r#"|alice|/lab|PUT|/|
 |alice|/lab|POST|/groups|{}
 |alice|/lab|PUT|/acls/bob|{"create":true,"read":true,"update":true,"delete":true,"readACL":true,"updateACL":true}"#;
@@ -83,9 +83,9 @@ fn begin_run(world: &mut World, journal: &mut Journal<MemDisk>) -> Result<(), Fa
     }
 }
 
-fn step_begin(alloc: Global, world: &mut World) -> Result<(), Fail> {
+fn step_all(alloc: Global, world: &mut World, rows: &str) -> Result<(), Fail> {
     let tokens = tokens(alloc)?;
-    for row in BEGIN.split('\n') {
+    for row in rows.split('\n') {
         let (caller, request) = read_row(alloc, &tokens, row)?;
         if !world.has_room() {
             return Err(Fail::from("no room"));
@@ -97,10 +97,24 @@ fn step_begin(alloc: Global, world: &mut World) -> Result<(), Fail> {
 
 /// The bytes of a journal that holds the world of the begin, in run 1.
 pub(crate) fn opening(alloc: Global) -> Result<Vec<u8>, Fail> {
+    made_by(alloc, BEGIN)
+}
+
+/// The bytes of a journal that holds the world that some rows made, in run 1.
+pub(crate) fn made_by(alloc: Global, rows: &str) -> Result<Vec<u8>, Fail> {
     let (mut journal, kept) = recovered(alloc, first_journal(alloc)?.into_disk())?;
     let mut world = installed(alloc, kept)?;
     begin_run(&mut world, &mut journal)?;
-    step_begin(alloc, &mut world)?;
+    step_all(alloc, &mut world, rows)?;
+    kept_bytes(alloc, world, journal)
+}
+
+/// The bytes of a journal once it has all that changed of its world.
+pub(crate) fn kept_bytes(
+    alloc: Global,
+    mut world: World,
+    mut journal: Journal<MemDisk>,
+) -> Result<Vec<u8>, Fail> {
     let mut batch = Batch::new(alloc);
     world.cut(&mut batch)?;
     append(&mut journal, batch)?;
@@ -109,7 +123,7 @@ pub(crate) fn opening(alloc: Global) -> Result<Vec<u8>, Fail> {
 }
 
 /// A disk of these bytes, of which some calls fail.
-fn disk_of(alloc: Global, bytes: &[u8], failing: Vec<u64>) -> Result<MemDisk, Fail> {
+pub(crate) fn disk_of(alloc: Global, bytes: &[u8], failing: Vec<u64>) -> Result<MemDisk, Fail> {
     if bytes.len() as u64 > ROOM {
         return Err(Fail::from("no room"));
     }

@@ -1,13 +1,14 @@
 //! Requests by their names, and the texts of answers.
 
-ghost use Rattle.std.specs.Prelude.{IfOk};
+ghost use Rattle.std.specs.Prelude.{IfOk, IfSome};
 ghost use Rattle.object_ops.specs.Conditions.{IsSoundOp};
 
 use access_lists::{Caller, Names, Right};
 use object_ids::Name;
 use object_ops::{Refusal, Reply, Request, refusal_json};
 use rest_requests::{RequestParts, Tokens, read_request};
-use std::alloc::Global;
+use service_core::What;
+use std::alloc::{AllocError, Global};
 use std::test::Fail;
 
 /// A name, who asks, at which path, the method, the target and the body. `~` stands for the numbers of an id of the
@@ -51,34 +52,54 @@ pub(crate) fn row_of(name: &str) -> &'static str {
     ""
 }
 
-fn user(alloc: Global, name: &str) -> Result<Caller, Fail> {
-    Ok(Caller {
-        user: Some(Name::read(alloc, name, 255)?),
-        groups: Names::new(alloc),
+/// A user of some groups; nothing where memory ran out.
+fn user(alloc: Global, name: &str, groups: &str) -> Option<Caller> {
+    let mut names = Names::new(alloc);
+    for group in groups.split_ascii_whitespace() {
+        names.push(Name::read(alloc, group, 253).ok()?).ok()?;
+    }
+    Some(Caller {
+        user: Some(Name::read(alloc, name, 255).ok()?),
+        groups: names,
     })
 }
 
+/// The users of the laboratory; nothing where memory ran out.
+pub(crate) fn known(alloc: Global) -> Option<Tokens> {
+    let mut tokens = Tokens::new(alloc).ok()?;
+    tokens.put(b"alice", user(alloc, "alice", "lab")?).ok()?;
+    tokens.put(b"bob", user(alloc, "bob", "lab ops")?).ok()?;
+    tokens.put(b"carol", user(alloc, "carol", "lab")?).ok()?;
+    Some(tokens)
+}
+
 pub(crate) fn tokens(alloc: Global) -> Result<Tokens, Fail> {
-    let mut tokens = Tokens::new(alloc)?;
-    tokens.put(b"alice", user(alloc, "alice")?)?;
-    tokens.put(b"bob", user(alloc, "bob")?)?;
-    Ok(tokens)
+    match known(alloc) {
+        Some(tokens) => Ok(tokens),
+        None => Err(Fail::from("no memory")),
+    }
 }
 
 fn bearer(user: &str) -> &'static [u8] {
     match user {
         "alice" => b"Bearer alice",
+        "carol" => b"Bearer carol",
         _ => b"Bearer bob",
     }
 }
 
-/// The caller and the request of a row.
-pub(crate) fn read_row(alloc: Global, tokens: &Tokens, row: &str) -> Result<(Caller, Request), Fail>
-    ensures { IfOk result (λ read. IsSoundOp read.1.op) }
+/// A text with the numbers of the ids that it names.
+pub(crate) fn spelled(alloc: Global, text: &str) -> Result<String, AllocError> {
+    let text = text.replace(alloc, "~", "-00000000-0001-8000-8000-0100000000")?;
+    text.replace(alloc, "^", "-00000000-0001-8000-8000-0200000000")
+}
+
+/// The caller and the request of a row; nothing where it is none, or memory ran out.
+pub(crate) fn read_ask(alloc: Global, tokens: &Tokens, row: &str) -> Option<(Caller, Request)>
+    ensures { IfSome result (λ read. IsSoundOp read.1.op) }
 {
-    let target = column(row, 4).replace(alloc, "~", "-00000000-0001-8000-8000-0100000000")?;
-    let target = target.replace(alloc, "^", "-00000000-0001-8000-8000-0200000000")?;
-    let body = column(row, 5).replace(alloc, "~", "-00000000-0001-8000-8000-0100000000")?;
+    let target = spelled(alloc, column(row, 4)).ok()?;
+    let body = spelled(alloc, column(row, 5)).ok()?;
     let message = RequestParts {
         method: column(row, 3),
         target: target.as_str(),
@@ -87,30 +108,53 @@ pub(crate) fn read_row(alloc: Global, tokens: &Tokens, row: &str) -> Result<(Cal
         body: body.as_bytes(),
     };
     match read_request(alloc, &message, tokens) {
-        Ok(read) => Ok(read),
-        Err(_) => Err(Fail::from("a row is no request")),
+        Ok(read) => Some(read),
+        Err(_) => None,
+    }
+}
+
+/// The caller and the request of a row.
+pub(crate) fn read_row(alloc: Global, tokens: &Tokens, row: &str) -> Result<(Caller, Request), Fail>
+    ensures { IfOk result (λ read. IsSoundOp read.1.op) }
+{
+    match read_ask(alloc, tokens, row) {
+        Some(read) => Ok(read),
+        None => Err(Fail::from("a row is no request")),
     }
 }
 
 // ---- answers
 
-fn with_status(alloc: Global, status: u16, body: &str) -> Result<String, Fail> {
-    Ok(format!(in alloc; "{status} {body}")?)
+fn with_status(alloc: Global, status: u16, body: &str) -> Result<String, AllocError> {
+    format!(in alloc; "{status} {body}")
 }
 
-pub(crate) fn refusal_text(alloc: Global, path: &str, refusal: &Refusal) -> Result<String, Fail> {
+pub(crate) fn refusal_text(
+    alloc: Global,
+    path: &str,
+    refusal: &Refusal,
+) -> Result<String, AllocError> {
     let tree = refusal_json(alloc, path, refusal)?;
     with_status(alloc, refusal.status(), tree.to_string(alloc)?.as_str())
 }
 
-pub(crate) fn denial_text(alloc: Global, path: &str, right: Right) -> Result<String, Fail> {
+pub(crate) fn denial_text(alloc: Global, path: &str, right: Right) -> Result<String, AllocError> {
     refusal_text(alloc, path, &Refusal::Forbidden { right })
 }
 
 /// The status and the body of an answer.
-pub(crate) fn reply_text(alloc: Global, path: &str, reply: &Reply) -> Result<String, Fail> {
+pub(crate) fn reply_text(alloc: Global, path: &str, reply: &Reply) -> Result<String, AllocError> {
     match reply {
         Reply::Done { status, body } => with_status(alloc, *status, body.text(alloc)?.as_str()),
         Reply::Refused(refusal) => refusal_text(alloc, path, refusal),
+    }
+}
+
+/// The same of what is answered at a place; nothing where memory ran out.
+pub(crate) fn answer_text(alloc: Global, path: &str, what: &What) -> Option<String> {
+    match what {
+        What::Replied(reply) => reply_text(alloc, path, reply).ok(),
+        What::Denied { right } => denial_text(alloc, path, *right).ok(),
+        What::NoMemory => None,
     }
 }

@@ -8,7 +8,7 @@ use crate::kept::Past;
 use crate::lanes::{Lane, Task};
 use crate::openings::{begun_on, world_on};
 use crate::pictures::{Picture, picture_of};
-use crate::requests::{denial_text, read_row, refusal_text, reply_text, tokens};
+use crate::requests::{answer_text, denial_text, read_row, refusal_text, reply_text, tokens};
 use access_lists::Caller;
 use edge_traits::MemDisk;
 use flush_journal::{Batch, Journal};
@@ -16,7 +16,7 @@ use object_ops::{Grant, Request, on_text};
 use register::{CutTickets, Register, Tickets, Turn, Verdict};
 use rest_requests::Tokens;
 use service_core::{Owners, What, World};
-use std::alloc::Global;
+use std::alloc::{AllocError, Global};
 use std::mem;
 use std::test::Fail;
 
@@ -191,11 +191,10 @@ pub(crate) fn begun_service(
     })
 }
 
-fn what_text(alloc: Global, path: &str, what: &What) -> Result<String, Fail> {
-    match what {
-        What::Replied(reply) => reply_text(alloc, path, reply),
-        What::Denied { right } => denial_text(alloc, path, *right),
-        What::NoMemory => Err(Fail::from("no memory")),
+pub(crate) fn what_text(alloc: Global, path: &str, what: &What) -> Result<String, Fail> {
+    match answer_text(alloc, path, what) {
+        Some(text) => Ok(text),
+        None => Err(Fail::from("no memory")),
     }
 }
 
@@ -290,7 +289,7 @@ impl Service {
     }
 
     /// The next place is that of a request that is answered at once.
-    fn reply(&mut self, mut entry: Entry, text: Result<String, Fail>) -> Result<(), Fail> {
+    fn reply(&mut self, mut entry: Entry, text: Result<String, AllocError>) -> Result<(), Fail> {
         entry.reply = text?;
         self.entries.push(entry)?;
         Ok(())
