@@ -74,7 +74,7 @@ module _ {F L D : Type 0} (met : Ghosts D) (sides : Sides) (doors : Doors F L) (
   of_serve links ReadFault s = none_closed closed c s.1.0 is
   of_serve links DiskFault s = inr (inl refl)
   of_serve links NotAJournal s = none_closed closed c s.1.0 is
-  of_serve links DoorFault s = served_doors links DoorFault s.1
+  of_serve links DoorFault s = served_doors links DoorFault s.0
   of_serve links UsedUp s = inr (inr (inl refl))
   of_serve links Budget s = served_doors links Budget s.0
   of_serve links NoMemory s = inr (inr (inr refl))

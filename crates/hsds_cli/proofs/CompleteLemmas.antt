@@ -1,17 +1,14 @@
 -- A command that finds what it needs ends as it should, or for want of memory.
-use Rattle.std.proofs.Common.{◌≡◌, ◌≢◌, ◌⊎◌, inl, inr, ℕ, ◌≤◌, ◌++◌, ◌∙◌, List, length, Option, Some, None, Result, Ok, Err, refl, sym, ap, subst, append-nil, length-append, arith}
+use Rattle.std.proofs.Common.{◌≡◌, ◌⊎◌, inl, inr, ℕ, ◌≤◌, ◌++◌, ◌∙◌, List, [], ◌∷◌, length, Option, Some, None, refl, sym, ap, subst, append-nil, length-append, arith}
 use Rattle.edge_traits.specs.declared.disk.Disk.{Ghosts}
 use Rattle.command_words.specs.Commands.{Command, export, import, init, sample, serve, session, verify}
-use Rattle.flush_journal.specs.declared.why.Why.{Why}
-use Rattle.flush_journal.specs.declared.why.Why.TheVariants as why
 use Rattle.documents.specs.Reader.Loads.{LoadsText}
 use Rattle.documents.specs.Reader.Texts.{most_bytes}
 use Rattle.json_import.specs.Kept.Documents.{IsRefused}
 use Rattle.service_core.specs.Journals.Opening.{IsOf}
 use Rattle.service_core.specs.Journals.Begun.{IsRecovered}
-use Rattle.rest_session.specs.Links.Links.{IsPeaceful}
+use Rattle.rest_session.specs.Links.Links.{IsUncut}
 use Rattle.rest_session.specs.declared.links.end.LinkEnd.{LinkEnd}
-use Rattle.rest_session.specs.declared.links.end.LinkEnd.TheVariants as end
 use Rattle.rest_session.specs.Sessions.{IsServed as SessionStep}
 use Rattle.hsds_cli.specs.declared.closed.Closed.{Closed}
 use Rattle.hsds_cli.specs.Doors.{Doors}
@@ -19,17 +16,18 @@ use Rattle.hsds_cli.specs.declared.status.Status.{Status}
 use Rattle.hsds_cli.specs.declared.status.Status.TheVariants.{Done, Words, Configuration, ReadFault, WriteFault, DiskFault, NotAJournal, Refused, JournalExists, DoorFault, InputCut, UsedUp, Budget, NoMemory}
 use Rattle.service_core.specs.Steps.{World}
 use Rattle.edge_traits.specs.SourceTexts.Texts.{IsLongText, IsWholeText}
+use Rattle.hsds_cli.specs.Closings.{UsesUpBudget, of_link}
 use Rattle.hsds_cli.specs.Completeness.{HasAdoptable, IsConfigured, IsUndisturbed, IsWholeInput}
 use Rattle.hsds_cli.specs.Exports.{IsExported}
 use Rattle.hsds_cli.specs.Imports.{IsImported}
 use Rattle.hsds_cli.specs.Makings.{IsInit}
-use Rattle.hsds_cli.specs.Openings.{IsSession, IsVerified, Serves, status_after, status_of}
+use Rattle.hsds_cli.specs.Openings.{IsSession, IsVerified, Serves}
 use Rattle.hsds_cli.specs.Runs.{IsCommanded}
 use Rattle.hsds_cli.specs.Sampled.{IsSampled}
 use Rattle.hsds_cli.specs.Serves.{IsServedBy, reports_status}
 use Rattle.hsds_cli.specs.Sides.{Sides, SpellsNone, configured}
 use Rattle.hsds_cli.specs.Status.{number_of}
-use Rattle.hsds_cli.proofs.BudgetLemmas.{budget_doors, full_doors, no_budget, peace_over, reports_budget, reports_full}
+use Rattle.hsds_cli.proofs.EndLemmas.{full, full_doors, reports_full, status_budget, status_cut, uncut_over}
 
 abbrev pub IsEnd : Status → Type 0
 IsEnd status = (status ≡ Done) ⊎ (status ≡ NoMemory)
@@ -72,41 +70,15 @@ accepted file path left after w has kept (inr (l, cause, document, is)) =
     let wrong : None ≡ Some cause = sym (has.free w kept l loads) ∙ is in
     cc
 
--- a peaceful end is no cut, and none of the budget
-peaceful_status : (e : LinkEnd) (last : Result ℕ Why) → IsPeaceful e → (status_after (status_of e) last ≢ InputCut) × (status_after (status_of e) last ≢ Budget)
-peaceful_status e (Err why.DiskFault) peace = (λ is. let no : DiskFault ≡ InputCut = is in cc, λ is. let no : DiskFault ≡ Budget = is in cc)
-peaceful_status e (Err (why.JournalFull end need room)) peace = (λ is. let no : UsedUp ≡ InputCut = is in cc, λ is. let no : UsedUp ≡ Budget = is in cc)
-peaceful_status e (Err (why.NotAJournal at)) peace = (λ is. let no : NoMemory ≡ InputCut = is in cc, λ is. let no : NoMemory ≡ Budget = is in cc)
-peaceful_status e (Err why.Exists) peace = (λ is. let no : NoMemory ≡ InputCut = is in cc, λ is. let no : NoMemory ≡ Budget = is in cc)
-peaceful_status e (Err why.NoMemory) peace = (λ is. let no : NoMemory ≡ InputCut = is in cc, λ is. let no : NoMemory ≡ Budget = is in cc)
-peaceful_status end.Closed (Ok n) peace = (λ is. let no : Done ≡ InputCut = is in cc, λ is. let no : Done ≡ Budget = is in cc)
-peaceful_status (end.Cut unread) (Ok n) peace = absurd peace
-peaceful_status (end.Ended fault) (Ok n) peace = absurd peace
-peaceful_status end.ReadFault (Ok n) peace = (λ is. let no : ReadFault ≡ InputCut = is in cc, λ is. let no : ReadFault ≡ Budget = is in cc)
-peaceful_status end.WriteFault (Ok n) peace = (λ is. let no : WriteFault ≡ InputCut = is in cc, λ is. let no : WriteFault ≡ Budget = is in cc)
-peaceful_status end.Budget (Ok n) peace = absurd peace
-peaceful_status end.NoMemory (Ok n) peace = (λ is. let no : NoMemory ≡ InputCut = is in cc, λ is. let no : NoMemory ≡ Budget = is in cc)
-
--- no room is left only where the last keeping found none
-full : (e : LinkEnd) (last : Result ℕ Why) → status_after (status_of e) last ≡ UsedUp → (end : ℕ) × (need : ℕ) × (room : ℕ) × (last ≡ Err (why.JournalFull end need room))
-full e (Err why.DiskFault) is = absurd (let no : DiskFault ≡ UsedUp = is in cc)
-full e (Err (why.JournalFull end need room)) is = (end, need, room, refl)
-full e (Err (why.NotAJournal at)) is = absurd (let no : NoMemory ≡ UsedUp = is in cc)
-full e (Err why.Exists) is = absurd (let no : NoMemory ≡ UsedUp = is in cc)
-full e (Err why.NoMemory) is = absurd (let no : NoMemory ≡ UsedUp = is in cc)
-full end.Closed (Ok n) is = absurd (let no : Done ≡ UsedUp = is in cc)
-full (end.Cut unread) (Ok n) is = absurd (let no : InputCut ≡ UsedUp = is in cc)
-full (end.Ended fault) (Ok n) is = absurd (let no : InputCut ≡ UsedUp = is in cc)
-full end.ReadFault (Ok n) is = absurd (let no : ReadFault ≡ UsedUp = is in cc)
-full end.WriteFault (Ok n) is = absurd (let no : WriteFault ≡ UsedUp = is in cc)
-full end.Budget (Ok n) is = absurd (let no : Budget ≡ UsedUp = is in cc)
-full end.NoMemory (Ok n) is = absurd (let no : NoMemory ≡ UsedUp = is in cc)
-
 module _ {F L D : Type 0} (met : Ghosts D) (honest : met.honest) (sides : Sides) (doors : Doors F L) (before after : D) (closed : Option Closed) where
-  -- a link that was served over whole messages ended in peace
-  peace : (status : Status) (s : Serves met sides before after closed status) → IsWholeInput sides.left_before → IsPeaceful s.link_closed.end
-  peace status s whole =
-      peace_over SessionStep s.first s.served.final sides.left_before sides.left_after s.served.taken s.served.sent s.link_closed.end whole s.served.consumed s.served.transcript
+  -- a link that was served over whole messages wasn't cut
+  whole_link : (status : Status) (s : Serves met sides before after closed status) → IsWholeInput sides.left_before → IsUncut s.link_closed.end
+  whole_link status s whole =
+      uncut_over SessionStep s.first s.served.final sides.left_before sides.left_after s.served.taken s.served.sent s.link_closed.end whole s.served.consumed s.served.transcript
+
+  -- a session tells of a budget only where its link used it up
+  session_budget : Serves met sides before after closed Budget → UsesUpBudget closed
+  session_budget s = (of_link s.link_closed, s.is_closed, (0, s.link_closed.end ∷ [], refl, 0, ap (λ (e : LinkEnd). Some e) (status_budget s.link_closed.end s.last s.ended)))
 
   of_init : (lanes : ℕ) (config journal : List ℕ) (status : Status) → IsInit met lanes sides before after status → IsUndisturbed met (init config journal lanes) sides doors before after closed → IsEnd status
   of_init lanes config journal Done h u = inl refl
@@ -197,8 +169,8 @@ module _ {F L D : Type 0} (met : Ghosts D) (honest : met.honest) (sides : Sides)
   of_session config journal WriteFault h u = absurd (u.calm.out h.0)
   of_session config journal DiskFault h u = absurd (u.calm.disk h.0)
   of_session config journal NotAJournal h u = absurd (u.finds.1.world (h.2 honest))
-  of_session config journal InputCut h u = absurd ((peaceful_status h.link_closed.end h.last (peace InputCut h u.finds.2)).0 h.ended)
-  of_session config journal Budget h u = absurd ((peaceful_status h.link_closed.end h.last (peace Budget h u.finds.2)).1 h.ended)
+  of_session config journal InputCut h u = absurd (status_cut h.link_closed.end h.last (whole_link InputCut h u.finds.2) h.ended)
+  of_session config journal Budget h u = absurd (u.no_budget (session_budget h))
   of_session config journal UsedUp (inl (some, unserved, inl (none, same))) u = absurd (u.finds.1.run (none honest))
   of_session config journal UsedUp (inl (some, unserved, inr unbegun)) u = absurd (u.room (inl unbegun))
   of_session config journal UsedUp (inr s) u = let f = full s.link_closed.end s.last s.ended in absurd (u.room (inr (s, f.0, f.1, f.2, f.3)))
@@ -215,11 +187,8 @@ module _ {F L D : Type 0} (met : Ghosts D) (honest : met.honest) (sides : Sides)
   of_serve config journal listen workers links ReadFault h u = absurd (u.calm.config h.0)
   of_serve config journal listen workers links DiskFault h u = absurd (u.calm.disk h.0)
   of_serve config journal listen workers links NotAJournal h u = absurd (u.finds.1.world (h.2 honest))
-  of_serve config journal listen workers links DoorFault h u = absurd (u.no_door_fault h.0)
-  of_serve config journal listen workers links Budget h u =
-      let s = h.0 in
-      let none = no_budget links doors s.config.tokens s.first s.served.closing s.left.front s.left.reports.items s.served.served u.finds.2 in
-      absurd (budget_doors (reports_status s.left.reports.items) s.last (reports_budget s.left.reports.items none) s.ended)
+  of_serve config journal listen workers links DoorFault h u = absurd (u.no_door_fault h.1)
+  of_serve config journal listen workers links Budget h u = absurd (u.no_budget h.2)
   of_serve config journal listen workers links UsedUp (inl (some, unasked, inl (none, same))) u = absurd (u.finds.1.run (none honest))
   of_serve config journal listen workers links UsedUp (inl (some, unasked, inr unbegun)) u = absurd (u.room (inl unbegun))
   of_serve config journal listen workers links UsedUp (inr s) u =

@@ -1,5 +1,5 @@
 -- What reports tell of the doors at their places.
-use Rattle.std.proofs.Common.{◌≡◌, ◌⊎◌, ℕ, ◌+◌, List, [], ◌∷◌, ◌∙◌, ◌||◌, length, map, Bool, true, false, Option, Some, None, zero, suc, refl, sym, ap, arith}
+use Rattle.std.proofs.Common.{◌≡◌, ◌⊎◌, ℕ, ◌+◌, List, [], ◌∷◌, ◌∙◌, ◌||◌, length, map, Bool, true, false, Option, Some, None, zero, suc, refl, sym, ap, subst, arith}
 use Rattle.std.specs.List.{list_any, slice_get}
 use Rattle.std.proofs.lemmas.Map.Keys.{any_passes_from_place}
 use Rattle.access_lists.specs.Tokens.Bearer.{TokenTable}
@@ -8,8 +8,13 @@ use Rattle.service_core.specs.Worlds.{State}
 use Rattle.rest_session.specs.Halls.Histories.{IsServed}
 use Rattle.rest_session.specs.Halls.Visits.{IsAllOf, IsAskedToTheEnd, IsFailedFor, Telling}
 use Rattle.rest_session.specs.declared.halls.hiring.Report.{Report}
+use Rattle.rest_session.specs.declared.kept.outcome.ClosedDoors.{ClosedDoors}
+use Rattle.rest_session.specs.declared.links.end.LinkEnd.{LinkEnd}
+use Rattle.rest_session.specs.declared.links.end.LinkEnd.TheVariants as end
+use Rattle.hsds_cli.specs.declared.closed.Closed.{Closed}
+use Rattle.hsds_cli.specs.Closings.{HasFailedDoor, SomeBudget, SomeFailed, UsesUpBudget, ends_of, of_doors}
 use Rattle.hsds_cli.specs.Doors.{AreAskedOut, AreAskedUnlessFailed, Doors, IsAskedOut, SomeDoorFailed}
-use Rattle.hsds_cli.specs.Serves.{some_failed}
+use Rattle.hsds_cli.specs.Serves.{is_budget, some_budget, some_failed}
 
 -- ---- lists
 
@@ -37,6 +42,58 @@ there {A} [] ys e i x at = absurd (let no : ◌≡◌ {A = Option A} None (Some 
 there (z ∷ xs) [] e i x at = absurd (omega (arith, e))
 there (z ∷ xs) (y ∷ ys) e zero x at = (y, refl)
 there (z ∷ xs) (y ∷ ys) e (suc i) x at = there xs ys (omega (arith, e)) i x at
+
+-- ---- what is told of links
+
+budget_is : (e : LinkEnd) → is_budget e ≡ true → e ≡ end.Budget
+budget_is end.Closed is = absurd (let no : false ≡ true = is in cc)
+budget_is (end.Cut unread) is = absurd (let no : false ≡ true = is in cc)
+budget_is (end.Ended fault) is = absurd (let no : false ≡ true = is in cc)
+budget_is end.ReadFault is = absurd (let no : false ≡ true = is in cc)
+budget_is end.WriteFault is = absurd (let no : false ≡ true = is in cc)
+budget_is end.Budget is = refl
+budget_is end.NoMemory is = absurd (let no : false ≡ true = is in cc)
+
+abbrev each_end : List Report → List (List LinkEnd)
+each_end reports = map (λ r. r.ends.items) reports
+
+end_at : (rs : List Report) (i : ℕ) (r : Report) → slice_get rs i ≡ Some r → slice_get (each_end rs) i ≡ Some r.ends.items
+end_at [] i r at = absurd (let no : ◌≡◌ {A = Option Report} None (Some r) = at in cc)
+end_at (x ∷ rs) zero r at = let same : x ≡ r = cc in ap (λ (y : Report). Some y.ends.items) same
+end_at (x ∷ rs) (suc i) r at = end_at rs i r at
+
+report_at : (rs : List Report) (i : ℕ) (es : List LinkEnd) → slice_get (each_end rs) i ≡ Some es → (r : Report) × (slice_get rs i ≡ Some r) × (r.ends.items ≡ es)
+report_at [] i es at = absurd (let no : ◌≡◌ {A = Option (List LinkEnd)} None (Some es) = at in cc)
+report_at (x ∷ rs) zero es at = (x, refl, (let same : x.ends.items ≡ es = cc in same))
+report_at (x ∷ rs) (suc i) es at = report_at rs i es at
+
+closed_same : (x y : Closed) → ◌≡◌ {A = Option Closed} (Some x) (Some y) → x ≡ y
+closed_same x y e = cc
+
+module _ (left : ClosedDoors) where
+  -- a budget that was used up is told, and no other
+  pub told_budget : some_budget left.reports.items ≡ true → UsesUpBudget (Some (of_doors left))
+  told_budget e =
+      let p = any_place (λ r. list_any is_budget r.ends.items) left.reports.items e in
+      let q = any_place is_budget p.1.ends.items p.3 in
+      (of_doors left, refl, (p.0, p.1.ends.items, end_at left.reports.items p.0 p.1 p.2, q.0, q.2 ∙ ap (λ (x : LinkEnd). Some x) (budget_is q.1 q.3)))
+
+  pub told_no_budget : some_budget left.reports.items ≡ false → UsesUpBudget (Some (of_doors left)) → ⊥
+  told_no_budget none told =
+      let some : SomeBudget (each_end left.reports.items) = subst (λ (x : Closed). SomeBudget (ends_of x.ends)) (sym (closed_same (of_doors left) told.0 told.1)) told.2 in
+      let r = report_at left.reports.items some.0 some.1 some.2 in
+      let quiet : list_any is_budget some.1 ≡ false =
+      subst (λ (l : List LinkEnd). list_any is_budget l ≡ false) r.2 (none_at (λ r. list_any is_budget r.ends.items) left.reports.items some.0 r.0 none r.1) in
+      let no : true ≡ false = none_at is_budget some.1 some.3 end.Budget quiet some.4 in cc
+
+  -- and so is a door that failed
+  pub told_failed : some_failed left.reports.items ≡ true → HasFailedDoor (Some (of_doors left))
+  told_failed e = let p = any_place (λ r. r.door_failed) left.reports.items e in (of_doors left, refl, (p.0, p.1, p.2, p.3))
+
+  pub told_no_failed : some_failed left.reports.items ≡ false → HasFailedDoor (Some (of_doors left)) → ⊥
+  told_no_failed none told =
+      let some = subst (λ (x : Closed). SomeFailed x.ends) (sym (closed_same (of_doors left) told.0 told.1)) told.2 in
+      let no : true ≡ false = sym some.3 ∙ none_at (λ r. r.door_failed) left.reports.items some.0 some.1 none some.2 in cc
 
 -- ---- doors
 

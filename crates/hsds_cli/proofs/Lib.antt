@@ -1,8 +1,8 @@
-mod BudgetLemmas
 mod ClosedLemmas
 mod CompleteLemmas
 mod Configurations
 mod DoorLemmas
+mod EndLemmas
 mod ExportLemmas
 mod ImportLemmas
 mod InitLemmas

@@ -1,5 +1,5 @@
 -- What `serve` does, by its status.
-use Rattle.std.proofs.Common.{◌≡◌, inl, inr, ℕ, List, Bool, true, false, Option, Some, None, Result, Ok, Err, refl, sym, ap, subst, ◌∙◌}
+use Rattle.std.proofs.Common.{◌≡◌, inl, inr, ℕ, Bool, true, false, Option, Some, None, Result, Ok, Err, refl, sym, ap, subst, ◌∙◌}
 use Rattle.std.specs.Prelude.{if◌then◌else◌}
 use Rattle.edge_traits.specs.Causes.{Rose}
 use Rattle.edge_traits.specs.declared.disk.Disk.{Ghosts}
@@ -14,48 +14,50 @@ use Rattle.service_core.specs.Journals.Begun.{IsUnbegun}
 use Rattle.rest_session.specs.Kept.Doors.{HaveEnded, IsDoorsDiskFault}
 use Rattle.rest_session.specs.declared.kept.outcome.DoorsOutcome.{DoorsOutcome}
 use Rattle.rest_session.specs.declared.kept.outcome.DoorsOutcome.TheVariants as outcome
-use Rattle.rest_session.specs.declared.halls.hiring.Report.{Report}
+use Rattle.rest_session.specs.declared.kept.outcome.ClosedDoors.{ClosedDoors}
 use Rattle.hsds_cli.specs.declared.closed.Closed.{Closed}
 use Rattle.hsds_cli.specs.declared.status.Status.{Status}
 use Rattle.hsds_cli.specs.declared.status.Status.TheVariants.{Done, Words, Configuration, ReadFault, WriteFault, DiskFault, NotAJournal, Refused, JournalExists, DoorFault, InputCut, UsedUp, Budget, NoMemory}
+use Rattle.hsds_cli.specs.Closings.{of_doors}
 use Rattle.hsds_cli.specs.Doors.{AreAskedOut, Doors, SomeDoorFailed}
 use Rattle.hsds_cli.specs.Openings.{SpellsSome, opening_status, refusal_status, status_after}
 use Rattle.hsds_cli.specs.Runs.{IsRefusal}
 use Rattle.hsds_cli.specs.Serves.{IsServedBy, ServesDoors, doors_closed, reports_status, served_status, some_budget, some_failed}
 use Rattle.hsds_cli.specs.Sides.{Sides, Spells}
-use Rattle.hsds_cli.proofs.DoorLemmas.{asked_out, asked_unless_failed, failed_rose}
+use Rattle.hsds_cli.proofs.DoorLemmas.{asked_out, asked_unless_failed, failed_rose, told_budget, told_failed, told_no_budget, told_no_failed}
 
 module _ {F L D : Type 0} (met : Ghosts D) (links : ℕ) (sides : Sides) (doors : Doors F L) (before after : D) where
   -- doors that were served, all of which is kept, by what the workers tell
-  by_reports : (closed : Option Closed) (reports : List Report) → (some_failed reports ≡ true → SomeDoorFailed doors) → (some_failed reports ≡ false → AreAskedOut links doors)
-      → ((status : Status) → reports_status reports ≡ status → ServesDoors met links sides doors before after closed status)
-      → IsServedBy met links sides doors before after closed (reports_status reports)
-  by_reports closed reports failed whole s = by (some_failed reports) (some_budget reports) refl refl where
+  by_reports : (left : ClosedDoors) → (some_failed left.reports.items ≡ true → SomeDoorFailed doors) → (some_failed left.reports.items ≡ false → AreAskedOut links doors)
+      → ((status : Status) → reports_status left.reports.items ≡ status → ServesDoors met links sides doors before after (Some (of_doors left)) status)
+      → IsServedBy met links sides doors before after (Some (of_doors left)) (reports_status left.reports.items)
+  by_reports left failed whole s = by (some_failed left.reports.items) (some_budget left.reports.items) refl refl where
     status_by : Bool → Bool → Status
     status_by a b = if a then DoorFault else if b then Budget else Done
 
-    by : (a b : Bool) → some_failed reports ≡ a → some_budget reports ≡ b → IsServedBy met links sides doors before after closed (reports_status reports)
+    by : (a b : Bool) → some_failed left.reports.items ≡ a → some_budget left.reports.items ≡ b
+        → IsServedBy met links sides doors before after (Some (of_doors left)) (reports_status left.reports.items)
     by true b p q =
-        let is : reports_status reports ≡ DoorFault = ap (λ x. status_by x (some_budget reports)) p in
-        subst (IsServedBy met links sides doors before after closed) (sym is) (failed p, s DoorFault is)
+        let is : reports_status left.reports.items ≡ DoorFault = ap (λ x. status_by x (some_budget left.reports.items)) p in
+        subst (IsServedBy met links sides doors before after (Some (of_doors left))) (sym is) (s DoorFault is, failed p, told_failed left p)
     by false true p q =
-        let is : reports_status reports ≡ Budget = ap (λ x. status_by x (some_budget reports)) p ∙ ap (status_by false) q in
-        subst (IsServedBy met links sides doors before after closed) (sym is) (s Budget is, whole p)
+        let is : reports_status left.reports.items ≡ Budget = ap (λ x. status_by x (some_budget left.reports.items)) p ∙ ap (status_by false) q in
+        subst (IsServedBy met links sides doors before after (Some (of_doors left))) (sym is) (s Budget is, (whole p, told_no_failed left p), told_budget left q)
     by false false p q =
-        let is : reports_status reports ≡ Done = ap (λ x. status_by x (some_budget reports)) p ∙ ap (status_by false) q in
-        subst (IsServedBy met links sides doors before after closed) (sym is) (s Done is, whole p)
+        let is : reports_status left.reports.items ≡ Done = ap (λ x. status_by x (some_budget left.reports.items)) p ∙ ap (status_by false) q in
+        subst (IsServedBy met links sides doors before after (Some (of_doors left))) (sym is) (s Done is, (whole p, told_no_failed left p), told_no_budget left q)
 
   -- and by the last keeping
-  by_keeping : (closed : Option Closed) (reports : List Report) (last : Result ℕ Why) → (some_failed reports ≡ true → SomeDoorFailed doors) → (some_failed reports ≡ false → AreAskedOut links doors)
-      → ((status : Status) → status_after (reports_status reports) last ≡ status → ServesDoors met links sides doors before after closed status)
+  by_keeping : (left : ClosedDoors) (last : Result ℕ Why) → (some_failed left.reports.items ≡ true → SomeDoorFailed doors) → (some_failed left.reports.items ≡ false → AreAskedOut links doors)
+      → ((status : Status) → status_after (reports_status left.reports.items) last ≡ status → ServesDoors met links sides doors before after (Some (of_doors left)) status)
       → (last ≡ Err why.DiskFault → Rose (met.faults before) (met.faults after))
-      → IsServedBy met links sides doors before after closed (status_after (reports_status reports) last)
-  by_keeping closed reports (Err why.DiskFault) failed whole s f = (f refl, inr (s DiskFault refl))
-  by_keeping closed reports (Err (why.JournalFull end need room)) failed whole s f = inr (s UsedUp refl)
-  by_keeping closed reports (Err (why.NotAJournal at)) failed whole s f = inr (s NoMemory refl)
-  by_keeping closed reports (Err why.Exists) failed whole s f = inr (s NoMemory refl)
-  by_keeping closed reports (Err why.NoMemory) failed whole s f = inr (s NoMemory refl)
-  by_keeping closed reports (Ok n) failed whole s f = by_reports closed reports failed whole s
+      → IsServedBy met links sides doors before after (Some (of_doors left)) (status_after (reports_status left.reports.items) last)
+  by_keeping left (Err why.DiskFault) failed whole s f = (f refl, inr (s DiskFault refl))
+  by_keeping left (Err (why.JournalFull end need room)) failed whole s f = inr (s UsedUp refl)
+  by_keeping left (Err (why.NotAJournal at)) failed whole s f = inr (s NoMemory refl)
+  by_keeping left (Err why.Exists) failed whole s f = inr (s NoMemory refl)
+  by_keeping left (Err why.NoMemory) failed whole s f = inr (s NoMemory refl)
+  by_keeping left (Ok n) failed whole s f = by_reports left failed whole s
 
   module _ (config : Config) (spelled : Spells sides.text config) where
     unopened : (refusal : OpenFault) → HaveEnded met doors.tells config.tokens links before after doors.before doors.after (outcome.Unopened refusal)
@@ -82,7 +84,7 @@ module _ {F L D : Type 0} (met : Ghosts D) (links : ℕ) (sides : Sides) (doors 
     doors_ended (outcome.Served closed last) e f =
         let k = e.3 in
         let rs = closed.reports.items in
-        by_keeping (doors_closed (outcome.Served closed last)) rs last
+        by_keeping closed last
         (failed_rose links doors config.tokens e.1 k.closing closed.front rs k.served)
         (asked_out links doors config.tokens e.1 k.closing closed.front rs k.served)
         (λ status is. record {

@@ -1,10 +1,9 @@
 -- When a command can end only as it should, or for want of memory.
---     Finds met command sides doors before      what the command needs stands there
+--     Finds met command sides before      what the command needs stands there
 --     IsCalm met sides before after      no count of faults rose
 --     MeetsDoorFault command doors      a door had a fault
 --     MeetsRoom met command sides doors before after closed      a keeping was refused for want of room
-use Rattle.std.specs.Prelude.{◌≡◌, ◌≢◌, ◌⊎◌, ℕ, ◌<◌, List, take, length, Option, Some, None, Err, slice_get}
-use Rattle.std.specs.List.{AllByRecursion}
+use Rattle.std.specs.Prelude.{◌≡◌, ◌≢◌, ◌⊎◌, ℕ, List, take, Option, Some, None, Err}
 use Rattle.json_import.specs.Adoption.Faults.{adopt_fault}
 use Rattle.edge_traits.specs.Causes.{Rose}
 use Rattle.edge_traits.specs.declared.disk.Disk.{Ghosts}
@@ -18,12 +17,11 @@ use Rattle.documents.specs.Reader.Loads.{LoadsText}
 use Rattle.documents.specs.declared.reader.loaded.Loaded.{Loaded}
 use Rattle.service_core.specs.Journals.Opening.{IsOf}
 use Rattle.service_core.specs.Journals.Begun.{IsRecovered, IsUnbegun}
-use Rattle.rest_session.specs.Halls.Visits.{Telling}
 use Rattle.rest_session.specs.Links.Links.{AllSpelled, spellings}
-use Rattle.rest_session.specs.declared.links.end.TheConstants.{BUDGET}
 use Rattle.hsds_cli.specs.declared.closed.Closed.{Closed}
 use Rattle.hsds_cli.specs.declared.status.Status.TheVariants.{UsedUp}
 use Rattle.service_core.specs.Steps.{World}
+use Rattle.hsds_cli.specs.Closings.{UsesUpBudget}
 use Rattle.hsds_cli.specs.Doors.{Doors, SomeDoorFailed}
 use Rattle.hsds_cli.specs.Exports.{IsWithheld}
 use Rattle.hsds_cli.specs.Imports.{IsStopped}
@@ -39,22 +37,11 @@ pub record IsConfigured (text : Option (List ℕ)) : Type 0 where
   pub config : Config
   pub spelled : configured bytes ≡ Some config
 
--- the input is told, and is whole messages, fewer than a link may make
+-- the input is told, and is whole messages
 pub record IsWholeInput (left : Option (List ℕ)) : Type 0 where
   pub messages : List RequestMessage
   pub told : left ≡ Some (spellings messages)
   pub spelled : AllSpelled messages
-  pub few : length messages < BUDGET
-
--- the door tells its links, and each of them brings whole messages
-pub record HasWholeLinks {F L : Type 0} (tells : Telling F L) (door : F) : Type 0 where
-  pub links : List L
-  pub told : tells.left door ≡ Some links
-  pub whole : AllByRecursion (λ l. IsWholeInput (tells.bytes l)) links
-
--- so does each door
-abbrev pub AreWholeDoors : {F L : Type 0} → Doors F L → Type 0
-AreWholeDoors {F} doors = (i : ℕ) (door : F) → slice_get doors.before i ≡ Some door → HasWholeLinks doors.tells door
 
 -- the bytes are a journal that keeps a world, and a run is left
 pub record IsOpenable (file : List ℕ) : Type 0 where
@@ -73,15 +60,14 @@ pub record HasAdoptable (file path : List ℕ) (left : Option (List ℕ)) : Type
   pub loads : LoadsText text document
   pub free : (w : World) → IsOf file (λ c. IsRecovered c.held w) → (l : Loaded) → LoadsText text l → adopt_fault w.register path l ≡ None
 
-abbrev pub Finds : {F L D : Type 0} (met : Ghosts D) → Command → Sides → Doors F L → D → Type 0
-Finds met (init config journal lanes) sides doors before = IsConfigured sides.text × (take 8 (met.reads before) ≢ magic)
-Finds met (session config journal) sides doors before = IsConfigured sides.text × IsOpenable (met.reads before) × IsWholeInput sides.left_before
-Finds met (serve config journal listen workers links) sides doors before =
-    IsConfigured sides.text × IsOpenable (met.reads before) × AreWholeDoors doors
-Finds met (export path journal) sides doors before = IsOpenable (met.reads before) × HasDocument (met.reads before) path
-Finds met (import path journal owner) sides doors before = IsOpenable (met.reads before) × HasAdoptable (met.reads before) path sides.left_before
-Finds met (sample n) sides doors before = Unit {0}
-Finds met (verify journal) sides doors before = IsOpenable (met.reads before)
+abbrev pub Finds : {D : Type 0} (met : Ghosts D) → Command → Sides → D → Type 0
+Finds met (init config journal lanes) sides before = IsConfigured sides.text × (take 8 (met.reads before) ≢ magic)
+Finds met (session config journal) sides before = IsConfigured sides.text × IsOpenable (met.reads before) × IsWholeInput sides.left_before
+Finds met (serve config journal listen workers links) sides before = IsConfigured sides.text × IsOpenable (met.reads before)
+Finds met (export path journal) sides before = IsOpenable (met.reads before) × HasDocument (met.reads before) path
+Finds met (import path journal owner) sides before = IsOpenable (met.reads before) × HasAdoptable (met.reads before) path sides.left_before
+Finds met (sample n) sides before = Unit {0}
+Finds met (verify journal) sides before = IsOpenable (met.reads before)
 
 pub record IsCalm {D : Type 0} (met : Ghosts D) (sides : Sides) (before after : D) : Type 0 where
   pub config : ConfigFailed sides → ⊥
@@ -109,9 +95,10 @@ MeetsRoom met (import path journal owner) sides doors before after closed =
 MeetsRoom met (sample n) sides doors before after closed = ⊥
 MeetsRoom met (verify journal) sides doors before after closed = ⊥
 
--- the command finds what it needs, nothing fails, and each keeping has room
+-- the command finds what it needs, nothing fails, no link uses up its budget, and each keeping has room
 pub record IsUndisturbed {F L D : Type 0} (met : Ghosts D) (command : Command) (sides : Sides) (doors : Doors F L) (before after : D) (closed : Option Closed) : Type 0 where
-  pub finds : Finds met command sides doors before
+  pub finds : Finds met command sides before
   pub calm : IsCalm met sides before after
   pub no_door_fault : MeetsDoorFault command doors → ⊥
+  pub no_budget : UsesUpBudget closed → ⊥
   pub room : MeetsRoom met command sides doors before after closed → ⊥

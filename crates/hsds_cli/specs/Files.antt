@@ -43,6 +43,15 @@ listening_for command = None
 abbrev pub listening_named : Listening → Text × ℕ
 listening_named l = (l.address.now, l.workers)
 
+-- how many workers a command has, each with a door of its own
+abbrev pub workers_for : Option Command → ℕ
+workers_for (Some (serve config journal listen workers links)) = workers
+workers_for command = 0
+
+abbrev pub workers_at : Option (Text × ℕ) → ℕ
+workers_at None = 0
+workers_at (Some listening) = listening.1
+
 -- how the system is asked for a file
 abbrev pub options_for : Access → OpenOptions
 options_for Read = with_read new_options true

@@ -26,7 +26,7 @@ use Rattle.rest_session.specs.declared.links.end.LinkEnd.TheVariants as end
 use Rattle.hsds_cli.specs.declared.closed.Closed.{Closed}
 use Rattle.hsds_cli.specs.declared.status.Status.{Status}
 use Rattle.hsds_cli.specs.declared.status.Status.TheVariants.{Done, Words, Configuration, ReadFault, WriteFault, DiskFault, NotAJournal, Refused, JournalExists, DoorFault, InputCut, UsedUp, Budget, NoMemory}
-use Rattle.hsds_cli.specs.Closings.{of_doors}
+use Rattle.hsds_cli.specs.Closings.{HasFailedDoor, UsesUpBudget, of_doors}
 use Rattle.hsds_cli.specs.Doors.{AreAskedOut, AreAskedUnlessFailed, Doors, SomeDoorFailed}
 use Rattle.hsds_cli.specs.Openings.{HasNoRun, HasNoWorld, IsDiskAsBefore, SpellsSome, opening_status, refusal_status, status_after}
 use Rattle.hsds_cli.specs.Sides.{ConfigFailed, IsUntouched, Sides, Spells, SpellsNone}
@@ -99,9 +99,13 @@ module _ {F L D : Type 0} (met : Ghosts D) (links : ℕ) (sides : Sides) (doors 
   abbrev pub Served : Status → Type 0
   Served status = ServesDoors met links sides doors before after closed status
 
-  -- by the status; at 0 and 12 also a door whose count of faults rose was asked to its end
+  -- no worker's door failed, so also a door whose count of faults rose was asked to its end
+  abbrev pub AreWell : Type 0
+  AreWell = AreAskedOut links doors × (HasFailedDoor closed → ⊥)
+
+  -- by the status
   abbrev pub IsServedBy : Status → Type 0
-  IsServedBy Done = Served Done × AreAskedOut links doors
+  IsServedBy Done = Served Done × AreWell × (UsesUpBudget closed → ⊥)
   IsServedBy Configuration = SpellsNone sides.text × AreUnasked doors closed × (after ≡ before)
   IsServedBy ReadFault = ConfigFailed sides × AreUnasked doors closed × (after ≡ before)
   IsServedBy DiskFault =
@@ -109,13 +113,13 @@ module _ {F L D : Type 0} (met : Ghosts D) (links : ℕ) (sides : Sides) (doors 
       × ((SpellsSome sides × AreUnasked doors closed × IsDiskAsBefore met before after why.DiskFault) ⊎ Served DiskFault)
   IsServedBy NotAJournal =
       SpellsSome sides × AreUnasked doors closed × (met.honest → HasNoWorld (met.reads before)) × (met.honest → SameBytes met before after)
-  IsServedBy DoorFault = SomeDoorFailed doors × Served DoorFault
+  IsServedBy DoorFault = Served DoorFault × SomeDoorFailed doors × HasFailedDoor closed
   IsServedBy UsedUp =
       (SpellsSome sides × AreUnasked doors closed
       × (((met.honest → HasNoRun (met.reads before)) × (met.honest → SameBytes met before after))
       ⊎ ((end : ℕ) × (need : ℕ) × (room : ℕ) × IsUnbegun met before after (why.JournalFull end need room))))
       ⊎ Served UsedUp
-  IsServedBy Budget = Served Budget × AreAskedOut links doors
+  IsServedBy Budget = Served Budget × AreWell × UsesUpBudget closed
   IsServedBy NoMemory =
       (AreUnasked doors closed × (IsDiskAsBefore met before after why.NoMemory ⊎ IsBegunAlone met before after)) ⊎ Served NoMemory
   IsServedBy Words = ⊥

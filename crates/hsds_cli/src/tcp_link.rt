@@ -1,10 +1,12 @@
 //! A conversation over TCP.
 
-ghost use Rattle.std.specs.Prelude.{◌≡◌, ◌≤◌, IfOk, None, refl};
+ghost use Rattle.std.specs.Prelude.{◌≡◌, ◌<◌, ◌≤◌, IfOk, IfSome, None, length, refl};
+ghost use Rattle.hsds_cli.specs.declared.tcp_link.TheConstants.{LAST_SECONDS, MOST_DROPPED};
+ghost use Rattle.hsds_cli.specs.declared.tcp_link.TheConstants.{SILENCE};
 
 use edge_traits::{Failed, FaultCount, Link, Sink, Source};
 use std::io;
-use std::io::{Read, Write};
+use std::io::{ErrorKind, Read, Write};
 use std::net::{Shutdown, TcpStream};
 use std::rt::Clock;
 use std::time::{Duration, Instant};
@@ -21,8 +23,16 @@ const MOST_DROPPED: usize = 1 << 16;
 /// The most bytes that one read drops.
 const DROPPED_AT_ONCE: usize = 4096;
 
+/// A link is silent for 30 seconds at most, and at its end at most 65,536 bytes are dropped, for a second.
+pub fn limits_of_links()
+    ensures silence { SILENCE ≡ 30 }
+    ensures dropped { MOST_DROPPED ≡ 65_536 }
+    ensures last { LAST_SECONDS ≡ 1 }
+{}
+
 /// A link over TCP. It tells nothing of what comes and goes. A read that brings nothing for 30 seconds is a fault, and so is a
-/// write of which nothing is taken for as long. What is written is sent at once, and isn't held back for more to come.
+/// write of which nothing is taken for as long; one that a signal interrupted is tried again. What is written is sent at once,
+/// and isn't held back for more to come.
 #[derive(Drop)]
 pub struct TcpLink {
     stream: TcpStream,
@@ -70,21 +80,52 @@ fn drop_rest(stream: &mut TcpStream, clock: &impl Clock) -> io::Result<()> {
             break;
         };
         stream.set_read_timeout(Some(wait))?;
-        match drop_some(stream, left)? {
-            0 => break,
-            count => left -= count,
+        match drop_some(stream, left) {
+            Some(count) if count > 0 => left -= count,
+            _ => break,
         }
     }
     Ok(())
 }
 
 // Reads and drops some bytes, at most so many. None come where the other side has ended, or none are left to be dropped.
-fn drop_some(stream: &mut TcpStream, most: usize) -> io::Result<usize>
-    ensures { IfOk result (λ n. n ≤ most) }
+fn drop_some(stream: &mut TcpStream, most: usize) -> Option<usize>
+    ensures { IfSome result (λ n. n ≤ most) }
 {
     let mut dropped = [0; DROPPED_AT_ONCE];
     let most = most.min(DROPPED_AT_ONCE);
-    stream.read(&mut dropped[..most])
+    read_some(stream, &mut dropped[..most])
+}
+
+// Reads what comes, and tries again where a signal interrupted that. `None` where the system has another error.
+fn read_some(stream: &mut TcpStream, buf: &mut [u8]) -> Option<usize>
+    ensures bound { IfSome result (λ n. n ≤ length buf.old) }
+    ensures same { length buf.new ≡ length buf.old }
+{
+    for _ in 0..u64::MAX {
+        match stream.read(buf) {
+            Ok(count) => return Some(count),
+            Err(e) if e.kind() == ErrorKind::Interrupted => {}
+            Err(_) => return None,
+        }
+    }
+    None
+}
+
+// Writes some of these bytes, one of them at least where there are any, and tries again where a signal interrupted that. `None`
+// where none is taken, or the system has another error.
+fn write_some(stream: &mut TcpStream, bytes: &[u8]) -> Option<usize>
+    ensures bound { IfSome result (λ n. n ≤ length bytes.now) }
+    ensures moves { IfSome result (λ n. 0 < length bytes.now → 0 < n) }
+{
+    for _ in 0..u64::MAX {
+        match stream.write(bytes) {
+            Ok(count) if count > 0 || bytes.is_empty() => return Some(count),
+            Err(e) if e.kind() == ErrorKind::Interrupted => {}
+            _ => return None,
+        }
+    }
+    None
 }
 
 impl Source for TcpLink {
@@ -95,9 +136,9 @@ impl Source for TcpLink {
     ghost beside = { λ l. (None, l.write_faults) };
 
     fn read(&mut self, buf: &mut [u8]) -> Result<usize, Failed> {
-        match self.stream.read(buf) {
-            Ok(count) => Ok(count),
-            Err(_) => {
+        match read_some(&mut self.stream, buf) {
+            Some(count) => Ok(count),
+            None => {
                 self.read_faults.rise();
                 Err(Failed)
             }
@@ -113,9 +154,9 @@ impl Sink for TcpLink {
     ghost beside = { λ l. (None, l.read_faults) };
 
     fn write(&mut self, bytes: &[u8]) -> Result<usize, Failed> {
-        match self.stream.write(bytes) {
-            Ok(count) if count > 0 || bytes.is_empty() => Ok(count),
-            _ => {
+        match write_some(&mut self.stream, bytes) {
+            Some(count) => Ok(count),
+            None => {
                 self.write_faults.rise();
                 Err(Failed)
             }

@@ -1,7 +1,8 @@
-use Rattle.std.proofs.Common.{inr}
+use Rattle.std.proofs.Common.{inr, sym, ◌∙◌}
 use Rattle.hsds_cli.proofs.start.Goals as goal
 
 pub returns : goal.returns
 returns g c =
     let ran = c.run-finished.ensures.run in
-    inr (_, c.journal_disk.result, ran.1, c.run-finished.result.closed, _, _, ran.0, ran.2, ran.5)
+    let doors = c.in-Ok-doors_for in
+    inr (_, c.journal_disk.result, ran.1, c.run-finished.result.closed, _, _, ran.0, ran.2, sym doors.doors.ok.0 ∙ doors.ensures.one_each, ran.5)
