@@ -1,3 +1,4 @@
 mod LastLemmas
 mod PassLemmas
+mod CallerLists
 pub mod OfExamples

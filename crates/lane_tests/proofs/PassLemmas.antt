@@ -8,7 +8,7 @@ use Rattle.hall.specs.Answers.{ArrayStart}
 use Rattle.hall.specs.Passes.{HasBegun, names_of, view_of, who}
 use Rattle.hall.specs.declared.hall.Hall.{Hall}
 use Rattle.hall.specs.declared.pass.Pass.{Pass}
-use Rattle.lane_tests.specs.Crowds.{IsGiver, IsMember}
+use Rattle.lane_tests.specs.Crowds.{IsGiver}
 
 -- as many as before, where only a split or a join could change them
 pub names_still : {D : Type 0} (p q : Pass D) → who q ≡ who p → length (names_of q) ≡ length (names_of p)

@@ -1,5 +1,7 @@
 //! A hall over the world of a journal, asked row by row.
 
 mod asks;
+mod crowds;
+mod histories;
 mod rows;
 mod worlds;

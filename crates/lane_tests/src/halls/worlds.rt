@@ -20,9 +20,20 @@ const LABORATORY: &str = r#"|alice|/home|PUT|/|{"folder":true}
 |alice|/home/lab|PUT|/acls/g:lab|{"read":true}
 |alice|/home/lab|PUT|/acls/g:ops|{"update":true}"#;
 
+/// What the laboratory has besides: a dataset in each lane.
+const DATASETS: &str = r#"
+|alice|/home/lab|POST|/datasets|{"type":"H5T_STD_I32LE","shape":[4]}
+|alice|/home/lab|POST|/datasets|{"type":"H5T_STD_I8LE","shape":[4,2],"maxdims":[0,2]}"#;
+
 /// The bytes of a journal that holds the laboratory.
 pub(crate) fn laboratory(alloc: Global) -> Result<Vec<u8>, Fail> {
     made_by(alloc, LABORATORY)
+}
+
+/// The bytes of a journal that holds it with its datasets.
+pub(crate) fn workshop(alloc: Global) -> Result<Vec<u8>, Fail> {
+    let rows = format!(in alloc; "{LABORATORY}{DATASETS}")?;
+    made_by(alloc, rows.as_str())
 }
 
 /// The world that a journal of these bytes holds, in run 2, with the journal.
