@@ -1,8 +1,9 @@
-//! What lies between the commands and the files of a system: which files a command opens, a folder whose sync fails, and a disk that
-//! was not opened.
+//! What lies between the commands and the files of a system: which files a command opens, which runs have one at a time, a folder
+//! whose sync fails, and a disk that was not opened.
 
 use crate::exchanges::column;
 use crate::files::{Access, CommandFiles, JournalFile, files_of};
+use crate::journal_file;
 use crate::named_disk::NamedDisk;
 use crate::opened_disk::OpenedDisk;
 use crate::run::run;
@@ -62,6 +63,38 @@ fn a_command_opens_its_files(rt: HostRuntime) -> Result<(), Fail> {
         let wanted = format!(in alloc; "{}|{}", column(row, 1), column(row, 2))?;
         assert!(rt; opened.as_str() == wanted.as_str(), "{row}");
     }
+    Ok(())
+}
+
+/// Whether a journal can be opened so.
+fn is_had(rt: &HostRuntime, access: Access) -> bool {
+    let name = "locked.journal";
+    journal_file(rt, JournalFile { name, access }).is_ok()
+}
+
+/// Which of the three ways of opening it are open beside a run that has it so.
+fn beside(rt: &HostRuntime, access: Access) -> Result<[bool; 3], Fail> {
+    let name = "locked.journal";
+    let Ok(_had) = journal_file(rt, JournalFile { name, access }) else {
+        return Err(Fail::from("the journal can't be opened"));
+    };
+    Ok([
+        is_had(rt, Access::Read),
+        is_had(rt, Access::Change),
+        is_had(rt, Access::Make),
+    ])
+}
+
+#[test]
+fn one_run_at_a_time_has_a_journal_or_many_read_it(rt: HostRuntime) -> Result<(), Fail> {
+    for (access, free) in [
+        (Access::Make, [false, false, false]),
+        (Access::Change, [false, false, false]),
+        (Access::Read, [true, false, false]),
+    ] {
+        assert!(rt; beside(&rt, access)? == free);
+    }
+    assert!(rt; is_had(&rt, Access::Change));
     Ok(())
 }
 

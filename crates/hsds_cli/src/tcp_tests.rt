@@ -1,6 +1,9 @@
 //! Doors and links over TCP, at the loopback address.
 
+use crate::doors_for;
+use crate::exchanges::column;
 use crate::tcp_door::{TcpDoor, doors_at};
+use crate::trials::words_of;
 use edge_traits::{Door, Source, write_all};
 use std::io;
 use std::io::{Read, Write};
@@ -9,6 +12,15 @@ use std::test::Fail;
 
 /// More than is read before the answer, and less than is dropped at the end.
 const LATE: usize = 40_000;
+
+// A row is a line, and the number of its doors.
+static DOORS: &str = "serve --listen 127.0.0.1:0|4
+serve --workers 1 --listen=127.0.0.1:0|1
+serve --listen 127.0.0.1:0 --workers 16 --links 1|16
+serve --listen nowhere --workers 3|3
+serve --listen 127.0.0.1:0 --workers 17|0
+session|0
+verify|0";
 
 /// The door at what is listened at.
 fn door_at(rt: &HostRuntime, listener: Option<&TcpListener>) -> Result<TcpDoor<HostRuntime>, Fail> {
@@ -55,5 +67,17 @@ fn a_door_where_nothing_is_listened_at_has_faults(rt: HostRuntime) -> Result<(),
     assert!(rt; door.next().is_err());
     let listener = TcpListener::bind(&rt, "127.0.0.1:0")?;
     assert!(rt; TcpListener::bind(&rt, listener.local_addr()?).is_err());
+    Ok(())
+}
+
+#[test]
+fn each_worker_of_a_command_has_a_door(rt: HostRuntime) -> Result<(), Fail> {
+    let alloc = rt.alloc();
+    for row in DOORS.split('\n') {
+        let words = words_of(alloc, column(row, 0))?;
+        let doors = doors_for(&rt, words.as_slice())?;
+        let count = format!(in alloc; "{}", doors.len())?;
+        assert!(rt; count.as_str() == column(row, 1), "{row}");
+    }
     Ok(())
 }
