@@ -23,7 +23,7 @@ use Rattle.lane_histories.specs.declared.items.Part.{Part}
 use Rattle.lane_histories.specs.declared.items.Part.TheVariants.{Only, First, Second}
 use Rattle.lane_histories.specs.declared.items.RegisterItem.TheVariants.{Entered, DrawnCut, RegisterCut}
 use Rattle.service_histories.specs.ArrayServices.{Asked, MayDecide, array_service, cut_recorded, left_by, listed, task_of, turns_for, turns_of}
-use Rattle.service_histories.specs.Calls.{CutsLeave, DecisionsAnswer, DropsAct, DropsFindMemory, IsAnswer, StepsAct, TurnsAreAtHome}
+use Rattle.service_histories.specs.Calls.{CutsLeave, DecisionsAnswer, DropsAct, DropsFindMemory, DropsReply, IsAnswer, StepsAct, TurnsAreAtHome}
 use Rattle.service_histories.specs.declared.tasks.Task.{Task}
 use Rattle.service_histories.specs.declared.tasks.Task.TheVariants.{TakesStep, DropsDomain}
 use Rattle.service_histories.proofs.IdMaps.{get_without}
@@ -56,6 +56,9 @@ decisions_answer d asked v new h = answer d asked v new h
 
 pub drops_act : DropsAct
 drops_act number old new h = same_map id_order_total id_order_once _ _ (λ q. h q ∙ sym (get_without number old q))
+
+pub drops_reply : DropsReply
+drops_reply number old issue = refl
 
 pub cuts_leave : (lanes : ℕ) → CutsLeave lanes
 cuts_leave lanes d = record { drawn = refl; whole = refl; short = refl }

@@ -2,6 +2,7 @@
 --     DecisionsAnswer       what a decision of the register leaves is what its verdict leaves
 --     CutsLeave             what a drawn cut and a cut of the register leave is what their items leave
 --     StepsAct, DropsAct    a step of an owner, and the drop of a domain, are what their tasks do
+--     DropsReply            the drop of a domain replies in each lane what its place is answered
 --     TurnsAreAtHome        the next turn of a lane touches an object of the lane
 use Rattle.std.specs.Prelude.{◌≡◌, ℕ, true, false}
 use Rattle.object_ops.specs.declared.grants.Grant.{Grant}
@@ -12,13 +13,16 @@ use Rattle.chunk_owner.specs.Acts.{IsTouchedIn, acted, touched}
 use Rattle.chunk_owner.specs.Lanes.{Forgets}
 use Rattle.register.specs.Decided.{Decides, RegisterState, drawn}
 use Rattle.register.specs.Kept.{all_kept}
+use Rattle.register.specs.Tickets.{Issue}
 use Rattle.register.specs.declared.verdicts.Verdict.{Verdict}
+use Rattle.register.specs.declared.verdicts.Verdict.TheVariants.{Granted}
 use Rattle.lane_histories.specs.Histories.{History, part_of}
 use Rattle.lane_histories.specs.Legal.{IsLegal, IsNext}
+use Rattle.lane_histories.specs.Replies.{by_register, by_turn}
 use Rattle.lane_histories.specs.Services.{World}
 use Rattle.lane_histories.specs.declared.items.Part.{Part}
 use Rattle.service_histories.specs.ArrayServices.{Asked, MayDecide, array_service, done_by, left_by}
-use Rattle.service_histories.specs.PlainSteps.{IsOverLanes}
+use Rattle.service_histories.specs.PlainSteps.{IsOverLanes, answer_of}
 use Rattle.service_histories.specs.declared.tasks.Task.TheVariants.{TakesStep, DropsDomain}
 
 -- the verdict may come, and this is what it leaves
@@ -54,6 +58,11 @@ DropsFindMemory lanes = (number : ℕ) → (array_service lanes).MayBeShort (Dro
 -- the objects without those of a domain
 abbrev pub DropsAct : Type 0
 DropsAct = (number : ℕ) (old new : Objects) → Forgets number old new → new ≡ (done_by (DropsDomain number) old).1
+
+-- in each lane the drop of a domain replies what its place is answered
+abbrev pub DropsReply : Type 0
+DropsReply = (number : ℕ) (old : Objects) (issue : Issue)
+    → answer_of (by_turn (done_by (DropsDomain number) old).0) ≡ answer_of (by_register (Granted issue))
 
 abbrev pub TurnsAreAtHome : ℕ → Type 0
 TurnsAreAtHome lanes =

@@ -17,7 +17,7 @@ ghost use Rattle.lane_histories.specs.Ready.{GivesOut};
 ghost use Rattle.lane_histories.specs.Since.{SaysAll, TurnsStaySince};
 ghost use Rattle.service_histories.specs.ArrayServices.{array_service};
 ghost use Rattle.service_histories.specs.Calls.{CutsLeave, DecisionsAnswer, DropsAct, DropsFindMemory};
-ghost use Rattle.service_histories.specs.Calls.{StepsAct, TurnsAreAtHome};
+ghost use Rattle.service_histories.specs.Calls.{DropsReply, StepsAct, TurnsAreAtHome};
 ghost use Rattle.service_histories.specs.Closings.{LeftWorldsAreSaid, WorldsClose};
 ghost use Rattle.service_histories.specs.Closings.{WorldsCloseSeen};
 ghost use Rattle.service_histories.specs.Counts.{FreshRegistersHaveRoom, InstallsAreFresh};
@@ -115,12 +115,13 @@ pub fn own_entries_are_in_order()
 /// A decision of the register is an entry's: its verdict may come, and leaves the register that it
 /// leaves. A drawn cut and a cut of the register leave what their items leave, with memory or
 /// without. A step of an owner, and the drop of a domain's objects, leave what their turns leave; a
-/// step may find no memory, and a drop always finds it.
+/// step may find no memory; a drop always finds it, and replies what its place is answered.
 pub fn calls_are_events()
     ensures decision { DecisionsAnswer }
     ensures cut { (lanes : ℕ) → CutsLeave lanes }
     ensures step { (lanes : ℕ) → StepsAct lanes }
     ensures drop { DropsAct }
+    ensures reply { DropsReply }
     ensures memory { (lanes : ℕ) → DropsFindMemory lanes }
 {}
 
