@@ -26,7 +26,6 @@ use Rattle.hall_rule.specs.declared.slot.LaneSlot.{LaneSlot}
 use Rattle.hall_rule.specs.declared.slot.Slot.TheVariants.{AtLane}
 use Rattle.hall_rule.specs.Claims.{claim}
 use Rattle.hall_rule.specs.Machines.{Machines, world_of}
-use Rattle.hall_rule.specs.Machines.{objects_in as ruled_objects}
 use Rattle.hall_rule.specs.Queues.{slot_of}
 use Rattle.hall_rule.specs.Rule.{HallHand, seeing}
 use Rattle.hall_rule.specs.Seen.{at_lane, history_of}
@@ -44,7 +43,9 @@ use Rattle.service_histories.specs.Tellings.{objects_in}
 use Rattle.service_histories.specs.declared.tasks.Task.{Task}
 use Rattle.hall.specs.declared.desk.NotedDesk.{NotedDesk}
 use Rattle.hall.specs.Answers.{ArrayStart, ArrayView}
-use Rattle.hall.specs.ArrayMachines.{IsOpened, lanes_in, machines}
+use Rattle.hall.specs.ArrayMachines.{IsOpened, desk_machines, lanes_in, machines}
+use Rattle.hall.specs.declared.desk.AtDesk.{Ghosts}
+use Rattle.hall.proofs.PlainLemmas.{acted_so, desk_objects}
 use Rattle.hall.specs.Turns.{IsReadyFor, Performs}
 
 -- ---- what an owner did
@@ -65,29 +66,22 @@ module _ (n : ℕ) where
   left_by task old new Short did = did.1
   left_by task old new Skipped did = did
 
--- the objects of a lane as the rule has them are those with which histories begin
-same_objects : (D : Type 0) (lanes : ℕ) (owners : List Lane) (l : ℕ)
-    → ruled_objects (machines {D = D} lanes) owners l ≡ objects_in owners l
-unfolding machines
-same_objects D lanes [] l = refl
-same_objects D lanes (o ∷ owners) zero = refl
-same_objects D lanes (o ∷ owners) (suc l) = same_objects D lanes owners l
-
-module _ {D : Type 0} (start : ArrayStart D) where
+module _ {K : Type 0} (start : ArrayStart K) where
   abbrev service : Service
   service = array_service (lanes_in start)
 
-  abbrev machines_of : Machines service RegisterState Lane (NotedDesk D) D
-  machines_of = machines (lanes_in start)
+module _ {D K : Type 0} (met : Ghosts D K) (start : ArrayStart K) where
+  abbrev machines_of : Machines (service start) RegisterState Lane (NotedDesk D) K
+  machines_of = desk_machines met (lanes_in start)
 
   abbrev Hand : Type 0
-  Hand = HallHand service RegisterState Lane (NotedDesk D) D
+  Hand = HallHand (service start) RegisterState Lane (NotedDesk D) K
 
   -- what was changed is marked
   marks : ((lanes : ℕ) → OwnersMark lanes) → ((lanes : ℕ) → TurnsStaySince (array_marking lanes)) → (lane : ℕ) (old new : Lane)
       → IsSameLane old new → StillSays old.slots new.slots → (was : Lane) → machines_of.OwnerIsSince old lane was
       → machines_of.OwnerIsSince new lane was
-  unfolding machines
+  unfolding desk_machines
   marks mark stay lane old new same says was is = record {
     lane_is = same.lane ∙ is.lane_is;
     lanes_are = same.lanes ∙ is.lanes_are;
@@ -96,19 +90,19 @@ module _ {D : Type 0} (start : ArrayStart D) where
     since = stay (lanes_in start) lane was old new is.since (mark (lanes_in start) lane old new same says);
   }
 
-module _ {D : Type 0} {start : ArrayStart D} where
-  module _ {lane n : ℕ} {first taken : Hand start} where
+module _ {D K : Type 0} (met : Ghosts D K) {start : ArrayStart K} where
+  module _ {lane n : ℕ} {first taken : Hand met start} where
     -- the ticket's turn was waited for
-    pub took : {place : ℕ} {part : Part} {task : Task} {skip : Bool} → LaneTurns (machines_of start)
+    pub took : {place : ℕ} {part : Part} {task : Task} {skip : Bool} → LaneTurns (machines_of met start)
         → MayAct (service start) start lane n place part task skip first.0
         → ((others : List Claim) → MayLook start (OfLane lane) n others first.0
-        → HasTaken (machines_of start) start (claim (OfLane lane) n false) others first taken)
-        → HasTaken (machines_of start) start (claim (OfLane lane) n false) (others_of first.0.claims) first taken
+        → HasTaken (machines_of met start) start (claim (OfLane lane) n false) others first taken)
+        → HasTaken (machines_of met start) start (claim (OfLane lane) n false) (others_of first.0.claims) first taken
     took {place = place} {part = part} {task = task} {skip = skip} laws may wait =
         wait (others_of first.0.claims) (laws.may_look start lane n place part task skip first.0 may)
 
-    module _ (t : HasTaken (machines_of start) start (claim (OfLane lane) n false) (others_of first.0.claims) first taken) where
-      pub in_hand : {home : ℕ} → HandsHold (machines_of start) → home ≡ slot_of (OfLane lane)
+    module _ (t : HasTaken (machines_of met start) start (claim (OfLane lane) n false) (others_of first.0.claims) first taken) where
+      pub in_hand : {home : ℕ} → HandsHold (machines_of met start) → home ≡ slot_of (OfLane lane)
           → HandLaws taken home (slot_of (OfLane lane)) (seeing first.0 (claim (OfLane lane) n true ∷ others_of first.0.claims) t.seen)
           t.slot first.1
       in_hand {home = home} hands at = hands taken home (slot_of (OfLane lane))
@@ -116,34 +110,34 @@ module _ {D : Type 0} {start : ArrayStart D} where
 
       module _ {d : LaneSlot Lane Reply} (here : t.slot ≡ AtLane d) where
         -- the owner stands for its list
-        stands : IsOwnerOf (machines_of start) start t.seen lane d.owner
+        stands : IsOwnerOf (machines_of met start) start t.seen lane d.owner
         stands = subst (λ (x : HallSlot (service start) RegisterState Lane (NotedDesk D)).
-            StandsFor (machines_of start) (OfLane lane) x start t.seen) here t.stands
+            StandsFor (machines_of met start) (OfLane lane) x start t.seen) here t.stands
 
         module _ (opened : IsOpened start) (place : ℕ) (part : Part) where
           -- the next turn of the lane finds what its task needs
           finds : (task : Task) → ((lanes : ℕ) → TurnsFindWhatTheyNeed lanes)
               → IsNext (service start) (history_of (service start) t.seen) lane (part_of place part task) → Needs task d.owner.objects
-          unfolding machines
+          unfolding desk_machines
           finds task ready next = subst (Needs task) (sym stands.now)
-              (ready (lanes_in start) (world_of (machines_of start) start) (history_of (service start) t.seen) t.grown.legal
-              (λ l. subst (IsGivenIn (lanes_in start) start.register) (sym (same_objects D (lanes_in start) start.owners l)) (opened.given l))
+              (ready (lanes_in start) (world_of (machines_of met start) start) (history_of (service start) t.seen) t.grown.legal
+              (λ l. subst (IsGivenIn (lanes_in start) start.register) (sym (desk_objects met (lanes_in start) start.owners l)) (opened.given l))
               lane place part task next)
 
           -- and touches an object of the lane
           touches : (g : Grant) (op : Op) (step : Step) → ((lanes : ℕ) → TurnsAreAtHome lanes)
               → IsNext (service start) (history_of (service start) t.seen) lane (part_of place part (task_of g op (Some step)))
               → IsTouchedIn d.owner.lane d.owner.lanes (touched g op step)
-          unfolding machines
+          unfolding desk_machines
           touches g op step home next =
               let own : IsTouchedIn lane (lanes_in start) (touched g op step) =
-              home (lanes_in start) (world_of (machines_of start) start) (history_of (service start) t.seen)
+              home (lanes_in start) (world_of (machines_of met start) start) (history_of (service start) t.seen)
               (record { some = opened.some_lane; count = opened.lanes })
               t.grown.legal lane place part g op step next in
               subst (λ (k : ℕ). IsTouchedIn k d.owner.lanes (touched g op step)) (sym stands.since.lane_is)
               (subst (λ (k : ℕ). IsTouchedIn lane k (touched g op step)) (sym stands.since.lanes_are) own)
 
-        pub ready_for : {place : ℕ} {part : Part} {skip : Bool} → IsOpened start → LaneTurns (machines_of start)
+        pub ready_for : {place : ℕ} {part : Part} {skip : Bool} → IsOpened start → LaneTurns (machines_of met start)
             → ((lanes : ℕ) → TurnsFindWhatTheyNeed lanes) → ((lanes : ℕ) → TurnsAreAtHome lanes) → (g : Grant) (op : Op) (step : Option Step)
             → MayAct (service start) start lane n place part (task_of g op step) skip first.0 → IsReadyFor d.owner g op step
         ready_for opened laws ready home g op None may = tt
@@ -152,7 +146,7 @@ module _ {D : Type 0} {start : ArrayStart D} where
             let next = laws.next start lane n place part task skip first taken may t in
             (finds opened place part task ready next, touches opened place part g op step home next)
 
-        module _ {back : Hand start} {new : LaneSlot Lane Reply} {outcome : Outcome Reply} (laws : LaneTurns (machines_of start))
+        module _ {back : Hand met start} {new : LaneSlot Lane Reply} {outcome : Outcome Reply} (laws : LaneTurns (machines_of met start))
             (mine : back ≡ (
               seeing first.0 (claim (OfLane lane) n true ∷ others_of first.0.claims) t.seen,
               (slot_of (OfLane lane), AtLane new) ∷ first.1,
@@ -163,20 +157,21 @@ module _ {D : Type 0} {start : ArrayStart D} where
               → (noted : Outcome (Snapshot Reply)) → new.news ≡ Some (Acts noted) → plain_outcome noted ≡ outcome
               → Performs task d.owner.objects outcome new.owner.objects → is_skipped outcome ≡ skip
               → IsSameLane d.owner new.owner → StillSays d.owner.slots new.owner.slots
-              → IsReadyToPass (machines_of start) start (at_lane lane (Passed place part task outcome) new.owner) back
-          unfolding machines
+              → IsReadyToPass (machines_of met start) start (at_lane lane (Passed place part task outcome) new.owner) back
+          unfolding desk_machines
           may_pass mark stay noted news same did skips alike says =
               let old = d.owner.objects in
-              subst (λ (y : Outcome Reply). IsReadyToPass (machines_of start) start (at_lane lane (Passed place part task y) new.owner) back) same
+              subst (λ (y : Outcome Reply). IsReadyToPass (machines_of met start) start (at_lane lane (Passed place part task y) new.owner) back) same
               ((laws.turn start lane n first taken back d new t here mine).may_act place part task skip noted may news
               (subst (λ (y : Outcome Reply). IsLegalOutcome (service start) old part task y) (sym same)
               (legal_by (lanes_in start) (history_of (service start) first.0.seen) place part task skip old new.owner.objects outcome
               may.to_skip did skips))
               (subst (λ (y : Outcome Reply). new.owner.objects ≡ objects_left (service start) task y old) (sym same)
               (left_by (lanes_in start) task old new.owner.objects outcome did))
-              (ap (λ (y : Outcome Reply). is_skipped y) same ∙ skips) (marks start mark stay lane d.owner new.owner alike says))
+              (ap (λ (y : Outcome Reply). is_skipped y) same ∙ skips) (marks met start mark stay lane d.owner new.owner alike says))
 
-          pub has_acted : {w : ArrayView D} → HasPassed (machines_of start) start (at_lane lane (Passed place part task outcome) new.owner) back.0 w
-              → HasActed (machines_of start) start lane place part task outcome first.0 w
+          pub has_acted : {w : ArrayView K} → HasPassed (machines_of met start) start (at_lane lane (Passed place part task outcome) new.owner) back.0 w
+              → HasActed (machines (lanes_in start)) start lane place part task outcome first.0 w
           has_acted {w = w} passed =
+              acted_so met (lanes_in start) start lane place part task outcome first.0 w
               ((laws.turn start lane n first taken back d new t here mine).acted place part task skip outcome w may passed).0

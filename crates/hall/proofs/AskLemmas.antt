@@ -27,7 +27,7 @@ use Rattle.hall.proofs.DenialLemmas.{is_in_list}
 
 -- ---- the register's turn leaves the pass with the tickets of its entry
 
-module _ {D : Type 0} (start : ArrayStart D) (asks : AsksAreAnswered (machines {D = D} (lanes_in start))) where
+module _ {D : Type 0} (start : ArrayStart D) (asks : AsksAreAnswered (machines {K = D} (lanes_in start))) where
   pub is_serving : (place : ℕ) (caller : Caller) (request : Request) (w : Verdict) (u v : ArrayView D) → IsPass start u → u.claims ≡ []
       → (d : HasDecided (machines (lanes_in start)) start place (asked_by caller request) w u v)
       → IsServingVerdict start d.before.register (entry_behind d.before.register u.number (asked_by caller request) w) place request.op w v

@@ -1,4 +1,5 @@
 pub mod Knowing
+pub mod PlainLemmas
 pub mod RegisterLemmas
 pub mod ActLemmas
 pub mod TicketLemmas

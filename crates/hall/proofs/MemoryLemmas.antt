@@ -337,7 +337,7 @@ module _ {D : Type 0} (start : ArrayStart D) (entries : EntriesAreFound (array_s
       let a = h.asked in
       let n = lanes_in start in
       let s = array_service n in
-      let world = world_of (machines {D = D} n) start in
+      let world = world_of (machines {K = D} n) start in
       let g = history_of s a.seen in
       let asked = asked_by caller request in
       let e : Entry Asked Verdict = entry_behind a.before.register v.number asked h.decided_as in

@@ -37,8 +37,10 @@ use Rattle.service_histories.specs.Calls.{DecisionsAnswer}
 use Rattle.service_histories.specs.Counts.{FreshRegistersHaveRoom, IsCounted, RegistersCount}
 use Rattle.service_histories.specs.Cuttings.{IsRegisterSince}
 use Rattle.hall.specs.Answers.{ArrayStart, ArrayView, asked_by}
-use Rattle.hall.specs.ArrayMachines.{IsOpened, lanes_in, machines}
+use Rattle.hall.specs.ArrayMachines.{IsOpened, desk_machines, lanes_in, machines}
+use Rattle.hall.specs.declared.desk.AtDesk.{Ghosts}
 use Rattle.hall.specs.declared.desk.NotedDesk.{NotedDesk}
+use Rattle.hall.proofs.PlainLemmas.{decided_so}
 
 pub same_register_slot : {M N P Q V R : Type 0} (a b : RegisterSlot M Q V) → ◌≡◌ {A = Slot M N P Q V R} (AtRegister a) (AtRegister b) → a ≡ b
 same_register_slot a b e = cc
@@ -85,21 +87,21 @@ in_hand_again xs ys k x e = e ∙ ap (λ l. (k, x) ∷ l) (sym (ap rest e))
 
 -- ---- the register that was taken is the one that its list leaves
 
-module _ {D : Type 0} (start : ArrayStart D) (opened : IsOpened start) (stand : MachinesStand (machines {D = D} (lanes_in start)))
-    (n : ℕ) (others : List Claim) (me after : HallHand (array_service (lanes_in start)) RegisterState Lane (NotedDesk D) D)
-    (t : HasTaken (machines (lanes_in start)) start (claim OfRegister n false) others me after)
+module _ {D K : Type 0} (met : Ghosts D K) (start : ArrayStart K) (opened : IsOpened start) (stand : MachinesStand (desk_machines met (lanes_in start)))
+    (n : ℕ) (others : List Claim) (me after : HallHand (array_service (lanes_in start)) RegisterState Lane (NotedDesk D) K)
+    (t : HasTaken (desk_machines met (lanes_in start)) start (claim OfRegister n false) others me after)
     (slot : RegisterSlot RegisterState Asked Verdict) (here : t.slot ≡ AtRegister slot) where
   pub register_here : slot.register ≡ register_after (array_service (lanes_in start)) start.register t.seen.register
-  unfolding machines
+  unfolding desk_machines
   register_here =
       let d = stand.register start n others me after t in
       ap (λ (s : RegisterSlot RegisterState Asked Verdict). s.register) (same_register_slot slot d.0 (sym here ∙ d.1)) ∙ d.2.now
 
   legal_here : IsLegalRegister (array_service (lanes_in start)) start.register 0 0 t.seen.register
-  unfolding machines
+  unfolding desk_machines
   legal_here = t.grown.legal.register
 
-  counted_here : RegistersCount (lanes_in start) → IsCounted (lanes_in start) t.seen.register start.register slot.register
+  pub counted_here : RegistersCount (lanes_in start) → IsCounted (lanes_in start) t.seen.register start.register slot.register
   counted_here counts = subst (IsCounted (lanes_in start) t.seen.register start.register) (sym register_here)
       (counts start.register 0 0 t.seen.register opened.some_lane opened.lanes legal_here)
 
@@ -112,14 +114,14 @@ module _ {D : Type 0} (start : ArrayStart D) (opened : IsOpened start) (stand : 
   place_here counts = let c = (counted_here counts).places in let z = opened.register.places in omega arith
 
   -- so a decision of it may be passed on
-  pub decision_here : RegistersCount (lanes_in start) → DecisionsAnswer → (v : ArrayView D) (back : HallHand (array_service (lanes_in start)) RegisterState Lane (NotedDesk D) D)
+  pub decision_here : RegistersCount (lanes_in start) → DecisionsAnswer → (v : ArrayView K) (back : HallHand (array_service (lanes_in start)) RegisterState Lane (NotedDesk D) K)
       (asked : Snapshot Asked) (verdict : Snapshot Verdict) (new : RegisterState)
-      → RegisterTurnLaws (machines (lanes_in start)) start v t.seen back slot (record { register = new; news = Some (Asks asked verdict) })
+      → RegisterTurnLaws (desk_machines met (lanes_in start)) start v t.seen back slot (record { register = new; news = Some (Asks asked verdict) })
       → Decides slot.register asked.value.0.value asked.value.1.value verdict.value new
       → IfGranted verdict.value (IsIssueOf slot.register asked.value.1.value.op)
       → ((c : KeptPart) → IsRegisterSince c slot.register → IsRegisterSince c new)
-      → IsReadyToPass (machines (lanes_in start)) start (at_register (Entered (entry_behind t.seen.register v.number asked.value verdict.value))) back
-  unfolding machines
+      → IsReadyToPass (desk_machines met (lanes_in start)) start (at_register (Entered (entry_behind t.seen.register v.number asked.value verdict.value))) back
+  unfolding desk_machines
   decision_here counts events v back asked verdict new laws decides issue says =
       let answer = events slot.register asked.value verdict.value new decides in
       laws.may_decide asked verdict refl answer.may
@@ -127,12 +129,13 @@ module _ {D : Type 0} (start : ArrayStart D) (opened : IsOpened start) (stand : 
       answer.leaves says
 
   -- and behind it the request is decided at the next place
-  pub decided_here : RegistersCount (lanes_in start) → DecisionsAnswer → (v w : ArrayView D) (back : HallHand (array_service (lanes_in start)) RegisterState Lane (NotedDesk D) D)
+  pub decided_here : RegistersCount (lanes_in start) → DecisionsAnswer → (v w : ArrayView K) (back : HallHand (array_service (lanes_in start)) RegisterState Lane (NotedDesk D) K)
       (asked : Asked) (verdict : Verdict) (new after-it : RegisterState) (news : Option (RegisterNews Asked Verdict)) (place : ℕ)
-      → RegisterTurnLaws (machines (lanes_in start)) start v t.seen back slot (record { register = new; news = news })
-      → HasPassed (machines (lanes_in start)) start (at_register (Entered (entry_behind t.seen.register v.number asked verdict))) back.0 w
+      → RegisterTurnLaws (desk_machines met (lanes_in start)) start v t.seen back slot (record { register = new; news = news })
+      → HasPassed (desk_machines met (lanes_in start)) start (at_register (Entered (entry_behind t.seen.register v.number asked verdict))) back.0 w
       → place ≡ slot.register.places → Decides slot.register asked.0.value asked.1.value verdict after-it
       → HasDecided (machines (lanes_in start)) start place asked verdict v w
-  unfolding machines
+  unfolding desk_machines
   decided_here counts events v w back asked verdict new after-it news place laws passed at decides =
+      decided_so met (lanes_in start) start place asked verdict v w
       (laws.decided place asked verdict w passed (at ∙ place_here counts) (events slot.register asked verdict after-it decides).may).0

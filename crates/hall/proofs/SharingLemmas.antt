@@ -1,5 +1,5 @@
 -- How a hall begins with a world, and ends as one.
-use Rattle.std.proofs.Common.{◌≡◌, ℕ, zero, suc, ◌+◌, true≢false, List, [], ◌∷◌, length, Option, Some, refl, sym, ap, subst, ◌∙◌, arith}
+use Rattle.std.proofs.Common.{◌≡◌, ◌⊎◌, ℕ, zero, suc, ◌+◌, true≢false, List, [], ◌∷◌, length, Option, Some, refl, sym, ap, subst, ◌∙◌, arith}
 use Rattle.std.specs.List.{AllByRecursion}
 use mathlib.Core.Option.{some, some-ne-none, some-injective}
 use lib.ListN.{get_elem?}
@@ -11,29 +11,24 @@ use Rattle.chunk_owner.specs.Owners.Records.{AreStillIn}
 use Rattle.register.specs.Decided.{RegisterState}
 use Rattle.service_core.specs.Worlds.{IsBuilt, State}
 use Rattle.lane_histories.specs.Cuts.{register_cut}
-use Rattle.lane_histories.specs.Histories.{RegisterList, objects_after, register_at}
+use Rattle.lane_histories.specs.Histories.{IsIn, RegisterList, objects_after, register_at}
 use Rattle.lane_histories.specs.declared.items.RegisterItem.{RegisterItem}
 use Rattle.lane_histories.specs.declared.items.RegisterItem.TheVariants.{DrawnCut, Entered, RegisterCut}
 use Rattle.hall_rule.specs.Closes.{HasClosed}
 use Rattle.hall_rule.specs.Machines.{objects_in as rule_objects, world_of}
-use Rattle.hall_rule.specs.Seen.{IsNoRegisterCut, history_of, lane_of, nothing}
-use Rattle.hall_rule.specs.Standing.{IsFreshDesk, catalogue_cut}
+use Rattle.hall_rule.specs.Seen.{GrowsUncut, IsNoRegisterCut, history_of, lane_of, nothing}
+use Rattle.hall_rule.specs.Standing.{IsFreshDesk}
 use Rattle.service_histories.specs.ArrayServices.{array_service, cut_drawn, cut_recorded, kept_part}
 use Rattle.service_histories.specs.Closings.{AreOwnersAfter, IsWorldSince, WorldsClose}
 use Rattle.service_histories.specs.Cuttings.{IsOwnerSince, IsRegisterSince}
 use Rattle.service_histories.specs.Readies.{IsGivenIn}
 use Rattle.service_histories.specs.Tellings.{IsOpening, KeptRegistersAreSince, objects_in}
 use Rattle.hall.specs.Answers.{ArrayStart, ArrayView}
-use Rattle.hall.specs.ArrayMachines.{IsOpened, first_world, lanes_in, machines}
-use Rattle.hall.specs.Passes.{HasEnded, IsNewWorld}
+use Rattle.hall.specs.ArrayMachines.{IsOpened, desk_machines, lanes_in, machines}
+use Rattle.hall.specs.Passes.{HasEnded, IsDeskAtEnd, IsNewWorld, IsSinceCuts}
+use Rattle.hall.specs.declared.desk.AtDesk.{Ghosts}
+use Rattle.hall.proofs.PlainLemmas.{desk_objects, grown_so}
 use Rattle.hall.specs.declared.desk.NotedDesk.{NotedDesk}
-
--- the lanes' objects, as the rule of halls has them
-objects_at : (D : Type 0) (n : ℕ) (os : List Lane) (l : ℕ) → rule_objects (machines {D = D} n) os l ≡ objects_in os l
-unfolding machines
-objects_at D n [] l = refl
-objects_at D n (o ∷ os) zero = refl
-objects_at D n (o ∷ os) (suc l) = objects_at D n os l
 
 in_slice : {X : Type 0} (xs : List X) (i : ℕ) (x : X) → get_elem? xs i ≡ some x → slice_get xs i ≡ Some x
 in_slice [] i x e = absurd (some-ne-none x (sym e))
@@ -86,36 +81,46 @@ module _ {D : Type 0} (s : State) (new : IsNewWorld s) (built : IsBuilt s.regist
       subst IsOpened (λ i. record { register = sym registers i; owners = sym owners i; desk = start.desk }) (begun_opened start.desk)
 
 -- the desk tells with what the hall began
-pub noted : {D : Type 0} (start : ArrayStart D) (desk : NotedDesk D) → desk.desk ≡ start.desk → desk.register.value ≡ start.register
-    → desk.owners.value.items ≡ start.owners → IsFreshDesk (machines (lanes_in start)) start desk
-unfolding machines
-noted start desk same registers owners = record { known_by = same; register = registers; owners = owners; note = ap nothing owners }
+module _ {D K : Type 0} (met : Ghosts D K) (s : State) (start : ArrayStart K) (desk : NotedDesk D) where
+  pub noted : start.desk ≡ met.known desk.desk → desk.register.value ≡ start.register → desk.owners.value.items ≡ start.owners
+      → start.register ≡ s.register → start.owners ≡ s.lanes
+      → met.IsSince desk.desk (record { register = s.register; owners = s.lanes; desk = met.known desk.desk })
+      → met.note desk.desk s.lanes ≡ nothing s.lanes → IsFreshDesk (desk_machines met (lanes_in start)) start desk
+  unfolding desk_machines
+  noted known registers owners register_is owners_are since note = record {
+    known_by = subst (met.IsSince desk.desk)
+        (λ i. record { register = sym (registers ∙ register_is) i; owners = sym (owners ∙ owners_are) i; desk = sym known i }) since;
+    note = subst (λ (os : List Lane). met.note desk.desk os ≡ nothing os) (sym (owners ∙ owners_are)) note
+        ∙ ap nothing owners;
+    register = registers;
+    owners = owners;
+  }
 
 -- ---- the end
 
 -- where no item is a cut, the register is since the beginning
-never_cut : {Q V : Type 0} (items : List (RegisterItem Q V)) → AllByRecursion IsNoRegisterCut items → register_cut items ≡ 0
+pub never_cut : {Q V : Type 0} (items : List (RegisterItem Q V)) → AllByRecursion IsNoRegisterCut items → register_cut items ≡ 0
 never_cut [] none = refl
 never_cut (Entered e ∷ items) none = never_cut items none.1
 never_cut (DrawnCut number c ∷ items) none = never_cut items none.1
 never_cut (RegisterCut p found ∷ items) none = absurd (true≢false none.0)
 
-cut_first : (n : ℕ) (d : RegisterState) (items : RegisterList (array_service n))
+pub cut_first : (n : ℕ) (d : RegisterState) (items : RegisterList (array_service n))
     → kept_part (register_at (array_service n) 0 d items) ≡ kept_part d
 cut_first n d [] = refl
 cut_first n d (Entered e ∷ items) = refl
 cut_first n d (DrawnCut number c ∷ items) = cut_first n (cut_drawn d) items
 cut_first n d (RegisterCut p found ∷ items) = cut_first n (cut_recorded found d) items ∙ (array_service n).catalogue_recorded found d
 
-module _ {D : Type 0} (start : ArrayStart D) (opened : IsOpened start) (v : ArrayView D) (register : RegisterState) (owners : List Lane)
-    (desk : NotedDesk D) (closed : HasClosed (machines {D = D} (lanes_in start)) start v register owners desk)
+module _ {D K : Type 0} (met : Ghosts D K) (start : ArrayStart K) (opened : IsOpened start) (v : ArrayView K) (register : RegisterState)
+    (owners : List Lane) (desk : NotedDesk D) (closed : HasClosed (desk_machines met (lanes_in start)) start v register owners desk)
     (whole : (l : ℕ) (o : Lane) → slice_get owners l ≡ Some o → IsWhole o) where
-  given : (l : ℕ) → IsGivenIn (lanes_in start) start.register (rule_objects (machines {D = D} (lanes_in start)) start.owners l)
-  given l = subst (IsGivenIn (lanes_in start) start.register) (sym (objects_at D (lanes_in start) start.owners l)) (opened.given l)
+  given : (l : ℕ) → IsGivenIn (lanes_in start) start.register (rule_objects (desk_machines met (lanes_in start)) start.owners l)
+  given l = subst (IsGivenIn (lanes_in start) start.register) (sym (desk_objects met (lanes_in start) start.owners l)) (opened.given l)
 
-  after : AreOwnersAfter (lanes_in start) (world_of (machines {D = D} (lanes_in start)) start)
+  after : AreOwnersAfter (lanes_in start) (world_of (desk_machines met (lanes_in start)) start)
       (history_of (array_service (lanes_in start)) closed.seen) owners
-  unfolding machines
+  unfolding desk_machines
   after = record {
     count = closed.count;
     each = λ l owner at.
@@ -129,49 +134,29 @@ module _ {D : Type 0} (start : ArrayStart D) (opened : IsOpened start) (v : Arra
   }
 
   pub built : WorldsClose (lanes_in start) → IsBuilt register owners
-  unfolding machines
+  unfolding desk_machines
   built closes =
       subst (λ (d : RegisterState). IsBuilt d owners) (sym closed.register_is.now)
-      (closes (world_of (machines {D = D} (lanes_in start)) start) (history_of (array_service (lanes_in start)) closed.seen) owners
+      (closes (world_of (desk_machines met (lanes_in start)) start) (history_of (array_service (lanes_in start)) closed.seen) owners
       closed.grown.legal given after)
 
-  pub same_desk : desk.desk ≡ start.desk
-  unfolding machines
-  same_desk = closed.desk_is.since
-
-  -- nobody cut
-  uncut : register_cut closed.seen.register ≡ 0
-  unfolding machines
-  uncut = let more = closed.desk_is.uncut.register in ap register_cut more.1 ∙ never_cut more.0 more.2
-
-  catalogue : catalogue_cut (machines {D = D} (lanes_in start)) start closed.seen.register ≡ kept_part start.register
-  unfolding machines
-  catalogue =
-      ap (λ (n : ℕ). kept_part (register_at (array_service (lanes_in start)) n start.register closed.seen.register)) uncut
-      ∙ cut_first (lanes_in start) start.register closed.seen.register
-
-  was : closed.seen.was ≡ start.owners
-  unfolding machines
-  was = closed.desk_is.uncut.was ∙ closed.desk_is.owners
-
-  since : IsWorldSince (lanes_in start) (first_world start) (record { register = register; lanes = owners })
-  unfolding machines
+  since : IsSinceCuts start closed.seen (record { register = register; lanes = owners })
+  unfolding desk_machines
   since = record {
-    register = subst (λ c. IsRegisterSince c register) catalogue closed.register_is.since;
-    count = closed.count;
+    register = closed.register_is.since;
     owners = λ l first last at here.
-        let is = closed.owners_are l (slice_get_within start.owners l first at) in
+        let is = closed.owners_are l
+        (let few = slice_get_within owners l last here in let count = closed.count in omega arith) in
         let same_last = same_value is.0 last (sym (in_slice owners l is.0 is.1) ∙ here) in
-        let same_first = same_value is.2.was first
-        (sym (in_slice start.owners l is.2.was (sym (ap (λ os. get_elem? os l) was) ∙ is.2.was_is)) ∙ at) in
+        let same_first = same_value is.2.was first (sym (in_slice closed.seen.was l is.2.was is.2.was_is) ∙ at) in
         subst (λ (x : Lane × Lane). IsOwnerSince (lanes_in start) l x.0 x.1) (λ i. (same_first i, same_last i)) is.2.since;
   }
 
-  pub ended : HasEnded start v (record { register = register; lanes = owners })
-  unfolding machines
+  ended : HasEnded start v (record { register = register; lanes = owners })
+  unfolding desk_machines
   ended = record {
     seen = closed.seen;
-    grown = closed.grown;
+    grown = grown_so met (lanes_in start) start v closed.seen closed.grown;
     all_seen = closed.all_seen;
     named = closed.named;
     strangers = closed.strangers;
@@ -183,7 +168,40 @@ module _ {D : Type 0} (start : ArrayStart D) (opened : IsOpened start) (v : Arra
           is.0,
           in_slice owners l is.0 is.1,
           is.2.now ∙ ap (λ m. objects_after (array_service (lanes_in start)) m (lane_of closed.seen.lanes l))
-              (objects_at D (lanes_in start) start.owners l),
+              (desk_objects met (lanes_in start) start.owners l),
         );
     since = since;
   }
+
+  -- what stands of the desk, in the words of its own kind
+  desk_ended : IsDeskAtEnd met start closed.seen desk.desk
+  unfolding desk_machines
+  desk_ended =
+      let is = closed.desk_is in
+      let owners_are : desk.owners.value.items ≡ start.owners = is.owners in record {
+        since = subst (met.IsSince desk.desk) (λ i. record { register = is.register i; owners = owners_are i; desk = start.desk }) is.since;
+        uncut = subst (λ (os : List Lane). GrowsUncut closed.seen (met.note desk.desk os)) owners_are is.uncut;
+        far = is.far;
+        kept = λ k here ok. subst (λ (os : List Lane). IsIn (met.note desk.desk os).keepings k
+            ⊎ ((k.own ≡ met.reach desk.desk) × (k.moment ≡ met.moment desk.desk))) owners_are (is.kept k here ok);
+      }
+
+  pub both_ended : (end : HasEnded start v (record { register = register; lanes = owners })) × IsDeskAtEnd met start end.seen desk.desk
+  unfolding ended
+  both_ended = (ended, desk_ended)
+
+-- ---- where nobody cut
+
+module _ {K : Type 0} (start : ArrayStart K) (v : ArrayView K) (last : State) (end : HasEnded start v last)
+    (uncut : GrowsUncut end.seen (nothing start.owners)) where
+  -- each change since the hall began is marked
+  pub uncut_since : IsWorldSince (lanes_in start) (record { register = start.register; lanes = start.owners }) last
+  uncut_since =
+      let more = uncut.register in
+      let none : register_cut end.seen.register ≡ 0 = ap register_cut more.1 ∙ never_cut more.0 more.2 in record {
+        register = subst (λ c. IsRegisterSince c last.register)
+            (ap (λ (n : ℕ). kept_part (register_at (array_service (lanes_in start)) n start.register end.seen.register)) none
+            ∙ cut_first (lanes_in start) start.register end.seen.register) end.since.register;
+        count = end.count;
+        owners = λ l was now at here. end.since.owners l was now (ap (λ os. slice_get os l) uncut.was ∙ at) here;
+      }

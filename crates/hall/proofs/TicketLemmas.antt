@@ -40,6 +40,7 @@ use Rattle.hall_rule.specs.Asks.{MayServe}
 use Rattle.hall_rule.specs.Claims.{bumped, count_of}
 use Rattle.hall_rule.specs.LaneTickets.{IsServingLanes}
 use Rattle.hall_rule.specs.Machines.{Machines}
+use Rattle.hall_rule.specs.declared.view.Start.{Start}
 use Rattle.hall_rule.specs.Seen.{at_lane, lane_of}
 use Rattle.hall_rule.specs.Steps.{others_of}
 use Rattle.hall_rule.specs.WholeTurns.{HasActed, HasTurned, MayAct}
@@ -48,7 +49,6 @@ use Rattle.service_histories.specs.Counts.{IsCounted, RegistersCount}
 use Rattle.service_histories.specs.PlainSteps.{answer_of, of_verdict}
 use Rattle.service_histories.specs.declared.tasks.Task.{Task}
 use Rattle.service_histories.specs.declared.tasks.Task.TheVariants.{DropsDomain}
-use Rattle.hall.specs.declared.desk.NotedDesk.{NotedDesk}
 use Rattle.hall.specs.Answers.{ArrayStart, ArrayView, IsServed, IsServingJob}
 use Rattle.hall.specs.ArrayMachines.{IsOpened, lanes_in, machines}
 
@@ -212,7 +212,7 @@ module _ {D : Type 0} {start : ArrayStart D} {before : List (RegisterItem Asked 
   abbrev s : Service
   s = array_service (lanes_in start)
 
-  abbrev m : Machines s RegisterState Lane (NotedDesk D) D
+  abbrev m : Machines s RegisterState Lane (Start RegisterState Lane D) D
   m = machines (lanes_in start)
 
   -- ---- one step or two

@@ -43,15 +43,16 @@ use Rattle.service_histories.specs.PlainSteps.{answer_of}
 use Rattle.service_histories.specs.declared.tasks.Task.{Task}
 use Rattle.hall.specs.ArrayMachines.{lanes_in, machines}
 
--- with what a hall began; the lists of a history, whatever its lanes; and what a pass knows
+-- with what a hall began, whose desk it knows by a K; the lists of a history, whatever its lanes; and what a pass
+-- knows
 abbrev pub ArrayStart : Type 0 → Type 0
-ArrayStart D = Start RegisterState Lane D
+ArrayStart K = Start RegisterState Lane K
 
 abbrev pub ArrayLists : Type 0
 ArrayLists = SeenLists (array_service 0) Lane
 
 abbrev pub ArrayView : Type 0 → Type 0
-ArrayView D = HallView (array_service 0) RegisterState Lane D
+ArrayView K = HallView (array_service 0) RegisterState Lane K
 
 abbrev pub asked_by : Caller → Request → Asked
 asked_by caller request =

@@ -15,9 +15,10 @@ ghost use Rattle.hall.specs.Answers.{GoesThrough, IsServed, IsServingJob};
 ghost use Rattle.hall.specs.ArrayMachines.{IsOpened, lanes_in, machines, start_of};
 ghost use Rattle.hall.specs.Turns.{IsReadyFor, Performs};
 
+use crate::desk::AtDesk;
 use crate::gate::Gate;
 use crate::hall::Hall;
-use crate::plays::{ArrayHall, Chair};
+use crate::plays::{ArrayHall, Chair, DeskHall};
 use chunk_owner::Owner;
 use hall_rule::{
     LaneNews, Queue, Slot, asks_are_answered, each_lane_is_served, hands_hold_what_was_taken,
@@ -115,7 +116,7 @@ fn told_by(first: Outcome<Reply>, second: Outcome<Reply>) -> What
     }
 }
 
-impl<D: Drop> Hall<D> {
+impl<D: AtDesk> Hall<D> {
     // A turn of a lane with a ticket: the owner does its part, unless it is skipped.
     fn act<W: Wait, G: Gate>(
         &self,
@@ -144,9 +145,9 @@ impl<D: Drop> Hall<D> {
             (task_of job.now.grant job.now.op.now turn.step) result seat.old.me.0 seat.new.me.0 }
         ensures gone { G.goes gate.old turn.lane job.now.place gate.new }
     {
-        hands_hold_what_was_taken::<ArrayHall<D>>();
-        machines_stand_for_their_lists::<ArrayHall<D>>();
-        lanes_take_turns::<ArrayHall<D>>();
+        hands_hold_what_was_taken::<DeskHall<D>>();
+        machines_stand_for_their_lists::<DeskHall<D>>();
+        lanes_take_turns::<DeskHall<D>>();
         turns_are_ready();
         cuts_tell_the_lane();
         let queue = Queue::OfLane(turn.lane);

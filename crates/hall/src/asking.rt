@@ -9,6 +9,7 @@ ghost use Rattle.hall.specs.ArrayMachines.{IsOpened, start_of};
 ghost use Rattle.hall.specs.Passes.{IsPassOf, opening, view_of, who};
 
 use crate::acting::Job;
+use crate::desk::AtDesk;
 use crate::gate::Gate;
 use crate::hall::Hall;
 use crate::pass::Pass;
@@ -21,7 +22,7 @@ use service_core::{Answer, What};
 use service_histories::{histories_are_legal, replies_are_replays};
 use std::sync::Wait;
 
-impl<D: Drop> Hall<D> {
+impl<D: AtDesk> Hall<D> {
     // What is behind the register's turn.
     fn serve<W: Wait, G: Gate>(
         &self,

@@ -4,8 +4,9 @@ ghost use Rattle.hall_rule.specs.WholeTurns.{HasDecided, MayDraw};
 ghost use Rattle.hall.specs.ArrayMachines.{IsOpened, lanes_in, machines, start_of};
 ghost use Rattle.hall.specs.Answers.{asked_by};
 
+use crate::desk::AtDesk;
 use crate::hall::Hall;
-use crate::plays::{ArrayHall, Chair};
+use crate::plays::{Chair, DeskHall};
 use access_lists::Caller;
 use hall_rule::{
     Queue, RegisterNews, Slot, hands_hold_what_was_taken, machines_stand_for_their_lists,
@@ -17,7 +18,7 @@ use service_histories::{calls_are_events, the_register_counts};
 use std::snapshot::Snapshot;
 use std::sync::Wait;
 
-impl<D: Drop> Hall<D> {
+impl<D: AtDesk> Hall<D> {
     // The register decides, at the next place.
     pub(crate) fn decide<W: Wait>(
         &self,
@@ -35,9 +36,9 @@ impl<D: Drop> Hall<D> {
             (start_of self.now.table.shared.key) result.0 (asked_by caller.now request.now)
             result.1 seat.old.me.0 seat.new.me.0 }
     {
-        hands_hold_what_was_taken::<ArrayHall<D>>();
-        machines_stand_for_their_lists::<ArrayHall<D>>();
-        the_register_takes_turns::<ArrayHall<D>>();
+        hands_hold_what_was_taken::<DeskHall<D>>();
+        machines_stand_for_their_lists::<DeskHall<D>>();
+        the_register_takes_turns::<DeskHall<D>>();
         the_register_counts();
         calls_are_events();
         let mine = self.draw_register(seat);

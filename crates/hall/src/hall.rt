@@ -2,6 +2,7 @@
 ghost use Rattle.std.specs.Prelude.{◌≡◌, ◌+◌, ◌≤◌, [], vec_capacity};
 ghost use Rattle.hall.specs.ArrayMachines.{lanes_in, start_of};
 
+use crate::desk::AtDesk;
 use crate::plays::{Begun, Law, Place, Sight};
 use atomic_table::Table;
 use chunk_owner::Owner;
@@ -9,7 +10,7 @@ use service_core::Owners;
 use std::alloc::Global;
 
 /// A register, the owners of its lanes and a desk, at which passes take turns.
-pub struct Hall<D: Drop> {
+pub struct Hall<D: AtDesk> {
     pub(crate) alloc: Global,
     pub(crate) table: Table<Place<D>, Sight<D>, Begun<D>, Law<D>, Global>,
 

@@ -23,7 +23,7 @@ mod sharing;
 mod turns;
 mod worlds;
 
-pub use desk::NotedDesk;
+pub use desk::{AtDesk, NotedDesk};
 pub use gate::{Gate, OpenGate};
 pub use hall::Hall;
 pub use pass::Pass;

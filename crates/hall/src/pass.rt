@@ -7,11 +7,12 @@ ghost use Rattle.hall_rule.specs.Sums.{times};
 ghost use Rattle.service_histories.specs.ArrayServices.{Asked};
 ghost use Rattle.register.specs.declared.verdicts.Verdict.{Verdict};
 
+use crate::desk::AtDesk;
 use crate::plays::Chair;
 
 /// What a caller asks a hall with. It has a number of its own, it may have numbers to give to
 /// further passes, and it must be spent, by `Hall::join` or `Hall::close`.
-pub struct Pass<D: Drop> {
+pub struct Pass<D: AtDesk> {
     pub(crate) seat: Chair<D>,
     pub(crate) front: u64,
     ghost idle: { seat.me.0.claims ≡ [] },
@@ -23,7 +24,7 @@ pub struct Pass<D: Drop> {
         → IsIn (own x seat.me.0.seen.register) e → e.place < front },
 }
 
-impl<D: Drop> Pass<D> {
+impl<D: AtDesk> Pass<D> {
     ghost use Rattle.hall.specs.Passes.{IsFrontOf, IsIdle};
 
     /// A place below which each request of this pass lies, and of those that were joined into it,

@@ -1,6 +1,6 @@
 //! The rule of the hall's table, and what each kind of step tells.
 
-use crate::desk::NotedDesk;
+use crate::desk::{AtDesk, NotedDesk};
 use atomic_table::{Join, Play, Seat, Split, TableRule};
 use chunk_owner::Owner;
 use hall_rule::{Opening, RuledHall, Slot, Start, View};
@@ -9,8 +9,11 @@ use register::{Register, Verdict};
 use service_histories::{Asked, Task};
 use std::marker::PhantomData;
 
+/// What a pass knows, of a hall that knows its desk by a `K`.
+pub(crate) type Knowledge<K> = View<Asked, Verdict, Task, Reply, Owner, Start<Register, Owner, K>>;
+
 /// What a pass knows.
-pub(crate) type Sight<D> = View<Asked, Verdict, Task, Reply, Owner, Start<Register, Owner, D>>;
+pub(crate) type Sight<D> = Knowledge<<D as AtDesk>::KnownBy>;
 
 /// A slot of the table.
 pub(crate) type Place<D> = Slot<Register, Owner, NotedDesk<D>, Asked, Verdict, Reply>;
@@ -19,18 +22,18 @@ pub(crate) type Place<D> = Slot<Register, Owner, NotedDesk<D>, Asked, Verdict, R
 pub(crate) type Chair<D> = Seat<Place<D>, Sight<D>>;
 
 /// What the table is told when it is made.
-pub(crate) type Begun<D> = Opening<Register, Owner, D>;
+pub(crate) type Begun<D> = Opening<Register, Owner, <D as AtDesk>::KnownBy>;
 
-/// The hall of the array service, for the laws of halls.
+/// The register and the owners of the array service's hall, for the laws of halls.
 pub(crate) struct ArrayHall<D> {
     of: PhantomData<D>,
 }
 
-impl<D> RuledHall for ArrayHall<D> {
+impl<D: AtDesk> RuledHall for ArrayHall<D> {
     ghost use Rattle.service_histories.specs.ArrayServices.{array_service};
     ghost use Rattle.register.specs.Decided.{RegisterState};
     ghost use Rattle.chunk_owner.specs.Lanes.{Lane};
-    ghost use Rattle.hall.specs.declared.desk.NotedDesk.{NotedDesk};
+    ghost use Rattle.hall_rule.specs.declared.view.Start.{Start};
     ghost use Rattle.hall.specs.ArrayMachines.{machines};
 
     ghost service = { array_service };
@@ -38,9 +41,32 @@ impl<D> RuledHall for ArrayHall<D> {
     ghost hall = { λ lanes. record {
       Register = RegisterState;
       Owner = Lane;
-      Desk = NotedDesk D;
-      KnownBy = D;
+      Desk = Start RegisterState Lane D.KnownBy;
+      KnownBy = D.KnownBy;
       machines = machines lanes;
+    } };
+}
+
+/// And with the desk that lies beside them.
+pub(crate) struct DeskHall<D> {
+    of: PhantomData<D>,
+}
+
+impl<D: AtDesk> RuledHall for DeskHall<D> {
+    ghost use Rattle.service_histories.specs.ArrayServices.{array_service};
+    ghost use Rattle.register.specs.Decided.{RegisterState};
+    ghost use Rattle.chunk_owner.specs.Lanes.{Lane};
+    ghost use Rattle.hall.specs.declared.desk.NotedDesk.{NotedDesk};
+    ghost use Rattle.hall.specs.ArrayMachines.{desk_machines};
+
+    ghost service = { array_service };
+
+    ghost hall = { λ lanes. record {
+      Register = RegisterState;
+      Owner = Lane;
+      Desk = NotedDesk D;
+      KnownBy = D.KnownBy;
+      machines = desk_machines D.AtDesk lanes;
     } };
 }
 
@@ -49,12 +75,12 @@ pub(crate) struct Law<D> {
     of: PhantomData<D>,
 }
 
-impl<D: Drop> TableRule<Place<D>, Sight<D>, Begun<D>> for Law<D> {
-    ghost use Rattle.hall.specs.ArrayMachines.{lanes_in, machines, start_of};
+impl<D: AtDesk> TableRule<Place<D>, Sight<D>, Begun<D>> for Law<D> {
+    ghost use Rattle.hall.specs.ArrayMachines.{desk_machines, lanes_in, start_of};
     ghost use Rattle.hall_rule.specs.Rule.{FollowsRule, first_view};
 
-    ghost holds = { λ key. FollowsRule (machines (lanes_in (start_of key))) key.passes
-        (start_of key) };
+    ghost holds = { λ key. FollowsRule (desk_machines D.AtDesk (lanes_in (start_of key)))
+        key.passes (start_of key) };
 
     ghost first = { λ key. first_view key.passes (start_of key).owners (start_of key) };
 }
@@ -74,11 +100,11 @@ pub(crate) struct Look<D> {
     of: PhantomData<D>,
 }
 
-impl<D: Drop> Play<Place<D>, Sight<D>> for Look<D> {
-    ghost use Rattle.hall.specs.ArrayMachines.{lanes_known, machines};
+impl<D: AtDesk> Play<Place<D>, Sight<D>> for Look<D> {
+    ghost use Rattle.hall.specs.ArrayMachines.{desk_machines, lanes_known};
     ghost use Rattle.hall_rule.specs.Steps.{HasLooked};
 
-    ghost then = { λ st me. HasLooked (machines (lanes_known me.0)) st me };
+    ghost then = { λ st me. HasLooked (desk_machines D.AtDesk (lanes_known me.0)) st me };
 }
 
 /// The turn of the newest claim is passed on.
@@ -86,11 +112,11 @@ pub(crate) struct Leave<D> {
     of: PhantomData<D>,
 }
 
-impl<D: Drop> Play<Place<D>, Sight<D>> for Leave<D> {
-    ghost use Rattle.hall.specs.ArrayMachines.{lanes_known, machines};
+impl<D: AtDesk> Play<Place<D>, Sight<D>> for Leave<D> {
+    ghost use Rattle.hall.specs.ArrayMachines.{desk_machines, lanes_known};
     ghost use Rattle.hall_rule.specs.Steps.{PassesTurn};
 
-    ghost then = { λ st me. PassesTurn (machines (lanes_known me.0)) st me };
+    ghost then = { λ st me. PassesTurn (desk_machines D.AtDesk (lanes_known me.0)) st me };
 }
 
 /// A load behind a join, which tells what the lists are.
@@ -98,11 +124,11 @@ pub(crate) struct Learn<D> {
     of: PhantomData<D>,
 }
 
-impl<D: Drop> Play<Place<D>, Sight<D>> for Learn<D> {
-    ghost use Rattle.hall.specs.ArrayMachines.{lanes_known, machines};
+impl<D: AtDesk> Play<Place<D>, Sight<D>> for Learn<D> {
+    ghost use Rattle.hall.specs.ArrayMachines.{desk_machines, lanes_known};
     ghost use Rattle.hall_rule.specs.Steps.{HasLearnt};
 
-    ghost then = { λ st me. HasLearnt (machines (lanes_known me.0)) st me };
+    ghost then = { λ st me. HasLearnt (desk_machines D.AtDesk (lanes_known me.0)) st me };
 }
 
 /// A look at the register's word with nothing in hand.

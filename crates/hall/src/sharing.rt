@@ -4,15 +4,16 @@ ghost use Rattle.std.specs.Prelude.{Some};
 ghost use Rattle.chunk_owner.specs.Lanes.{IsWhole, Lane};
 ghost use Rattle.hall_rule.specs.Joins.{HasJoined};
 ghost use Rattle.hall_rule.specs.Rule.{AreUnused, given_by_split, left_by_split};
+ghost use Rattle.hall_rule.specs.Seen.{nothing};
 ghost use Rattle.lane_histories.specs.Histories.{places};
 ghost use Rattle.hall.specs.ArrayMachines.{lanes_in, machines, start_of};
-ghost use Rattle.hall.specs.Passes.{HasBegun, HasEnded, IsNewWorld, IsPassOf, TookIn, desk_of};
+ghost use Rattle.hall.specs.Passes.{HasBegun, HasEnded, IsDeskAtEnd, IsNewWorld, IsPassOf, TookIn};
 ghost use Rattle.hall.specs.Passes.{names_of, opening, own_entries, passes_of, seen_by, view_of, who};
 
-use crate::desk::NotedDesk;
+use crate::desk::{AtDesk, NotedDesk};
 use crate::hall::Hall;
 use crate::pass::Pass;
-use crate::plays::{ArrayHall, Chair, Count, Learn, Share, Spare};
+use crate::plays::{ArrayHall, Chair, Count, DeskHall, Learn, Share, Spare};
 use atomic_table::Table;
 use chunk_owner::Owner;
 use hall_rule::{
@@ -57,7 +58,7 @@ fn are_whole(owners: &[Owner])
     }
 }
 
-impl<D: Drop> Hall<D> {
+impl<D: AtDesk> Hall<D> {
     /// A hall over a world and a desk, for so many passes. The first pass has the number 0 and may
     /// give the others away. All memory that the passes need is taken here.
     ///
@@ -72,12 +73,20 @@ impl<D: Drop> Hall<D> {
     ) -> Result<(Hall<D>, Pass<D>), AllocError>
         requires some_pass { 1 ≤ passes }
         requires new { IsNewWorld world }
+
+        // The desk's note is empty.
+        requires since { D.IsSince desk (record {
+          register = world.register;
+          owners = world.lanes;
+          desk = D.known desk;
+        }) }
+        requires note { D.note desk world.lanes ≡ nothing world.lanes }
         ensures begun { IfOk result (λ h. HasBegun h.0 h.1 world passes) }
-        ensures desk { IfOk result (λ h. desk_of h.0 ≡ desk) }
+        ensures desk { IfOk result (λ h. (opening h.0).desk ≡ D.known desk) }
     {
         world.is_whole();
         worlds_open();
-        halls_begin_and_end::<ArrayHall<D>>();
+        halls_begin_and_end::<DeskHall<D>>();
         let (register, mut owners) = world.parts();
         let lanes = owners.len();
         let machines = taken_out(alloc, &mut owners)?;
@@ -89,7 +98,7 @@ impl<D: Drop> Hall<D> {
         let about = Opening {
             register: Snapshot::of(&register),
             owners: Snapshot::of(&machines),
-            desk: Snapshot::of(&desk.desk),
+            desk: desk.desk.known_by(),
             passes,
         };
         let words = vec![in alloc; 0u64; lanes + 4]?;
@@ -118,7 +127,7 @@ impl<D: Drop> Hall<D> {
         ensures given { result.me.0 ≡ given_by_split seat.old.me.0 }
         ensures unused { AreUnused seat.old.me.0 }
     {
-        steps_keep_the_rule::<ArrayHall<D>>();
+        steps_keep_the_rule::<DeskHall<D>>();
         self.table.shared.load::<Spare>(seat, 0);
         self.table.shared.split_seat::<Share>(seat)
     }
@@ -154,8 +163,8 @@ impl<D: Drop> Hall<D> {
         ensures joined { HasJoined (machines (lanes_in (start_of self.now.table.shared.key)))
             (start_of self.now.table.shared.key) seat.old.me.0 other.me.0 seat.new.me.0 }
     {
-        steps_keep_the_rule::<ArrayHall<D>>();
-        steps_tell_what_was_seen::<ArrayHall<D>>();
+        steps_keep_the_rule::<DeskHall<D>>();
+        steps_tell_what_was_seen::<DeskHall<D>>();
         self.table.shared.join_seat::<Share>(seat, other);
         self.table.shared.load::<Learn<D>>(seat, 0);
     }
@@ -188,22 +197,23 @@ impl<D: Drop> Hall<D> {
             × (pass.new.front ≡ pass.old.front) }
         ensures turns { length (seen_by pass.old).register ≤ result }
     {
-        steps_keep_the_rule::<ArrayHall<D>>();
+        steps_keep_the_rule::<DeskHall<D>>();
         self.table.shared.load::<Count>(&mut pass.seat, 2)
     }
 
     /// The world where one legal history has brought it, which begins with all that the pass had
-    /// seen, and the desk with which the hall began. Every other pass was joined.
+    /// seen, and what that history has made of the desk. Every other pass was joined.
     pub fn close(self, pass: Pass<D>) -> (World, D)
         requires of_this_hall { IsPassOf self pass }
         requires whole { length (names_of pass) ≡ passes_of self }
         ensures ended { HasEnded (opening self) (view_of pass) result.0 }
-        ensures desk { result.1 ≡ desk_of self }
+        ensures desk { (end : HasEnded (opening self) (view_of pass) result.0)
+            × IsDeskAtEnd D.AtDesk (opening self) end.seen result.1 }
 
         // The pass's front is the number of all entries.
         ensures front { pass.front ≡ places (seen_by pass).register }
     {
-        halls_begin_and_end::<ArrayHall<D>>();
+        halls_begin_and_end::<DeskHall<D>>();
         worlds_close();
         let Hall {
             alloc: _alloc,

@@ -7,10 +7,11 @@ ghost use Rattle.hall_rule.specs.Seen.{queue_of};
 ghost use Rattle.hall_rule.specs.Steps.{HasPassed, HasTaken};
 ghost use Rattle.hall_rule.specs.Sums.{total};
 ghost use Rattle.hall_rule.specs.WholeTurns.{IsReadyToPass, MayLook};
-ghost use Rattle.hall.specs.ArrayMachines.{lanes_in, machines, start_of};
+ghost use Rattle.hall.specs.ArrayMachines.{desk_machines, lanes_in, start_of};
 
+use crate::desk::AtDesk;
 use crate::hall::Hall;
-use crate::plays::{ArrayHall, Chair, DrawRegister, Leave, Look};
+use crate::plays::{Chair, DeskHall, DrawRegister, Leave, Look};
 use hall_rule::{Queue, steps_keep_the_rule, steps_tell_what_was_seen};
 use std::sync::Wait;
 use std::time::Duration;
@@ -28,7 +29,7 @@ const DOUBLINGS: u32 = 9;
 /// A sleep ends early where the low half of the word has changed.
 const HALF: u64 = 1 << 32;
 
-impl<D: Drop> Hall<D> {
+impl<D: AtDesk> Hall<D> {
     // Draws the next number of the register.
     pub(crate) fn draw_register(&self, seat: &mut Chair<D>) -> u64
         requires table { seat.old.table_id ≡ self.now.table.shared.table_id }
@@ -40,7 +41,7 @@ impl<D: Drop> Hall<D> {
           claims = claim OfRegister result false ∷ seat.old.me.0.claims;
         } }
     {
-        steps_keep_the_rule::<ArrayHall<D>>();
+        steps_keep_the_rule::<DeskHall<D>>();
         self.table.shared.fetch_add::<DrawRegister>(seat, 0, 1)
     }
 
@@ -52,12 +53,13 @@ impl<D: Drop> Hall<D> {
         ensures table { (seat.new.table_id ≡ seat.old.table_id) × (seat.new.id ≡ seat.old.id) }
         ensures taken { (others : _)
             → MayLook (start_of self.now.table.shared.key) queue mine others seat.old.me.0
-            → HasTaken (machines (lanes_in (start_of self.now.table.shared.key)))
+            → HasTaken (desk_machines D.AtDesk
+            (lanes_in (start_of self.now.table.shared.key)))
             (start_of self.now.table.shared.key) (claim queue mine false) others
             seat.old.me seat.new.me }
     {
-        steps_keep_the_rule::<ArrayHall<D>>();
-        steps_tell_what_was_seen::<ArrayHall<D>>();
+        steps_keep_the_rule::<DeskHall<D>>();
+        steps_tell_what_was_seen::<DeskHall<D>>();
         let limit = queue.limit();
         let word = queue.word();
         let mut looks = 0;
@@ -91,18 +93,18 @@ impl<D: Drop> Hall<D> {
     pub(crate) fn leave(&self, seat: &mut Chair<D>, queue: Queue)
         requires table { seat.old.table_id ≡ self.now.table.shared.table_id }
         requires ready { (item : _) × (queue_of item ≡ queue)
-            × IsReadyToPass (machines (lanes_in (start_of self.now.table.shared.key)))
+            × IsReadyToPass (desk_machines D.AtDesk (lanes_in (start_of self.now.table.shared.key)))
             (start_of self.now.table.shared.key) item seat.old.me }
         ensures table { (seat.new.table_id ≡ seat.old.table_id) × (seat.new.id ≡ seat.old.id) }
         ensures slots { seat.new.me.1 ≡ rest seat.old.me.1 }
         ensures passed { (item : _)
-            → IsReadyToPass (machines (lanes_in (start_of self.now.table.shared.key)))
+            → IsReadyToPass (desk_machines D.AtDesk (lanes_in (start_of self.now.table.shared.key)))
             (start_of self.now.table.shared.key) item seat.old.me
-            → HasPassed (machines (lanes_in (start_of self.now.table.shared.key)))
+            → HasPassed (desk_machines D.AtDesk (lanes_in (start_of self.now.table.shared.key)))
             (start_of self.now.table.shared.key) item seat.old.me.0 seat.new.me.0 }
     {
-        steps_keep_the_rule::<ArrayHall<D>>();
-        steps_tell_what_was_seen::<ArrayHall<D>>();
+        steps_keep_the_rule::<DeskHall<D>>();
+        steps_tell_what_was_seen::<DeskHall<D>>();
         self.table
             .shared
             .fetch_add::<Leave<D>>(seat, queue.word(), 1);

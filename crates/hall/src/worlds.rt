@@ -17,10 +17,11 @@ pub fn installed_worlds_are_new()
     the_register_counts();
 }
 
-/// What a journal held of the world with which a hall began says the world in which it ended, but
-/// for what is to be written. So one keeping behind `Hall::close` makes it tell that world.
-pub fn ended_worlds_are_said<D>()
-    ensures { EndedWorldsAreSaid D }
+/// Where nobody cut, what a journal held of the world with which a hall began says the world in which
+/// it ended, but for what is to be written. So one keeping behind `Hall::close` makes it tell that
+/// world.
+pub fn ended_worlds_are_said<K>()
+    ensures { EndedWorldsAreSaid K }
 {
     worlds_close();
 }

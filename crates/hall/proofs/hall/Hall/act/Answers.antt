@@ -29,16 +29,16 @@ pub exchange-requires : goal.exchange-requires
 exchange-requires g c =
     let start = start_of c.args.self.now.table.shared.key in
     let laws = c.lanes_take_turns.ensures (lanes_in start) in
-    let t = took laws c.requires.may.1 c.wait.ensures.taken in
-    let hand = in_hand t (c.hands_hold_what_was_taken.ensures (lanes_in start)) c.slot-home.ensures in
+    let t = took g.D.AtDesk laws c.requires.may.1 c.wait.ensures.taken in
+    let hand = in_hand g.D.AtDesk t (c.hands_hold_what_was_taken.ensures (lanes_in start)) c.slot-home.ensures in
     (c.wait.ensures.table.0 ∙ c.requires.table, hand.there)
 
 pub into_lane_slot-slot-requires : goal.into_lane_slot-slot-requires
 into_lane_slot-slot-requires g c =
     let start = start_of c.args.self.now.table.shared.key in
     let laws = c.lanes_take_turns.ensures (lanes_in start) in
-    let t = took laws c.requires.may.1 c.wait.ensures.taken in
-    let hand = in_hand t (c.hands_hold_what_was_taken.ensures (lanes_in start)) c.slot-home.ensures in
+    let t = took g.D.AtDesk laws c.requires.may.1 c.wait.ensures.taken in
+    let hand = in_hand g.D.AtDesk t (c.hands_hold_what_was_taken.ensures (lanes_in start)) c.slot-home.ensures in
     let turn = c.args.turn in
     let first = c.args.seat.now.me in
     let owner = (c.machines_stand_for_their_lists.ensures (lanes_in start)).owner start turn.lane turn.ticket (others_of first.0.claims) first
@@ -49,19 +49,19 @@ pub perform-outcome-requires-clause-ready : goal.perform-outcome-requires-clause
 perform-outcome-requires-clause-ready g c =
     let start = start_of c.args.self.now.table.shared.key in
     let laws = c.lanes_take_turns.ensures (lanes_in start) in
-    let t = took laws c.requires.may.1 c.wait.ensures.taken in
-    let hand = in_hand t (c.hands_hold_what_was_taken.ensures (lanes_in start)) c.slot-home.ensures in
+    let t = took g.D.AtDesk laws c.requires.may.1 c.wait.ensures.taken in
+    let hand = in_hand g.D.AtDesk t (c.hands_hold_what_was_taken.ensures (lanes_in start)) c.slot-home.ensures in
     let here = sym (hand.read c.exchange.result c.exchange.ensures.2) ∙ c.into_lane_slot-slot.ensures in
     let job = c.args.job.now in
-    ready_for t here c.requires.opened laws c.turns_are_ready.ensures.ready c.turns_are_ready.ensures.home job.grant job.op.now c.args.turn.step
+    ready_for g.D.AtDesk t here c.requires.opened laws c.turns_are_ready.ensures.ready c.turns_are_ready.ensures.home job.grant job.op.now c.args.turn.step
     c.requires.may.1
 
 pub leave-requires : goal.leave-requires
 leave-requires g c =
     let start = start_of c.args.self.now.table.shared.key in
     let laws = c.lanes_take_turns.ensures (lanes_in start) in
-    let t = took laws c.requires.may.1 c.wait.ensures.taken in
-    let hand = in_hand t (c.hands_hold_what_was_taken.ensures (lanes_in start)) c.slot-home.ensures in
+    let t = took g.D.AtDesk laws c.requires.may.1 c.wait.ensures.taken in
+    let hand = in_hand g.D.AtDesk t (c.hands_hold_what_was_taken.ensures (lanes_in start)) c.slot-home.ensures in
     let here = sym (hand.read c.exchange.result c.exchange.ensures.2) ∙ c.into_lane_slot-slot.ensures in
     let new : LaneSlot Lane Reply = record { owner = c.perform-outcome.new.owner; news = Some (Acts c.noted.result) } in
     let mine = hand.swapped c.exchange.new.seat.me c.exchange-2.new.seat.me c.exchange.result _ (AtLane new) c.exchange.ensures.2
@@ -75,7 +75,7 @@ leave-requires g c =
         at_lane turn.lane (Passed job.place c.requires.may.0 (task_of job.grant job.op.now turn.step) c.perform-outcome.result)
             c.perform-outcome.new.owner,
         refl,
-        may_pass t here laws mine c.requires.may.1 marks.marks marks.turn c.noted.result refl c.noted.ensures did.did did.skips did.same did.says,
+        may_pass g.D.AtDesk t here laws mine c.requires.may.1 marks.marks marks.turn c.noted.result refl c.noted.ensures did.did did.skips did.same did.says,
       );
     }
 
@@ -83,8 +83,8 @@ pub returns : goal.returns
 returns g c =
     let start = start_of c.args.self.now.table.shared.key in
     let laws = c.lanes_take_turns.ensures (lanes_in start) in
-    let t = took laws c.requires.may.1 c.wait.ensures.taken in
-    let hand = in_hand t (c.hands_hold_what_was_taken.ensures (lanes_in start)) c.slot-home.ensures in
+    let t = took g.D.AtDesk laws c.requires.may.1 c.wait.ensures.taken in
+    let hand = in_hand g.D.AtDesk t (c.hands_hold_what_was_taken.ensures (lanes_in start)) c.slot-home.ensures in
     let here = sym (hand.read c.exchange.result c.exchange.ensures.2) ∙ c.into_lane_slot-slot.ensures in
     let new : LaneSlot Lane Reply = record { owner = c.perform-outcome.new.owner; news = Some (Acts c.noted.result) } in
     let mine = hand.swapped c.exchange.new.seat.me c.exchange-2.new.seat.me c.exchange.result _ (AtLane new) c.exchange.ensures.2
@@ -98,8 +98,8 @@ returns g c =
       );
       slots = c.leave.ensures.slots ∙ ap (λ me. rest me.1) mine;
       acted = λ part may.
-          has_acted t here laws mine may
+          has_acted g.D.AtDesk t here laws mine may
           (c.leave.ensures.passed _
-          (may_pass t here laws mine may marks.marks marks.turn c.noted.result refl c.noted.ensures did.did did.skips did.same did.says));
+          (may_pass g.D.AtDesk t here laws mine may marks.marks marks.turn c.noted.result refl c.noted.ensures did.did did.skips did.same did.says));
       gone = c.before-2.ensures;
     }

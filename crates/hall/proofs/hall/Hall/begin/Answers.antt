@@ -3,6 +3,7 @@ use Rattle.hall_rule.specs.Homes.{desk_home, lane_home, register_home}
 use Rattle.hall_rule.specs.Rule.{first_view}
 use Rattle.hall.specs.Answers.{ArrayStart}
 use Rattle.hall.specs.ArrayMachines.{IsOpened, lanes_in, start_of}
+use Rattle.hall.proofs.PlainLemmas.{fresh_so}
 use Rattle.hall.proofs.SharingLemmas.{noted, opened}
 use Rattle.hall.specs.declared.desk.NotedDesk.{NotedDesk}
 use Rattle.hall.proofs.hall.Hall.begin.Goals as goal
@@ -14,14 +15,16 @@ new-requires g c =
     let parts = c.parts-register.ensures in
     let machines_are : c.in_ok-machines.machines.items ≡ s.lanes = c.in_ok-machines.ensures.taken ∙ ap (λ o. o.owners) parts.owners in
     let owners_are : c.of-4.result.value.items ≡ s.lanes = ap (λ v. v.items) c.of-4.ensures ∙ machines_are in
-    let start : ArrayStart g.row.D.Denot = record { register = c.of-3.result.value; owners = c.of-4.result.value.items; desk = c.of-5.result.value } in
+    let start : ArrayStart g.row.D-KnownBy.Denot = record { register = c.of-3.result.value; owners = c.of-4.result.value.items; desk = c.known_by.result.value } in
     let opening = c.worlds_open.ensures.world (length s.lanes) s (sym parts.built.count) parts.built c.is_whole.ensures.roots c.is_whole.ensures.catalogue in
     let here = opened s c.requires.new parts.built opening c.worlds_open.ensures.register start (c.of-3.ensures ∙ parts.register) owners_are in
     let few : c.args.passes < 2 ^ 32 = c.ranges.passes.fits in
     let desk : NotedDesk g.row.D.Denot = record { desk = c.args.desk; register = c.of.result; owners = c.of-2.result } in
-    (c.halls_begin_and_end.ensures (lanes_in start)).begin c.args.passes start desk _ _ here.fresh
-    (noted start desk (sym c.of-5.ensures) (c.of.ensures ∙ sym c.of-3.ensures)
-    (ap (λ v. v.items) c.of-2.ensures ∙ sym (ap (λ v. v.items) c.of-4.ensures))) c.requires.some_pass few
+    (c.halls_begin_and_end.ensures (lanes_in start)).begin c.args.passes start desk _ _
+    (fresh_so g.D.AtDesk (lanes_in start) start here.fresh)
+    (noted g.D.AtDesk s start desk c.known_by.ensures (c.of.ensures ∙ sym c.of-3.ensures)
+    (ap (λ v. v.items) c.of-2.ensures ∙ sym (ap (λ v. v.items) c.of-4.ensures)) (c.of-3.ensures ∙ parts.register) owners_are
+    c.requires.since c.requires.note) c.requires.some_pass few
     (c.as_slice.ensures.value ∙ c.in_ok-words.ensures.items_if_clones_equal (λ y e. search rules)
     ∙ ap (λ n. replicate (n + 4) 0) (c.len-lanes.ensures ∙ ap (λ o. length o.owners) parts.owners ∙ sym (ap length owners_are)))
     (c.in_ok-slots.ensures.laid
@@ -56,7 +59,7 @@ returns g c =
     let made = c.in-Ok.ensures.ok in
     let machines_are : c.in_ok-machines.machines.items ≡ s.lanes = c.in_ok-machines.ensures.taken ∙ ap (λ o. o.owners) parts.owners in
     let owners_are : c.of-4.result.value.items ≡ s.lanes = ap (λ v. v.items) c.of-4.ensures ∙ machines_are in
-    let start : ArrayStart g.row.D.Denot = record { register = c.of-3.result.value; owners = c.of-4.result.value.items; desk = c.of-5.result.value } in
+    let start : ArrayStart g.row.D-KnownBy.Denot = record { register = c.of-3.result.value; owners = c.of-4.result.value.items; desk = c.known_by.result.value } in
     let opening = c.worlds_open.ensures.world (length s.lanes) s (sym parts.built.count) parts.built c.is_whole.ensures.roots c.is_whole.ensures.catalogue in
     let here = opened s c.requires.new parts.built opening c.worlds_open.ensures.register start (c.of-3.ensures ∙ parts.register) owners_are in record {
       begun = record {
@@ -71,5 +74,5 @@ returns g c =
         first = ap (λ me. me.0) made.4 ∙ (λ i. first_view c.args.passes (owners_are i) (start_of (sym made.5 i)));
         front = refl;
       };
-      desk = ap (λ k. k.desk.value) made.5 ∙ c.of-5.ensures;
+      desk = ap (λ k. k.desk.value) made.5 ∙ c.known_by.ensures;
     }

@@ -1,11 +1,11 @@
 use Rattle.std.proofs.Common.{◌≡◌, ◌+◌, ◌<◌, ◌≤◌, length, sym, ap, subst, ◌∙◌, arith}
 use Rattle.std.specs.Prelude.{slice_get, vec_capacity}
 use Rattle.std.specs.Mem.Slots.{slots_items}
-use Rattle.service_core.specs.Worlds.{IsBuilt}
+use Rattle.service_core.specs.Worlds.{IsBuilt, State}
 use Rattle.hall.specs.ArrayMachines.{lanes_in, start_of}
-use Rattle.hall.specs.Passes.{HasEnded}
+use Rattle.hall.specs.Passes.{HasEnded, IsDeskAtEnd}
 use Rattle.hall.proofs.FrontLemmas.{front_is_last}
-use Rattle.hall.proofs.SharingLemmas.{built, ended, same_desk}
+use Rattle.hall.proofs.SharingLemmas.{both_ended, built}
 use Rattle.hall.proofs.hall.Hall.close.Goals as goal
 
 pub take_machines-register-requires : goal.take_machines-register-requires
@@ -48,7 +48,7 @@ of_parts-requires g c =
     let closed = e.closed t.result.0 t.result.1 taken t.ensures.register t.ensures.desk (t.ensures.count ∙ lanes_are)
     (λ lane below. t.ensures.owners lane (subst (λ n. lane < n) (sym lanes_are) below)) in
     subst (IsBuilt t.result.0) (sym c.put_back.ensures)
-    (built start c.requires.of_this_hall.opened p.seat.me.0 t.result.0 taken t.result.1 closed
+    (built g.D.AtDesk start c.requires.of_this_hall.opened p.seat.me.0 t.result.0 taken t.result.1 closed
     (λ l o at. c.are_whole.ensures l o (ap (λ xs. slice_get xs l) c.as_slice.ensures.value ∙ at)) (c.worlds_close.ensures.built (lanes_in start)))
 
 pub returns : goal.returns
@@ -64,12 +64,14 @@ returns g c =
     let taken = t.new.room.items in
     let closed = e.closed t.result.0 t.result.1 taken t.ensures.register t.ensures.desk (t.ensures.count ∙ lanes_are)
     (λ lane below. t.ensures.owners lane (subst (λ n. lane < n) (sym lanes_are) below)) in
-    let end = subst (HasEnded start p.seat.me.0)
-    (sym (c.of_parts.ensures ∙ ap (λ xs. record { register = t.result.0; lanes = xs }) c.put_back.ensures))
-    (ended start c.requires.of_this_hall.opened p.seat.me.0 t.result.0 taken t.result.1 closed
+    let both = subst (λ (x : State × g.row.D.Denot). (end : HasEnded start p.seat.me.0 x.0) × IsDeskAtEnd g.D.AtDesk start end.seen x.1)
+    (λ i. (
+      sym (c.of_parts.ensures ∙ ap (λ xs. record { register = t.result.0; lanes = xs }) c.put_back.ensures) i,
+      sym c.into_desk.ensures i,
+    ))
+    (both_ended g.D.AtDesk start c.requires.of_this_hall.opened p.seat.me.0 t.result.0 taken t.result.1 closed
     (λ l o at. c.are_whole.ensures l o (ap (λ xs. slice_get xs l) c.as_slice.ensures.value ∙ at))) in record {
-      ended = end;
-      desk = c.into_desk.ensures ∙ same_desk start c.requires.of_this_hall.opened p.seat.me.0 t.result.0 taken t.result.1 closed
-          (λ l o at. c.are_whole.ensures l o (ap (λ xs. slice_get xs l) c.as_slice.ensures.value ∙ at));
-      front = front_is_last start p.front p.seat.me.0 _ end p.counted p.below;
+      ended = both.0;
+      desk = both;
+      front = front_is_last start p.front p.seat.me.0 _ both.0 p.counted p.below;
     }

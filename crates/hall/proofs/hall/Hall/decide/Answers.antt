@@ -34,7 +34,7 @@ decide-verdict-requires g c =
     let look = (c.the_register_takes_turns.ensures (lanes_in start)).may_look start _ _ _ c.requires.may c.draw_register-mine.ensures.drawn in
     let t = c.wait.ensures.taken _ look in
     let hand = c.hands_hold_what_was_taken.ensures (lanes_in start) _ 0 0 _ _ _ t.is refl in
-    room_here start c.requires.opened (c.machines_stand_for_their_lists.ensures (lanes_in start)) _ _ _ _ t c.into_register_slot-slot.result
+    room_here g.D.AtDesk start c.requires.opened (c.machines_stand_for_their_lists.ensures (lanes_in start)) _ _ _ _ t c.into_register_slot-slot.result
     (sym (hand.read _ c.exchange.ensures.2) ∙ c.into_register_slot-slot.ensures) (c.the_register_counts.ensures.room (lanes_in start))
 
 pub exchange-requires-2 : goal.exchange-requires-2
@@ -58,7 +58,7 @@ leave-requires-clause-ready g c =
     (hand.swapped _ _ _ _ _ c.exchange.ensures.2 c.exchange.ensures.3 c.exchange-2.ensures.3) in (
       at_register (Entered (entry_behind t.seen.register v.number c.of-3.result.value c.of-4.result.value)),
       refl,
-      decision_here start c.requires.opened (c.machines_stand_for_their_lists.ensures (lanes_in start)) _ _ _ _ t c.into_register_slot-slot.result here
+      decision_here g.D.AtDesk start c.requires.opened (c.machines_stand_for_their_lists.ensures (lanes_in start)) _ _ _ _ t c.into_register_slot-slot.result here
           (c.the_register_counts.ensures.counts (lanes_in start)) c.calls_are_events.ensures.decision v _ c.of-3.result c.of-4.result c.decide-verdict.new.self laws
           (decides_as _ _ _ _ _ _ _ asked c.of-4.ensures c.decide-verdict.ensures.decides) (issue_as _ _ _ _ _ _ asked c.of-4.ensures c.decide-verdict.ensures.issue)
           (λ k since held told. c.decide-verdict.ensures.says held (since held told)),
@@ -89,8 +89,8 @@ returns-clause-decided g c =
     let stand = c.machines_stand_for_their_lists.ensures (lanes_in start) in
     let counts = c.the_register_counts.ensures.counts (lanes_in start) in
     let decides = decides_as _ _ _ _ _ _ _ asked c.of-4.ensures c.decide-verdict.ensures.decides in
-    let ready = decision_here start c.requires.opened stand _ _ _ _ t c.into_register_slot-slot.result here counts c.calls_are_events.ensures.decision v _ c.of-3.result c.of-4.result c.decide-verdict.new.self laws
+    let ready = decision_here g.D.AtDesk start c.requires.opened stand _ _ _ _ t c.into_register_slot-slot.result here counts c.calls_are_events.ensures.decision v _ c.of-3.result c.of-4.result c.decide-verdict.new.self laws
     decides (issue_as _ _ _ _ _ _ asked c.of-4.ensures c.decide-verdict.ensures.issue) (λ k since held told. c.decide-verdict.ensures.says held (since held told)) in
     let passed = c.leave.ensures.passed (at_register (Entered (entry_behind t.seen.register v.number c.of-3.result.value c.of-4.result.value))) ready in
     subst (λ (x : Asked × Verdict). HasDecided (machines (lanes_in start)) start c.places-place.result x.0 x.1 v c.leave.new.seat.me.0) (λ i. (asked i, c.of-4.ensures i))
-    (decided_here start c.requires.opened stand _ _ _ _ t c.into_register_slot-slot.result here counts c.calls_are_events.ensures.decision v _ _ c.of-3.result.value c.of-4.result.value _ _ _ _ laws passed c.places-place.ensures decides)
+    (decided_here g.D.AtDesk start c.requires.opened stand _ _ _ _ t c.into_register_slot-slot.result here counts c.calls_are_events.ensures.decision v _ _ c.of-3.result.value c.of-4.result.value _ _ _ _ laws passed c.places-place.ensures decides)

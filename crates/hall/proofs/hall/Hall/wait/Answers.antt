@@ -4,7 +4,7 @@ use Rattle.atomic_table.specs.Table.{Allows, step}
 use Rattle.hall_rule.specs.Rule.{FollowsRule}
 use Rattle.hall_rule.specs.Steps.{HasLooked}
 use Rattle.hall_rule.specs.WholeTurns.{MayLook}
-use Rattle.hall.specs.ArrayMachines.{lanes_in, machines, start_of}
+use Rattle.hall.specs.ArrayMachines.{desk_machines, lanes_in, start_of}
 use Rattle.hall.proofs.Knowing.{as_known}
 use Rattle.hall.proofs.hall.Hall.wait.Goals as goal
 
@@ -18,7 +18,7 @@ load-now-requires g c =
     let law = c.steps_keep_the_rule.ensures (lanes_in start) in (
       i.table ∙ c.requires.table,
       law.words _ _ _ c.args.queue c.word-word.ensures may.there h.sized.0,
-      as_known (λ l. Allows (FollowsRule (machines (lanes_in start)) h.table.shared.key.passes start) h.table.shared.table_id.slots c.loop.seat.id me c.word-word.result (λ n. n) (HasLooked (machines l) (step h.table.shared.table_id.slots c.word-word.result 0 0 none) me)) start me.0 may.begun
+      as_known (λ l. Allows (FollowsRule (desk_machines g.D.AtDesk (lanes_in start)) h.table.shared.key.passes start) h.table.shared.table_id.slots c.loop.seat.id me c.word-word.result (λ n. n) (HasLooked (desk_machines g.D.AtDesk l) (step h.table.shared.table_id.slots c.word-word.result 0 0 none) me)) start me.0 may.begun
           ((law.step _ _ _ _ _).looks c.args.queue c.args.mine c.requires.may.0 _ c.word-word.ensures may),
     )
 
