@@ -1,5 +1,5 @@
 -- A lane's turn: its owner is ready for it, and what the owner does is what the turn's item says.
-use Rattle.std.proofs.Common.{◌≡◌, ℕ, zero, suc, Bool, true, false, true≢false, List, [], ◌∷◌, Option, Some, None, refl, sym, ap, ◌∙◌, subst}
+use Rattle.std.proofs.Common.{◌≡◌, ℕ, Bool, true, false, true≢false, List, ◌∷◌, Option, Some, None, sym, ap, ◌∙◌, subst}
 use Rattle.std.specs.declared.snapshot.Snapshot.{Snapshot}
 use Rattle.object_acts.specs.Objects.{Objects}
 use Rattle.object_ops.specs.declared.grants.Grant.{Grant}
@@ -39,7 +39,6 @@ use Rattle.service_histories.specs.Calls.{TurnsAreAtHome}
 use Rattle.service_histories.specs.Cuttings.{OwnersMark}
 use Rattle.service_histories.specs.Markings.{array_marking}
 use Rattle.service_histories.specs.Readies.{IsGivenIn, Needs, TurnsFindWhatTheyNeed}
-use Rattle.service_histories.specs.Tellings.{objects_in}
 use Rattle.service_histories.specs.declared.tasks.Task.{Task}
 use Rattle.hall.specs.declared.desk.NotedDesk.{NotedDesk}
 use Rattle.hall.specs.Answers.{ArrayStart, ArrayView}

@@ -22,7 +22,7 @@ use Rattle.service_histories.specs.ArrayServices.{array_service, cut_drawn, cut_
 use Rattle.service_histories.specs.Closings.{AreOwnersAfter, IsWorldSince, WorldsClose}
 use Rattle.service_histories.specs.Cuttings.{IsOwnerSince, IsRegisterSince}
 use Rattle.service_histories.specs.Readies.{IsGivenIn}
-use Rattle.service_histories.specs.Tellings.{IsOpening, KeptRegistersAreSince, objects_in}
+use Rattle.service_histories.specs.Tellings.{IsOpening, KeptRegistersAreSince}
 use Rattle.hall.specs.Answers.{ArrayStart, ArrayView}
 use Rattle.hall.specs.ArrayMachines.{IsOpened, desk_machines, lanes_in, machines}
 use Rattle.hall.specs.Passes.{HasEnded, IsDeskAtEnd, IsNewWorld, IsSinceCuts}
