@@ -18,10 +18,11 @@ use std::time::Duration;
 use std::{hint, thread};
 
 /// So many looks are taken one right behind the other.
-const LOOKS: u32 = 300;
+const LOOKS: u32 = 30;
 
-/// Behind so many looks there is a sleep between two, and before that a yield.
-const YIELDS: u32 = 400;
+/// Behind so many looks there is a sleep between two, and before that a yield. Who sleeps when its
+/// turn comes holds up all behind it, and a turn is short: so sleeps come late.
+const YIELDS: u32 = 2_030;
 
 /// The first sleep is of a microsecond, and each of so many is twice as long as the one before.
 const DOUBLINGS: u32 = 9;
