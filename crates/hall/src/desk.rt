@@ -32,6 +32,7 @@ pub trait AtDesk: Drop {
 
     /// How far what its disk holds reaches, and the disk's moment when that was reached.
     ghost reach: { Self → Reach };
+
     ghost moment: { Self → ℕ };
 
     /// By what a hall that begins with it will know it.
