@@ -2,6 +2,7 @@ pub mod Knowing
 pub mod PlainLemmas
 pub mod RegisterLemmas
 pub mod ActLemmas
+pub mod CuttingLemmas
 pub mod TicketLemmas
 pub mod AskLemmas
 pub mod DenialLemmas

@@ -12,6 +12,7 @@
 
 mod acting;
 mod asking;
+mod cutting;
 mod deciding;
 mod desk;
 mod gate;

@@ -95,6 +95,16 @@ impl<Z, Q, V, T, R, N, X> Play<Z, View<Q, V, T, R, N, X>> for DrawRegister {
     ghost then = { HasDrawn OfRegister };
 }
 
+/// A number of the desk comes into hand.
+pub(crate) struct DrawDesk;
+
+impl<Z, Q, V, T, R, N, X> Play<Z, View<Q, V, T, R, N, X>> for DrawDesk {
+    ghost use Rattle.hall_rule.specs.declared.queue.Queue.TheVariants.{OfDesk};
+    ghost use Rattle.hall_rule.specs.Steps.{HasDrawn};
+
+    ghost then = { HasDrawn OfDesk };
+}
+
 /// A look for the turn of the newest claim.
 pub(crate) struct Look<D> {
     of: PhantomData<D>,
