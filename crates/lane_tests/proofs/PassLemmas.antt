@@ -6,17 +6,18 @@ use Rattle.hall_rule.specs.Rule.{names, tail_of}
 use Rattle.hall_rule.specs.Sums.{upward}
 use Rattle.hall.specs.Answers.{ArrayStart}
 use Rattle.hall.specs.Passes.{HasBegun, names_of, view_of, who}
+use Rattle.hall.specs.declared.desk.AtDesk.{Ghosts}
 use Rattle.hall.specs.declared.hall.Hall.{Hall}
 use Rattle.hall.specs.declared.pass.Pass.{Pass}
 use Rattle.lane_tests.specs.Crowds.{IsGiver}
 
 -- as many as before, where only a split or a join could change them
-pub names_still : {D : Type 0} (p q : Pass D) → who q ≡ who p → length (names_of q) ≡ length (names_of p)
-names_still {D} p q same =
-    ap (λ (w : TableId × Bool × ℕ × List ℕ × List ℕ × Option (ArrayStart D)). length (cond w.1 (w.2 ∷ (w.3 ++ w.4)) [])) same
+pub names_still : {D K : Type 0} {g : Ghosts D K} (p q : Pass D K g) → who q ≡ who p → length (names_of q) ≡ length (names_of p)
+names_still {K = K} p q same =
+    ap (λ (w : TableId × Bool × ℕ × List ℕ × List ℕ × Option (ArrayStart K)). length (cond w.1 (w.2 ∷ (w.3 ++ w.4)) [])) same
 
 -- the first pass of a hall for one
-pub first_name : {D : Type 0} (h : Hall D) (p : Pass D) (s : State) → HasBegun h p s 1 → length (names_of p) ≡ 1
+pub first_name : {D K : Type 0} {g : Ghosts D K} (h : Hall D K) (p : Pass D K g) (s : State) → HasBegun h p s 1 → length (names_of p) ≡ 1
 first_name h p s begun = ap (λ v. length (names v)) begun.first
 
 -- ---- passes that are given away
@@ -37,7 +38,7 @@ pub one_fewer : (xs : List ℕ) (n : ℕ) → length xs ≡ n + 1 → length (ta
 one_fewer [] n e = absurd (omega (arith, e))
 one_fewer (x ∷ xs) n e = omega (arith, e)
 
-pub first_giver : {D : Type 0} (h : Hall D) (p : Pass D) (s : State) (n : ℕ) → HasBegun h p s (n + 1) → IsGiver h n p
+pub first_giver : {D K : Type 0} {g : Ghosts D K} (h : Hall D K) (p : Pass D K g) (s : State) (n : ℕ) → HasBegun h p s (n + 1) → IsGiver h n p
 first_giver h p s n begun = record {
   of_this_hall = begun.pass;
   spare = ap (λ v. length v.spare) begun.first ∙ length_upward 1 ((n + 1) - 1) ∙ (let e : (n + 1) - 1 ≡ n = omega arith in e);
@@ -45,7 +46,7 @@ first_giver h p s n begun = record {
 }
 
 -- who has given all away has its own name alone
-pub last_name : {D : Type 0} (h : Hall D) (p : Pass D) → IsGiver h 0 p → (view_of p).live ≡ true → length (names_of p) ≡ 1
+pub last_name : {D K : Type 0} {g : Ghosts D K} (h : Hall D K) (p : Pass D K g) → IsGiver h 0 p → (view_of p).live ≡ true → length (names_of p) ≡ 1
 last_name h p giver live =
     let none = empty_of_length (view_of p).spare giver.spare in
     (λ i. length (cond (live i) ((view_of p).number ∷ (none i ++ giver.joined i)) []))

@@ -52,7 +52,7 @@ module _ (n : ℕ) (stay : RepliesStay (array_service n)) (h g : Lists) (grows :
       ap (map (told_of n h)) more ∙ map-append (told_of n h) (own by g.register) es
       ∙ ap (λ l. l ++ map (told_of n h) es) (told_same (own by g.register) all)
 
-module _ {D : Type 0} (start : ArrayStart D) (v w : ArrayView D) (caller : Caller) (request : Request) (answer : Answer) where
+module _ {K : Type 0} (start : ArrayStart K) (v w : ArrayView K) (caller : Caller) (request : Request) (answer : Answer) where
   -- the entry of an `ask`
   abbrev pub entry_of : HasAnswered start caller request answer v w → Entry Asked Verdict
   entry_of a = entry_behind a.asked.before.register v.number (asked_by caller request) a.decided_as

@@ -96,7 +96,7 @@ in_front (y ∷ ys) more x = inr (in_front ys more x)
 is_in_list : {X : Type 0} (xs front : List X) (x : X) → StartsWith xs (front ++ x ∷ []) → IsIn xs x
 is_in_list xs front x begins = subst (λ l. IsIn l x) (sym begins.1) (in_front front begins.0 x)
 
-module _ {D G : Type 0} (goes : Goes G) (start : ArrayStart D) (v w : ArrayView D) (caller : Caller) (request : Request) (answer : Answer)
+module _ {K G : Type 0} (goes : Goes G) (start : ArrayStart K) (v w : ArrayView K) (caller : Caller) (request : Request) (answer : Answer)
     (found : EntriesAreFound (array_service (lanes_in start))) (a : HasAnswered start caller request answer v w) (old new : G) (h : HasGoneThrough goes w answer.place old new) where
   -- the entry of the answer's place is the pass's own
   one_entry : h.verdict_is.0 ≡ entry_of start v w caller request answer a
@@ -104,7 +104,7 @@ module _ {D G : Type 0} (goes : Goes G) (start : ArrayStart D) (v w : ArrayView 
       let q = a.asked in
       let mine = entry_of start v w caller request answer a in
       let other = h.verdict_is.0 in
-      let here : IsIn q.seen.register (Entered other) = subst (λ (x : ArrayView D). IsIn x.seen.register (Entered other)) q.is h.verdict_is.1 in
+      let here : IsIn q.seen.register (Entered other) = subst (λ (x : ArrayView K). IsIn x.seen.register (Entered other)) q.is h.verdict_is.1 in
       let at_mine : entry_at mine.place q.seen.register ≡ Some mine =
       found _ (history_of (array_service (lanes_in start)) q.seen) mine q.legal (is_in_list q.seen.register q.before.register (Entered mine) q.entered) in
       let at_other : entry_at other.place q.seen.register ≡ Some other = found _ (history_of (array_service (lanes_in start)) q.seen) other q.legal here in

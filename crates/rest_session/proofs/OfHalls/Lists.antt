@@ -5,6 +5,13 @@ use Rattle.std.specs.List.{slice_get}
 use Rattle.std.proofs.lemmas.List.{map-append, reverse-append, reverse-reverse}
 use Rattle.std.proofs.lemmas.List.Elements.{All-head, All-tail, All-append, All-cons}
 use Rattle.hall_rule.specs.Sums.{upward}
+use Rattle.hall.specs.declared.desk.AtDesk.{Ghosts}
+use Rattle.rest_session.specs.declared.halls.hiring.Report.{Report}
+use Rattle.rest_session.specs.declared.halls.workers.Worker.{Worker}
+
+-- what a worker has to tell
+abbrev pub report : {D K F G : Type 0} {g : Ghosts D K} → Worker D F G K g → Report
+report w = record { ends = w.ends; door_failed = w.door_failed }
 
 pub all_none : {X : Type 0} (P : X → Type 0) → All P []
 all_none P = λ k d lt. absurd (omega arith)

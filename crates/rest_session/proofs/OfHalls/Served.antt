@@ -17,6 +17,7 @@ use Rattle.service_histories.specs.Counts.{RegistersCount}
 use Rattle.hall.specs.Answers.{ArrayStart, ArrayView}
 use Rattle.hall.specs.ArrayMachines.{IsOpened, lanes_in, machines}
 use Rattle.hall.specs.Passes.{HasBegun, HasEnded, TookIn, opening, view_of, who}
+use Rattle.hall.specs.declared.desk.AtDesk.{Ghosts}
 use Rattle.hall.specs.declared.gate.OpenGate.{OpenGate}
 use Rattle.hall.specs.declared.hall.Hall.{Hall}
 use Rattle.hall.specs.declared.pass.Pass.{Pass}
@@ -32,7 +33,7 @@ use Rattle.rest_session.proofs.OfHalls.Shares.{grows_on, number_named}
 
 -- ---- the beginning
 
-pub first_giver : {D : Type 0} (h : Hall D) (p : Pass D) (s : State) (n : ℕ) → HasBegun h p s (n + 1) → IsGiver h 0 n p
+pub first_giver : {D K : Type 0} {g : Ghosts D K} (h : Hall D K) (p : Pass D K g) (s : State) (n : ℕ) → HasBegun h p s (n + 1) → IsGiver h 0 n p
 first_giver h p s n begun = record {
   of_this_hall = begun.pass;
   number = ap (λ v. v.number) begun.first;
@@ -42,56 +43,56 @@ first_giver h p s n begun = record {
   front = begun.front;
 }
 
-pub hired_account : {D : Type 0} (tokens : TokenTable) (h : Hall D) (x : ℕ) (p : Pass D) → IsHired h x p → account tokens h p ≡ unasked tokens
+pub hired_account : {D K : Type 0} {g : Ghosts D K} (tokens : TokenTable) (h : Hall D K) (x : ℕ) (p : Pass D K g) → IsHired h x p → account tokens h p ≡ unasked tokens
 hired_account tokens h x p hired =
     let none : own (view_of p).number (view_of p).seen.register ≡ [] = ap (λ m. own m (view_of p).seen.register) hired.number ∙ hired.unasked in
     (λ i. record { tokens = tokens; told = map (told_of (lanes_in (opening h)) (view_of p).seen) (none i); front = hired.front i })
 
-pub hired_ready : {D : Type 0} (h : Hall D) (x : ℕ) (p : Pass D) → IsHired h x p → IsReady h p
+pub hired_ready : {D K : Type 0} {g : Ghosts D K} (h : Hall D K) (x : ℕ) (p : Pass D K g) → IsHired h x p → IsReady h p
 hired_ready h x p hired =
     let none : own (view_of p).number (view_of p).seen.register ≡ [] = ap (λ m. own m (view_of p).seen.register) hired.number ∙ hired.unasked in record {
       of_this_hall = hired.of_this_hall;
       answered = subst (λ es. AllAnswered (map (told_of (lanes_in (opening h)) (view_of p).seen) es)) (sym none) tt;
     }
 
-pub hired_alone : {D : Type 0} (h : Hall D) (x : ℕ) (p : Pass D) → IsHired h x p → IsAlone (view_of p)
+pub hired_alone : {D K : Type 0} {g : Ghosts D K} (h : Hall D K) (x : ℕ) (p : Pass D K g) → IsHired h x p → IsAlone (view_of p)
 hired_alone h x p hired = record { spare = hired.spare; joined = hired.joined }
 
 -- the first pass, once it gave all its numbers away
-pub giver_alone : {D : Type 0} (h : Hall D) (k : ℕ) (p : Pass D) → IsGiver h k 0 p → IsAlone (view_of p)
+pub giver_alone : {D K : Type 0} {g : Ghosts D K} (h : Hall D K) (k : ℕ) (p : Pass D K g) → IsGiver h k 0 p → IsAlone (view_of p)
 giver_alone h k p giver = record { spare = giver.spare; joined = giver.joined }
 
 -- ---- what no worker changes
 
-module _ {D F G : Type 0} (ws now : List (Worker D F G)) (same : map (λ w. who w.pass) now ≡ map (λ w. who w.pass) ws) where
+module _ {D K F G : Type 0} {g : Ghosts D K} (ws now : List (Worker D F G K g)) (same : map (λ w. who w.pass) now ≡ map (λ w. who w.pass) ws) where
   pub alone_still : All (λ w. IsAlone (view_of w.pass)) ws → All (λ w. IsAlone (view_of w.pass)) now
   alone_still alone =
-      let named = λ (w : Worker D F G). who w.pass in
-      let Alone = λ (t : TableId × Bool × ℕ × List ℕ × List ℕ × Option (ArrayStart D)). (t.3 ≡ []) × (t.4 ≡ []) in
+      let named = λ (w : Worker D F G K g). who w.pass in
+      let Alone = λ (t : TableId × Bool × ℕ × List ℕ × List ℕ × Option (ArrayStart K)). (t.3 ≡ []) × (t.4 ≡ []) in
       let before = all_images Alone named ws (all_on (λ w. IsAlone (view_of w.pass)) (λ w. Alone (named w)) ws (λ w a. (a.spare, a.joined)) alone) in
       all_on (λ w. Alone (named w)) (λ w. IsAlone (view_of w.pass)) now (λ w a. record { spare = a.0; joined = a.1 }) (all_map Alone named now (subst (All Alone) (sym same) before))
 
   pub count_still : length now ≡ length ws
-  count_still = sym (length-map now (λ (w : Worker D F G). who w.pass)) ∙ ap length same ∙ length-map ws (λ (w : Worker D F G). who w.pass)
+  count_still = sym (length-map now (λ (w : Worker D F G K g). who w.pass)) ∙ ap length same ∙ length-map ws (λ (w : Worker D F G K g). who w.pass)
 
 -- ---- the end
 
-module _ {D F L : Type 0} (tells : Telling F L) (tokens : TokenTable) (links : ℕ) (h : Hall D) (stay : RepliesStay (array_service (lanes_in (opening h))))
-    (ws now : List (Worker D F OpenGate)) (count : ℕ) (last : ArrayView D) (seen : Lists) where
+module _ {D K F L : Type 0} {g : Ghosts D K} (tells : Telling F L) (tokens : TokenTable) (links : ℕ) (h : Hall D K) (stay : RepliesStay (array_service (lanes_in (opening h))))
+    (ws now : List (Worker D F OpenGate K g)) (count : ℕ) (last : ArrayView K) (seen : Lists) where
   abbrev pub Worked : Type 0
-  Worked = (i : ℕ) (x y : Worker D F OpenGate) → slice_get ws i ≡ Some x → slice_get now i ≡ Some y
+  Worked = (i : ℕ) (x y : Worker D F OpenGate K g) → slice_get ws i ≡ Some x → slice_get now i ≡ Some y
       → Works tells links x.door y.door y.ends.items (account tokens h x.pass) (account tokens h y.pass) y.door_failed
 
   -- what a worker was told is what the history tells of its number
   pub each_served : map (λ w. (view_of w.pass).number) ws ≡ upward 1 count → map (λ w. who w.pass) now ≡ map (λ w. who w.pass) ws
       → All (λ w. (x : ℕ) × IsHired h x w.pass) ws → All (λ w. IsReady h w.pass) now → Worked → All (λ w. TookIn last (view_of w.pass)) now
       → GrowsFrom seen last.seen → ((x : ℕ) → 0 < times x (names last) → own x seen.register ≡ own x last.seen.register)
-      → (i : ℕ) (x y : Worker D F OpenGate) → slice_get ws i ≡ Some x → slice_get now i ≡ Some y
+      → (i : ℕ) (x y : Worker D F OpenGate K g) → slice_get ws i ≡ Some x → slice_get now i ≡ Some y
       → Works tells links x.door y.door y.ends.items (unasked tokens) (record { tokens = tokens; told = told_by (lanes_in (opening h)) (i + 1) seen; front = y.pass.front }) y.door_failed
   each_served numbers same hired ready worked took grows owns i x y gx gy =
       let n = lanes_in (opening h) in
-      let number = λ (w : Worker D F OpenGate). (view_of w.pass).number in
-      let named = λ (w : Worker D F OpenGate). who w.pass in
+      let number = λ (w : Worker D F OpenGate K g). (view_of w.pass).number in
+      let named = λ (w : Worker D F OpenGate K g). who w.pass in
       let some = slice_get_within ws i x gx in
       let many : length ws ≡ count = sym (length-map ws number) ∙ ap length numbers ∙ length_upward 1 count in
       let at_i : Some (number x) ≡ Some (1 + i) = sym (get_map number ws i x gx) ∙ ap (λ l. slice_get l i) numbers ∙ upward_at 1 count i (omega (arith, some, many)) in
@@ -99,9 +100,9 @@ module _ {D F L : Type 0} (tells : Telling F L) (tokens : TokenTable) (links : �
       let kept_i : Some (named y) ≡ Some (named x) = sym (get_map named now i y gy) ∙ ap (λ l. slice_get l i) same ∙ get_map named ws i x gx in
       let kept : named y ≡ named x = some_same (named y) (named x) kept_i in
       let next : number y ≡ i + 1 = ap (λ t. t.2) kept ∙ first ∙ (let e : 1 + i ≡ i + 1 = omega arith in e) in
-      let had = all_at (λ (w : Worker D F OpenGate). TookIn last (view_of w.pass)) now i y took gy in
-      let is = all_at (λ (w : Worker D F OpenGate). IsReady h w.pass) now i y ready gy in
-      let fresh = all_at (λ (w : Worker D F OpenGate). (m : ℕ) × IsHired h m w.pass) ws i x hired gx in
+      let had = all_at (λ (w : Worker D F OpenGate K g). TookIn last (view_of w.pass)) now i y took gy in
+      let is = all_at (λ (w : Worker D F OpenGate K g). IsReady h w.pass) now i y ready gy in
+      let fresh = all_at (λ (w : Worker D F OpenGate K g). (m : ℕ) × IsHired h m w.pass) ws i x hired gx in
       let named_y = number_named (view_of y.pass) y.pass.live in
       let told : told_by n (number y) seen ≡ told_by n (number y) (view_of y.pass).seen =
       told_still n stay seen (view_of y.pass).seen (grows_on seen last.seen (view_of y.pass).seen grows had.longer) (number y)
@@ -111,7 +112,7 @@ module _ {D F L : Type 0} (tells : Telling F L) (tokens : TokenTable) (links : �
       (λ j. record { tokens = tokens; told = (sym told ∙ ap (λ m. told_by n m seen) next) j; front = y.pass.front }) in
       subst (λ (t : Account × Account). Works tells links x.door y.door y.ends.items t.0 t.1 y.door_failed) (λ j. (before j, after j)) (worked i x y gx gy)
 
-module _ {D : Type 0} (start : ArrayStart D) (last : ArrayView D) (closing : State) (opened : IsOpened start) (ended : HasEnded start last closing) where
+module _ {K : Type 0} (start : ArrayStart K) (last : ArrayView K) (closing : State) (opened : IsOpened start) (ended : HasEnded start last closing) where
   -- the world has decided as many requests as the history has entries
   pub places_told : RegistersCount (lanes_in start) → closing.register.places ≡ places ended.seen.register
   unfolding machines

@@ -35,21 +35,21 @@ grows_on a b c p q = record {
 times_here : (x : ℕ) (xs : List ℕ) → times x (x ∷ xs) ≡ times x xs + 1
 times_here x xs = ap (λ (b : Bool). cond b 1 0 + times x xs) (eq-eqb x x refl) ∙ omega arith
 
-module _ {D : Type 0} where
-  pub number_named : (v : ArrayView D) → v.live ≡ true → 0 < times v.number (names v)
+module _ {K : Type 0} where
+  pub number_named : (v : ArrayView K) → v.live ≡ true → 0 < times v.number (names v)
   number_named v live = subst (λ (b : Bool). 0 < times v.number (cond b (v.number ∷ (v.spare ++ v.joined)) [])) (sym live)
       (let here = times_here v.number (v.spare ++ v.joined) in omega (arith, here))
 
-  pub one_name : (w : ArrayView D) → w.live ≡ true → IsAlone w → length (names w) ≡ 1
+  pub one_name : (w : ArrayView K) → w.live ≡ true → IsAlone w → length (names w) ≡ 1
   one_name w live alone = (λ i. length (cond (live i) (w.number ∷ (alone.spare i ++ alone.joined i)) []))
 
   -- ---- passes that were taken in
 
-  pub took_itself : (v : ArrayView D) → TookIn v v
+  pub took_itself : (v : ArrayView K) → TookIn v v
   took_itself v = record { longer = grows_itself v.seen; has_names = λ x named. named; no_more = λ x named. refl }
 
   -- what a pass had taken in is taken in with it
-  pub took_on : (u v w : ArrayView D) → TookIn u v → TookIn v w → TookIn u w
+  pub took_on : (u v w : ArrayView K) → TookIn u v → TookIn v w → TookIn u w
   took_on u v w p q = record {
     longer = grows_on u.seen v.seen w.seen p.longer q.longer;
     has_names = λ x named. p.has_names x (q.has_names x named);

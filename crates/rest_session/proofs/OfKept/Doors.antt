@@ -115,7 +115,7 @@ module _ {D : Type 0} {met : Ghosts D} (k l : Keeping D met) (closing t : State)
 
 -- ---- what a hall leaves
 
--- what was held of the world with which a hall began says that in which it ended
+-- what was held of the world with which a hall began says that in which it ended, since nobody cut
 pub still_said : {F L : Type 0} (tells : Telling F L) (tokens : TokenTable) (links : ℕ) (opening closing : State) (front : ℕ) (doors now : List F) (reports : List Report)
     → EndedWorldsAreSaid (Unit {0}) → IsNewWorld opening → IsServed (Unit {0}) tells tokens links opening closing front doors now reports → WorldStillSays opening closing
-still_said tells tokens links opening closing front doors now reports said new served = said served.start served.last opening closing served.register served.owners new served.ended
+still_said tells tokens links opening closing front doors now reports said new served = said served.start served.last opening closing served.register served.owners new served.ended served.uncut

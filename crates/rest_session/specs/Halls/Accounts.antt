@@ -16,6 +16,7 @@ use Rattle.service_histories.specs.PlainSteps.{answer_of}
 use Rattle.hall.specs.Answers.{ArrayLists}
 use Rattle.hall.specs.ArrayMachines.{lanes_in}
 use Rattle.hall.specs.Passes.{IsPassOf, opening, view_of}
+use Rattle.hall.specs.declared.desk.AtDesk.{Ghosts}
 use Rattle.hall.specs.declared.hall.Hall.{Hall}
 use Rattle.hall.specs.declared.pass.Pass.{Pass}
 
@@ -46,7 +47,7 @@ pub record Account : Type 0 where
   pub told : List Told
   pub front : ℕ
 
-abbrev pub account : {D : Type 0} → TokenTable → Hall D → Pass D → Account
+abbrev pub account : {D K : Type 0} {g : Ghosts D K} → TokenTable → Hall D K → Pass D K g → Account
 account tokens h p = record {
   tokens = tokens;
   told = told_by (lanes_in (opening h)) (view_of p).number (view_of p).seen;
@@ -57,6 +58,6 @@ account tokens h p = record {
 abbrev pub unasked : TokenTable → Account
 unasked tokens = record { tokens = tokens; told = []; front = 0 }
 
-pub record IsReady {D : Type 0} (h : Hall D) (p : Pass D) : Type 0 where
+pub record IsReady {D K : Type 0} {g : Ghosts D K} (h : Hall D K) (p : Pass D K g) : Type 0 where
   pub of_this_hall : IsPassOf h p
   pub answered : AllAnswered (told_by (lanes_in (opening h)) (view_of p).number (view_of p).seen)

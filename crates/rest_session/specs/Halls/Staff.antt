@@ -7,10 +7,11 @@ use Rattle.hall_rule.specs.Seen.{nothing}
 use Rattle.hall_rule.specs.Sums.{upward}
 use Rattle.hall.specs.Answers.{ArrayView}
 use Rattle.hall.specs.Passes.{IsPassOf, names_of, opening, view_of}
+use Rattle.hall.specs.declared.desk.AtDesk.{Ghosts}
 use Rattle.hall.specs.declared.hall.Hall.{Hall}
 use Rattle.hall.specs.declared.pass.Pass.{Pass}
 
-pub record IsGiver {D : Type 0} (h : Hall D) (k n : ℕ) (p : Pass D) : Type 0 where
+pub record IsGiver {D K : Type 0} {g : Ghosts D K} (h : Hall D K) (k n : ℕ) (p : Pass D K g) : Type 0 where
   pub of_this_hall : IsPassOf h p
   pub number : (view_of p).number ≡ 0
   pub spare : (view_of p).spare ≡ upward (k + 1) n
@@ -18,7 +19,7 @@ pub record IsGiver {D : Type 0} (h : Hall D) (k n : ℕ) (p : Pass D) : Type 0 w
   pub seen : (view_of p).seen ≡ nothing (opening h).owners
   pub front : p.front ≡ 0
 
-pub record IsHired {D : Type 0} (h : Hall D) (x : ℕ) (p : Pass D) : Type 0 where
+pub record IsHired {D K : Type 0} {g : Ghosts D K} (h : Hall D K) (x : ℕ) (p : Pass D K g) : Type 0 where
   pub of_this_hall : IsPassOf h p
   pub number : (view_of p).number ≡ x
   pub spare : (view_of p).spare ≡ []
@@ -27,10 +28,10 @@ pub record IsHired {D : Type 0} (h : Hall D) (x : ℕ) (p : Pass D) : Type 0 whe
   pub front : p.front ≡ 0
 
 -- the number is the pass's own, and it has no other
-pub record IsAlone {D : Type 0} (v : ArrayView D) : Type 0 where
+pub record IsAlone {K : Type 0} (v : ArrayView K) : Type 0 where
   pub spare : v.spare ≡ []
   pub joined : v.joined ≡ []
 
 -- how many numbers a pass has: its own, its spare and its joined ones
-abbrev pub numbers : {D : Type 0} → Pass D → ℕ
+abbrev pub numbers : {D K : Type 0} {g : Ghosts D K} → Pass D K g → ℕ
 numbers p = length (names_of p)

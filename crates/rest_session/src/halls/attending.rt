@@ -16,14 +16,14 @@ use crate::halls::session::HallSession;
 use crate::halls::workers::LinkEnds;
 use crate::links::{LinkEnd, serve_link as serve};
 use edge_traits::{Door, Failed, Link, Sink, Source};
-use hall::{Gate, Hall, Pass};
+use hall::{AtDesk, Gate, Hall, Pass};
 use rest_requests::Tokens;
 use std::alloc::Global;
 use std::sync::Wait;
 
 /// Serves a link, one message after another, until it ends: each request is asked of the hall. What would have to be kept
 /// before it is answered, a flush and a change of folders, domains or lists, has no route here.
-pub fn serve_link<D: Drop, G: Gate, L: Link, R: Wait>(
+pub fn serve_link<D: AtDesk, G: Gate, L: Link, R: Wait>(
     rt: &R,
     alloc: Global,
     hall: &Hall<D>,
@@ -67,7 +67,7 @@ pub fn serve_link<D: Drop, G: Gate, L: Link, R: Wait>(
 }
 
 // Serves the door's next link, and gives it back. `Ok(false)` where the door has none left.
-fn attend_link<D: Drop, G: Gate, F: Door, R: Wait>(
+fn attend_link<D: AtDesk, G: Gate, F: Door, R: Wait>(
     rt: &R,
     alloc: Global,
     hall: &Hall<D>,
@@ -103,7 +103,7 @@ fn attend_link<D: Drop, G: Gate, F: Door, R: Wait>(
 }
 
 /// Serves link after link of the door, until it has none left, it fails, or `links` were given. Says whether it failed.
-pub fn attend_door<D: Drop, G: Gate, F: Door, R: Wait>(
+pub fn attend_door<D: AtDesk, G: Gate, F: Door, R: Wait>(
     rt: &R,
     alloc: Global,
     hall: &Hall<D>,

@@ -6,7 +6,7 @@ ghost use Rattle.hall.specs.Passes.{IsPassOf, TookIn, view_of};
 ghost use Rattle.rest_session.specs.Halls.Staff.{IsAlone, IsGiver, IsHired, numbers};
 
 use crate::halls::workers::{LinkEnds, Worker};
-use hall::{Hall, OpenGate, Pass};
+use hall::{AtDesk, Hall, OpenGate, Pass};
 use std::alloc::{AllocError, Global};
 
 /// What a worker has to tell.
@@ -19,7 +19,7 @@ pub struct Report {
 }
 
 /// All memory that the workers of a hall take.
-pub(crate) struct Room<D: Drop, F> {
+pub(crate) struct Room<D: AtDesk, F> {
     pub lists: Vec<LinkEnds>,
     pub workers: Vec<Worker<D, F, OpenGate>>,
     pub reports: Vec<Report>,
@@ -38,7 +38,7 @@ fn make_lists(alloc: Global, count: usize, links: u32) -> Result<Vec<LinkEnds>, 
 }
 
 /// Room for a worker at each door.
-pub(crate) fn make_room<D: Drop, F>(
+pub(crate) fn make_room<D: AtDesk, F>(
     alloc: Global,
     doors: usize,
     links: u32,
@@ -62,7 +62,7 @@ pub(crate) fn make_room<D: Drop, F>(
 }
 
 // A worker with the next number of the first pass.
-fn hire<D: Drop, F>(
+fn hire<D: AtDesk, F>(
     hall: &Hall<D>,
     pass: &mut Pass<D>,
     door: F,
@@ -89,7 +89,7 @@ fn hire<D: Drop, F>(
 }
 
 // A worker for each door, the last door first.
-fn hire_all<D: Drop, F>(
+fn hire_all<D: AtDesk, F>(
     hall: &Hall<D>,
     pass: &mut Pass<D>,
     doors: &mut Vec<F>,
@@ -116,7 +116,7 @@ fn hire_all<D: Drop, F>(
 }
 
 /// A worker for each door, in order.
-pub(crate) fn staff<D: Drop, F>(
+pub(crate) fn staff<D: AtDesk, F>(
     hall: &Hall<D>,
     links: u32,
     pass: &mut Pass<D>,
@@ -143,7 +143,7 @@ pub(crate) fn staff<D: Drop, F>(
 }
 
 // Joins the workers' passes into this one, the last first. The doors and the reports come in that order.
-fn take_in<D: Drop, F>(
+fn take_in<D: AtDesk, F>(
     hall: &Hall<D>,
     pass: &mut Pass<D>,
     mut workers: Vec<Worker<D, F, OpenGate>>,
@@ -178,7 +178,7 @@ fn take_in<D: Drop, F>(
 }
 
 /// Joins all workers' passes into this one. The doors and the reports come in the order of their workers.
-pub(crate) fn dismiss<D: Drop, F>(
+pub(crate) fn dismiss<D: AtDesk, F>(
     hall: &Hall<D>,
     pass: &mut Pass<D>,
     workers: Vec<Worker<D, F, OpenGate>>,

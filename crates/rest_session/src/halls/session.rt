@@ -14,7 +14,7 @@ use crate::answers::{answer_reply, no_memory};
 use crate::links::{Response, Service};
 use crate::world_session::{is_to_keep, parts_of, refuse};
 use access_lists::Caller;
-use hall::{Gate, Hall, Pass};
+use hall::{AtDesk, Gate, Hall, Pass};
 use http_wire::Message;
 use object_ops::{Refusal, Request, on_text};
 use rest_requests::routes::Methods;
@@ -27,7 +27,7 @@ use std::sync::Wait;
 
 /// A hall that is asked with a pass over one link, through a gate, and the tokens by which callers are known.
 #[derive(Drop)]
-pub struct HallSession<'a, D: Drop, G, R> {
+pub struct HallSession<'a, D: AtDesk, G, R> {
     pub rt: &'a R,
     pub alloc: Global,
     pub hall: &'a Hall<D>,
@@ -36,7 +36,7 @@ pub struct HallSession<'a, D: Drop, G, R> {
     pub tokens: &'a Tokens,
 }
 
-impl<'a, D: Drop, G: Gate, R: Wait> Service for HallSession<'a, D, G, R> {
+impl<'a, D: AtDesk, G: Gate, R: Wait> Service for HallSession<'a, D, G, R> {
     ghost use base.Fml.{GName};
     ghost use Rattle.std.specs.Prelude.{ℕ, Bool, List, Option};
     ghost use Rattle.atomic_table.specs.Seated.{TableId};
@@ -62,8 +62,8 @@ impl<'a, D: Drop, G: Gate, R: Wait> Service for HallSession<'a, D, G, R> {
 
     ghost ready = { λ s. IsReady s.hall.now s.pass.now };
 
-    ghost Fixed = { GName × GName × TokenTable × Hall D
-        × (TableId × Bool × ℕ × List ℕ × List ℕ × Option (ArrayStart D)) };
+    ghost Fixed = { GName × GName × TokenTable × Hall D D.KnownBy
+        × (TableId × Bool × ℕ × List ℕ × List ℕ × Option (ArrayStart D.KnownBy)) };
 
     ghost fixed = { λ s. (s.pass.ghost_name, s.gate.ghost_name, s.tokens.now, s.hall.now, who s.pass.now) };
 
@@ -84,7 +84,7 @@ impl<'a, D: Drop, G: Gate, R: Wait> Service for HallSession<'a, D, G, R> {
 }
 
 /// Answers a request. What would have to be kept before it is answered has no route.
-fn take<D: Drop, G: Gate, R: Wait>(
+fn take<D: AtDesk, G: Gate, R: Wait>(
     rt: &R,
     alloc: Global,
     hall: &Hall<D>,
@@ -112,7 +112,7 @@ fn take<D: Drop, G: Gate, R: Wait>(
 }
 
 /// Asks the hall, and says its answer.
-fn ask<D: Drop, G: Gate, R: Wait>(
+fn ask<D: AtDesk, G: Gate, R: Wait>(
     rt: &R,
     alloc: Global,
     hall: &Hall<D>,

@@ -10,7 +10,7 @@ ghost use Rattle.rest_session.specs.Halls.Visits.{Works, telling};
 use crate::halls::hiring::{Report, Room, dismiss, make_room, staff};
 use crate::halls::workers::{Worker, work};
 use edge_traits::{Door, Sink, Source};
-use hall::{Hall, OpenGate, Pass};
+use hall::{AtDesk, Hall, OpenGate, Pass};
 use rest_requests::Tokens;
 use service_core::World;
 use service_histories::{replies_are_replays, the_register_counts};
@@ -38,7 +38,7 @@ pub struct ServedHall<F> {
 }
 
 // `work` over a `Vec` of workers.
-fn work_all<D: Drop + Send, F: Door + Send, R: Threads + Wait + Sync>(
+fn work_all<D: AtDesk + Send, F: Door + Send, R: Threads + Wait + Sync>(
     rt: &R,
     alloc: Global,
     hall: &Hall<D>,
@@ -64,16 +64,16 @@ where
 }
 
 // From a hall with its first pass to its end.
-fn run_hall<D: Drop + Send, F: Door + Send, R: Threads + Wait + Sync>(
+fn run_hall<F: Door + Send, R: Threads + Wait + Sync>(
     rt: &R,
     alloc: Global,
-    hall: Hall<D>,
-    mut pass: Pass<D>,
+    hall: Hall<()>,
+    mut pass: Pass<()>,
     tokens: &Tokens,
     links: u32,
     doors: &mut Vec<F>,
-    room: Room<D, F>,
-) -> (ClosedHall, D)
+    room: Room<(), F>,
+) -> ClosedHall
 where
     F::Link: Send,
     requires begun { (s : State) × IsNewWorld s × HasBegun hall pass s (vec_len doors.old + 1) }
@@ -84,10 +84,10 @@ where
     requires reports { (room.reports.items ≡ [])
         × (vec_len doors.old ≤ vec_capacity room.reports) }
     ensures served { (s : State) → IsNewWorld s → HasBegun hall pass s (vec_len doors.old + 1)
-        → IsServed D (telling ⟦<F as Door>⟧ ⟦<F::Link as Source>⟧ ⟦<F::Link as Sink>⟧) tokens.now
-        links s result.0.world result.0.front doors.old.items doors.new.items
-        result.0.reports.items }
-    ensures front { result.0.front ≡ result.0.world.register.places }
+        → IsServed (Unit {0}) (telling ⟦<F as Door>⟧ ⟦<F::Link as Source>⟧ ⟦<F::Link as Sink>⟧)
+        tokens.now links s result.world result.front doors.old.items doors.new.items
+        result.reports.items }
+    ensures front { result.front ≡ result.world.register.places }
 {
     the_register_counts();
     replies_are_replays();
@@ -99,14 +99,13 @@ where
     staff(&hall, links, &mut pass, doors, lists, &mut workers);
     work_all(rt, alloc, &hall, tokens, links, &mut workers);
     dismiss(&hall, &mut pass, workers, doors, &mut reports);
-    let (world, desk) = hall.close(pass);
+    let (world, _desk) = hall.close(pass);
     let front = world.places();
-    let closed = ClosedHall {
+    ClosedHall {
         world,
         front,
         reports,
-    };
-    (closed, desk)
+    }
 }
 
 /// Serves the links of the doors over one hall, which begins with the world, by a worker at each door: each serves at most so
@@ -150,7 +149,7 @@ where
             closed: None,
         };
     };
-    let (closed, _nothing) = run_hall(rt, alloc, hall, pass, tokens, links, &mut doors, room);
+    let closed = run_hall(rt, alloc, hall, pass, tokens, links, &mut doors, room);
     ServedHall {
         doors,
         closed: Some(closed),

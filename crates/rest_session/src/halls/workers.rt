@@ -8,7 +8,7 @@ ghost use Rattle.rest_session.specs.declared.halls.workers.TheConstants.{MOST_TH
 use crate::halls::attending::attend_door;
 use crate::links::LinkEnd;
 use edge_traits::{Door, Sink, Source};
-use hall::{Gate, Hall, Pass};
+use hall::{AtDesk, Gate, Hall, Pass};
 use rest_requests::Tokens;
 use std::alloc::Global;
 use std::sync::Wait;
@@ -28,7 +28,7 @@ pub type LinkEnds = Vec<LinkEnd>;
 
 /// A worker: its door and its pass, and a gate through which it goes in each turn of a lane. What it did is told by the ends
 /// of its links, and by whether its door failed.
-pub struct Worker<D: Drop, F, G> {
+pub struct Worker<D: AtDesk, F, G> {
     pub door: F,
     pub gate: G,
     pub pass: Pass<D>,
@@ -36,7 +36,7 @@ pub struct Worker<D: Drop, F, G> {
     pub door_failed: bool,
 }
 
-fn run_worker<D: Drop, G: Gate, F: Door, R: Wait>(
+fn run_worker<D: AtDesk, G: Gate, F: Door, R: Wait>(
     rt: &R,
     alloc: Global,
     hall: &Hall<D>,
@@ -67,7 +67,7 @@ fn run_worker<D: Drop, G: Gate, F: Door, R: Wait>(
 }
 
 // What holds of each worker is one clause, joined by `×`.
-fn work_each<D: Drop + Send, G: Gate + Send, F: Door + Send, R: Threads + Wait + Sync>(
+fn work_each<D: AtDesk + Send, G: Gate + Send, F: Door + Send, R: Threads + Wait + Sync>(
     rt: &R,
     alloc: Global,
     hall: &Hall<D>,
@@ -96,7 +96,7 @@ where
 
 /// Runs the workers, each in a thread of its own where one can be made: each serves the links of its door, one after another,
 /// until the door has none left, it fails, or `links` were given.
-pub fn work<D: Drop + Send, G: Gate + Send, F: Door + Send, R: Threads + Wait + Sync>(
+pub fn work<D: AtDesk + Send, G: Gate + Send, F: Door + Send, R: Threads + Wait + Sync>(
     rt: &R,
     alloc: Global,
     hall: &Hall<D>,

@@ -26,21 +26,21 @@ doors-preserved g c =
     let both = h.giver k n (subst (λ (m : ℕ). IsGiver c.args.hall.now k m c.doors.pass) fewer i.giver) in
     let more = c.push_reserved.ensures in
     let left = c.pop.new.self.items in
-    let Hired = λ (x : Worker g.row.D.Denot g.row.F.Denot OpenGate). (m : ℕ) × IsHired c.args.hall.now m x.pass in
-    let number = λ (x : Worker g.row.D.Denot g.row.F.Denot OpenGate). (view_of x.pass).number in record {
+    let Hired = λ (x : Worker g.row.D.Denot g.row.F.Denot OpenGate g.row.D-KnownBy.Denot g.D.AtDesk). (m : ℕ) × IsHired c.args.hall.now m x.pass in
+    let number = λ (x : Worker g.row.D.Denot g.row.F.Denot OpenGate g.row.D-KnownBy.Denot g.D.AtDesk). (view_of x.pass).number in record {
       count = omega arith;
       giver = subst (λ (m : ℕ). IsGiver c.args.hall.now m n c.hire-worker.new.pass) (sym more.len) both.0;
       hired = subst (All Hired) (sym more.items) (all_push Hired ws w i.hired (k + 1, both.1));
       numbers = ap (map number) more.items ∙ map-append number ws (w ∷ []) ∙ ap (λ l. l ++ number w ∷ []) i.numbers
           ∙ ap (λ m. upward 1 k ++ m ∷ []) (both.1.number ∙ (let e : k + 1 ≡ 1 + k = omega arith in e)) ∙ sym (upward_push 1 k) ∙ ap (upward 1) (sym more.len);
-      doors = ap (λ l. map (λ (x : Worker g.row.D.Denot g.row.F.Denot OpenGate). x.door) l ++ reverse left) more.items
-          ∙ moved (λ (x : Worker g.row.D.Denot g.row.F.Denot OpenGate). x.door) ws w (reverse c.doors.doors.items) (reverse left) _
+      doors = ap (λ l. map (λ (x : Worker g.row.D.Denot g.row.F.Denot OpenGate g.row.D-KnownBy.Denot g.D.AtDesk). x.door) l ++ reverse left) more.items
+          ∙ moved (λ (x : Worker g.row.D.Denot g.row.F.Denot OpenGate g.row.D-KnownBy.Denot g.D.AtDesk). x.door) ws w (reverse c.doors.doors.items) (reverse left) _
           (ap reverse c.in-Some.ensures.items ∙ reverse_push left c.in-Some.door ∙ (λ j. sym h.door j ∷ reverse left)) i.doors;
-      lists = unpiled (λ (x : Worker g.row.D.Denot g.row.F.Denot OpenGate). x.ends) ws w c.doors.lists.items c.hire-worker.new.lists.items _ h.lists i.lists
-          ∙ ap (λ l. c.hire-worker.new.lists.items ++ reverse (map (λ (x : Worker g.row.D.Denot g.row.F.Denot OpenGate). x.ends) l)) (sym more.items);
+      lists = unpiled (λ (x : Worker g.row.D.Denot g.row.F.Denot OpenGate g.row.D-KnownBy.Denot g.D.AtDesk). x.ends) ws w c.doors.lists.items c.hire-worker.new.lists.items _ h.lists i.lists
+          ∙ ap (λ l. c.hire-worker.new.lists.items ++ reverse (map (λ (x : Worker g.row.D.Denot g.row.F.Denot OpenGate g.row.D-KnownBy.Denot g.D.AtDesk). x.ends) l)) (sym more.items);
       left = let a = h.left in let b = i.left in omega arith;
-      failed = subst (All (λ (x : Worker g.row.D.Denot g.row.F.Denot OpenGate). x.door_failed ≡ false)) (sym more.items)
-          (all_push (λ (x : Worker g.row.D.Denot g.row.F.Denot OpenGate). x.door_failed ≡ false) ws w i.failed h.failed);
+      failed = subst (All (λ (x : Worker g.row.D.Denot g.row.F.Denot OpenGate g.row.D-KnownBy.Denot g.D.AtDesk). x.door_failed ≡ false)) (sym more.items)
+          (all_push (λ (x : Worker g.row.D.Denot g.row.F.Denot OpenGate g.row.D-KnownBy.Denot g.D.AtDesk). x.door_failed ≡ false) ws w i.failed h.failed);
       workers_room = more.capacity ∙ i.workers_room;
       doors_room = c.pop.ensures.capacity ∙ i.doors_room;
     }

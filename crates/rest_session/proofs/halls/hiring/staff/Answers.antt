@@ -23,8 +23,8 @@ returns-clause-ready g c =
     let h = c.hire_all.ensures in
     let ws = c.hire_all.new.workers.items in
     let Empty = λ (l : Vec LinkEnd Global). (l.items ≡ []) × (c.args.links ≤ vec_capacity l) in
-    let ends = λ (w : Worker g.row.D.Denot g.row.F.Denot OpenGate). w.ends in
+    let ends = λ (w : Worker g.row.D.Denot g.row.F.Denot OpenGate g.row.D-KnownBy.Denot g.D.AtDesk). w.ends in
     let all = subst (All Empty) h.lists c.requires.lists.1 in
     let theirs = all_map Empty ends ws (all_reverse Empty (map ends ws) (all_back Empty c.hire_all.new.lists.items _ all)) in
-    all_two (λ (w : Worker g.row.D.Denot g.row.F.Denot OpenGate). (w.ends.items ≡ []) × (c.args.links ≤ vec_capacity w.ends)) (λ (w : Worker g.row.D.Denot g.row.F.Denot OpenGate). w.door_failed ≡ false)
-    (λ (w : Worker g.row.D.Denot g.row.F.Denot OpenGate). (w.ends.items ≡ []) × (c.args.links ≤ vec_capacity w.ends) × (w.door_failed ≡ false)) ws (λ w e f. (e.0, e.1, f)) theirs h.failed
+    all_two (λ (w : Worker g.row.D.Denot g.row.F.Denot OpenGate g.row.D-KnownBy.Denot g.D.AtDesk). (w.ends.items ≡ []) × (c.args.links ≤ vec_capacity w.ends)) (λ (w : Worker g.row.D.Denot g.row.F.Denot OpenGate g.row.D-KnownBy.Denot g.D.AtDesk). w.door_failed ≡ false)
+    (λ (w : Worker g.row.D.Denot g.row.F.Denot OpenGate g.row.D-KnownBy.Denot g.D.AtDesk). (w.ends.items ≡ []) × (c.args.links ≤ vec_capacity w.ends) × (w.door_failed ≡ false)) ws (λ w e f. (e.0, e.1, f)) theirs h.failed

@@ -8,7 +8,7 @@ use Rattle.rest_session.proofs.halls.hiring.take_in.Given as goal
 
 abbrev pub invariant-workers : goal.invariant-workers
 invariant-workers g l = record {
-  done : List (Worker g.row.D.Denot g.row.F.Denot OpenGate);
+  done : List (Worker g.row.D.Denot g.row.F.Denot OpenGate g.row.D-KnownBy.Denot g.D.AtDesk);
   parted : l.initial.workers.items ≡ l.workers.items ++ done;
   of : IsPassOf l.hall l.pass;
   names : numbers l.pass ≡ numbers l.initial.pass + length done;

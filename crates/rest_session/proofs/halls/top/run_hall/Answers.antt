@@ -5,6 +5,7 @@ use Rattle.std.proofs.lemmas.List.{length-map}
 use Rattle.lane_histories.specs.Histories.{own}
 use Rattle.hall.specs.ArrayMachines.{lanes_in}
 use Rattle.hall.specs.Passes.{IsPassOf, opening, view_of}
+use Rattle.hall.specs.contracts.desk.UnitAtDesk.TheImpl.{ghosts}
 use Rattle.hall.specs.declared.gate.OpenGate.{OpenGate}
 use Rattle.hall_rule.specs.Rule.{names}
 use Rattle.hall_rule.specs.Sums.{times, upward}
@@ -14,13 +15,13 @@ use Rattle.rest_session.specs.declared.halls.workers.Worker.{Worker}
 use Rattle.rest_session.specs.Halls.Accounts.{IsReady, told_by, unasked}
 use Rattle.rest_session.specs.Halls.Staff.{IsAlone, IsHired, numbers}
 use Rattle.rest_session.specs.Halls.Visits.{Works, telling}
-use Rattle.rest_session.proofs.OfHalls.Lists.{all_on, all_two, found, length_upward, some_same}
+use Rattle.rest_session.proofs.OfHalls.Lists.{all_on, all_two, found, length_upward, report, some_same}
 use Rattle.rest_session.proofs.OfHalls.Shares.{number_named, one_name}
 use Rattle.rest_session.proofs.OfHalls.Served.{alone_still, count_still, each_served, first_giver, giver_alone, hired_alone, hired_ready, owns_all, places_told}
 use Rattle.rest_session.proofs.halls.top.run_hall.Goals as goal
 
-abbrev report : {D F G : Type 0} → Worker D F G → Report
-report w = record { ends = w.ends; door_failed = w.door_failed }
+abbrev OneWorker : Type 0 → Type 0
+OneWorker F = Worker (Unit {0}) F OpenGate (Unit {0}) ghosts
 
 pub staff-requires-clause-giver : goal.staff-requires-clause-giver
 staff-requires-clause-giver g c =
@@ -29,24 +30,24 @@ staff-requires-clause-giver g c =
 
 pub work_all-requires-clause-ready : goal.work_all-requires-clause-ready
 work_all-requires-clause-ready g c κs within =
-    all_on (λ (w : Worker g.row.D.Denot g.row.F.Denot OpenGate). (x : ℕ) × IsHired c.args.hall x w.pass) (λ (w : Worker g.row.D.Denot g.row.F.Denot OpenGate). IsReady c.args.hall w.pass)
+    all_on (λ (w : OneWorker g.row.F.Denot). (x : ℕ) × IsHired c.args.hall x w.pass) (λ (w : OneWorker g.row.F.Denot). IsReady c.args.hall w.pass)
     c.staff.new.workers.items (λ w h. hired_ready c.args.hall h.0 w.pass h.1) c.staff.ensures.hired
 
 pub dismiss-requires-clause-all_of : goal.dismiss-requires-clause-all_of
 dismiss-requires-clause-all_of g c =
     let ws = c.staff.new.workers.items in
     let now = c.work_all.new.workers.items in
-    let Ready = λ (w : Worker g.row.D.Denot g.row.F.Denot OpenGate). IsReady c.args.hall w.pass in
-    let Alone = λ (w : Worker g.row.D.Denot g.row.F.Denot OpenGate). IsAlone (view_of w.pass) in
+    let Ready = λ (w : OneWorker g.row.F.Denot). IsReady c.args.hall w.pass in
+    let Alone = λ (w : OneWorker g.row.F.Denot). IsAlone (view_of w.pass) in
     let alone = alone_still ws now c.work_all.ensures.same
-    (all_on (λ (w : Worker g.row.D.Denot g.row.F.Denot OpenGate). (x : ℕ) × IsHired c.args.hall x w.pass) Alone ws (λ w h. hired_alone c.args.hall h.0 w.pass h.1) c.staff.ensures.hired) in
-    all_two Ready Alone (λ (w : Worker g.row.D.Denot g.row.F.Denot OpenGate). IsPassOf c.args.hall w.pass × IsAlone (view_of w.pass)) now (λ w r a. (r.of_this_hall, a)) c.work_all.ensures.ready alone
+    (all_on (λ (w : OneWorker g.row.F.Denot). (x : ℕ) × IsHired c.args.hall x w.pass) Alone ws (λ w h. hired_alone c.args.hall h.0 w.pass h.1) c.staff.ensures.hired) in
+    all_two Ready Alone (λ (w : OneWorker g.row.F.Denot). IsPassOf c.args.hall w.pass × IsAlone (view_of w.pass)) now (λ w r a. (r.of_this_hall, a)) c.work_all.ensures.ready alone
 
 pub dismiss-requires-clause-doors_room : goal.dismiss-requires-clause-doors_room
 dismiss-requires-clause-doors_room g c =
     let ws = c.staff.new.workers.items in
     let now = c.work_all.new.workers.items in
-    let number = λ (w : Worker g.row.D.Denot g.row.F.Denot OpenGate). (view_of w.pass).number in
+    let number = λ (w : OneWorker g.row.F.Denot). (view_of w.pass).number in
     let n = vec_len c.args.doors.now in
     let many : length ws ≡ n = sym (length-map ws number) ∙ ap length c.staff.ensures.numbers ∙ length_upward 1 n in
     let still = count_still ws now c.work_all.ensures.same in
@@ -56,7 +57,7 @@ pub dismiss-requires-clause-reports_room : goal.dismiss-requires-clause-reports_
 dismiss-requires-clause-reports_room g c =
     let ws = c.staff.new.workers.items in
     let now = c.work_all.new.workers.items in
-    let number = λ (w : Worker g.row.D.Denot g.row.F.Denot OpenGate). (view_of w.pass).number in
+    let number = λ (w : OneWorker g.row.F.Denot). (view_of w.pass).number in
     let n = vec_len c.args.doors.now in
     let many : length ws ≡ n = sym (length-map ws number) ∙ ap length c.staff.ensures.numbers ∙ length_upward 1 n in
     let still = count_still ws now c.work_all.ensures.same in
@@ -67,7 +68,7 @@ pub close-world-requires-clause-whole : goal.close-world-requires-clause-whole
 close-world-requires-clause-whole g c =
     let ws = c.staff.new.workers.items in
     let now = c.work_all.new.workers.items in
-    let number = λ (w : Worker g.row.D.Denot g.row.F.Denot OpenGate). (view_of w.pass).number in
+    let number = λ (w : OneWorker g.row.F.Denot). (view_of w.pass).number in
     let n = vec_len c.args.doors.now in
     let many : length ws ≡ n = sym (length-map ws number) ∙ ap length c.staff.ensures.numbers ∙ length_upward 1 n in
     let still = count_still ws now c.work_all.ensures.same in
@@ -83,13 +84,13 @@ returns-clause-served g c = λ s new begun.
     let lanes = lanes_in start in
     let ws = c.staff.new.workers.items in
     let now = c.work_all.new.workers.items in
-    let number = λ (w : Worker g.row.D.Denot g.row.F.Denot OpenGate). (view_of w.pass).number in
-    let door = λ (w : Worker g.row.D.Denot g.row.F.Denot OpenGate). w.door in
+    let number = λ (w : OneWorker g.row.F.Denot). (view_of w.pass).number in
+    let door = λ (w : OneWorker g.row.F.Denot). w.door in
     let n = vec_len c.args.doors.now in
     let many : length ws ≡ n = sym (length-map ws number) ∙ ap length c.staff.ensures.numbers ∙ length_upward 1 n in
     let still = count_still ws now c.work_all.ensures.same in
     let last = view_of c.dismiss.new.pass in
-    let ended = c.close-world.ensures.ended in
+    let ended = c.close-world.ensures.desk.0 in
     let owns = owns_all start last c.close-world.result.0 begun.pass.opened ended c.dismiss.new.pass.alone in
     let itself = c.dismiss.ensures.itself in
     let giver = c.staff.ensures.giver in
@@ -105,6 +106,7 @@ returns-clause-served g c = λ s new begun.
       owners = begun.owners;
       last = last;
       ended = ended;
+      uncut = c.close-world.ensures.desk.1.uncut;
       told = c.places-front.ensures ∙ places_told start last c.close-world.result.0 begun.pass.opened ended (c.the_register_counts.ensures.counts lanes);
       none_of_the_first = none;
       none_of_others = λ x above.

@@ -12,13 +12,13 @@ pub returns-clause-ready : goal.returns-clause-ready
 returns-clause-ready g c =
     let new = c.work.new.workers in
     let written = take_at new (drop (length new) c.args.workers.now.items) c.args.workers.now.len (c.work.auto.workers ∙ c.as_mut_slice.ensures.len) in
-    subst (All (λ (w : Worker g.row.D.Denot g.row.F.Denot OpenGate). IsReady c.args.hall.now w.pass)) (sym written) c.work.ensures.ready
+    subst (All (λ (w : Worker g.row.D.Denot g.row.F.Denot OpenGate g.row.D-KnownBy.Denot g.D.AtDesk). IsReady c.args.hall.now w.pass)) (sym written) c.work.ensures.ready
 
 pub returns-clause-same : goal.returns-clause-same
 returns-clause-same g c =
     let new = c.work.new.workers in
     let written = take_at new (drop (length new) c.args.workers.now.items) c.args.workers.now.len (c.work.auto.workers ∙ c.as_mut_slice.ensures.len) in
-    let named = λ (w : Worker g.row.D.Denot g.row.F.Denot OpenGate). who w.pass in
+    let named = λ (w : Worker g.row.D.Denot g.row.F.Denot OpenGate g.row.D-KnownBy.Denot g.D.AtDesk). who w.pass in
     ap (map named) written ∙ c.work.ensures.same ∙ ap (map named) c.as_mut_slice.ensures.value
 
 pub returns-clause-works : goal.returns-clause-works
