@@ -2,5 +2,6 @@ pub mod Accounts
 pub mod Asking
 pub mod Gates
 pub mod Visits
+pub mod Workers
 pub mod Staff
 pub mod Histories

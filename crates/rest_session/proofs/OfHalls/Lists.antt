@@ -1,8 +1,12 @@
 -- Lists of workers, before and after.
-use Rattle.std.proofs.Common.{◌≡◌, ℕ, ◌+◌, ◌<◌, ◌≤◌, List, [], ◌∷◌, ◌++◌, length, map, Option, Some, None, zero, suc, refl, sym, ap, ◌∙◌, subst, arith, append_assoc}
+use Rattle.std.proofs.Common.{◌≡◌, ℕ, ◌+◌, ◌<◌, List, [], ◌∷◌, ◌++◌, length, map, Option, Some, None, zero, suc, refl, sym, ap, ◌∙◌, subst, arith, append_assoc}
 use Rattle.std.specs.Prelude.{All, reverse}
 use Rattle.std.specs.List.{slice_get}
 use Rattle.std.proofs.lemmas.List.{map-append, reverse-append, reverse-reverse}
+use Rattle.std.proofs.lemmas.Option.{get_or_from_slice_get, slice_get_within}
+use Rattle.std.specs.Fork.{ChangesEach}
+use denote.Param.Members.{Shared}
+use denote.Ref.{MutBor}
 use Rattle.std.proofs.lemmas.List.Elements.{All-head, All-tail, All-append, All-cons}
 use Rattle.hall_rule.specs.Sums.{upward}
 use Rattle.hall.specs.declared.desk.AtDesk.{Ghosts}
@@ -147,3 +151,13 @@ module _ {W D : Type 0} (f : W → D) where
   handed_back done w now old new d last is so_far =
       last ∙ ap (λ l. l ++ d ∷ []) so_far ∙ append_assoc old (reverse (map f done)) (d ∷ [])
       ∙ ap (λ l. old ++ l) (ap (λ x. reverse (map f done) ++ x ∷ []) (sym is) ∙ sym (reverse_cons (f w) (map f done)))
+
+-- what holds of each element and of what a call left of it
+module _ {F T : Type 0} (g : Shared F (ℕ × (MutBor T × Unit {0})) ((Unit {0}) × (MutBor T × Unit {0}))) (f : F) (R : T → T → Type 0) where
+  pub each_left : (xs ys : List T) → ChangesEach g f xs ys → ((i : ℕ) (p q : MutBor T) → g.post f (i, (p, tt)) (tt, (q, tt)) → R p.now q.now)
+      → (i : ℕ) (x y : T) → slice_get xs i ≡ Some x → slice_get ys i ≡ Some y → R x y
+  each_left xs ys changes one i x y was is =
+      let k = (changes i x (slice_get_within xs i x was)).1 in
+      let before = k.argument_is ∙ get_or_from_slice_get xs i x x was in
+      let after = k.left ∙ get_or_from_slice_get ys i y x is in
+      subst (λ (t : T × T). R t.0 t.1) (λ j. (before j, after j)) (one i k.argument k.after_call k.call)

@@ -2,7 +2,9 @@
 ghost use Rattle.std.specs.Prelude.{◌≡◌, ℕ, ◌≤◌, [], All, Some, false, map, slice_get, vec_capacity};
 ghost use Rattle.hall.specs.Passes.{who};
 ghost use Rattle.rest_session.specs.Halls.Accounts.{IsReady, account};
+ghost use Rattle.rest_session.specs.Halls.Gates.{HasGoneThroughAll};
 ghost use Rattle.rest_session.specs.Halls.Visits.{Works, telling};
+ghost use Rattle.rest_session.specs.Halls.Workers.{HasWorked};
 ghost use Rattle.rest_session.specs.declared.halls.workers.TheConstants.{MOST_THREADS};
 
 use crate::halls::attending::attend_door;
@@ -47,11 +49,8 @@ fn run_worker<D: AtDesk, G: Gate, F: Door, R: Wait>(
     requires ready { IsReady hall.now worker.old.pass }
     requires new { (worker.old.ends.items ≡ []) × (links ≤ vec_capacity worker.old.ends)
         × (worker.old.door_failed ≡ false) }
-    ensures { IsReady hall.now worker.new.pass × (who worker.new.pass ≡ who worker.old.pass)
-        × Works (telling ⟦<F as Door>⟧ ⟦<F::Link as Source>⟧ ⟦<F::Link as Sink>⟧) links
-        worker.old.door worker.new.door worker.new.ends.items
-        (account tokens.now hall.now worker.old.pass) (account tokens.now hall.now worker.new.pass)
-        worker.new.door_failed }
+    ensures { HasWorked (telling ⟦<F as Door>⟧ ⟦<F::Link as Source>⟧ ⟦<F::Link as Sink>⟧) G.goes
+        tokens.now links hall.now worker.old worker.new }
 {
     worker.door_failed = attend_door(
         rt,
@@ -66,7 +65,7 @@ fn run_worker<D: AtDesk, G: Gate, F: Door, R: Wait>(
     );
 }
 
-// What holds of each worker is one clause, joined by `×`.
+// The closure says by a clause what it leaves of a worker: what a gate may become isn't found behind a call inside.
 fn work_each<D: AtDesk + Send, G: Gate + Send, F: Door + Send, R: Threads + Wait + Sync>(
     rt: &R,
     alloc: Global,
@@ -81,17 +80,16 @@ where
     requires new { All (λ w. (w.ends.items ≡ []) × (links ≤ vec_capacity w.ends)
         × (w.door_failed ≡ false)) workers.old }
     ensures { (i : ℕ) (x y : _) → slice_get workers.old i ≡ Some x → slice_get workers.new i ≡ Some y
-        → IsReady hall.now y.pass × (who y.pass ≡ who x.pass)
-        × Works (telling ⟦<F as Door>⟧ ⟦<F::Link as Source>⟧ ⟦<F::Link as Sink>⟧) links
-        x.door y.door y.ends.items
-        (account tokens.now hall.now x.pass) (account tokens.now hall.now y.pass) y.door_failed }
+        → HasWorked (telling ⟦<F as Door>⟧ ⟦<F::Link as Source>⟧ ⟦<F::Link as Sink>⟧) G.goes
+        tokens.now links hall.now x y }
 {
-    thread::for_each_mut(
-        rt,
-        workers,
-        MOST_THREADS,
-        &|_, worker| { run_worker(rt, alloc, hall, tokens, links, worker) },
-    );
+    let run = |_: usize, worker: &mut Worker<D, F, G>|
+        requires { IsReady hall.now worker.now.pass × (worker.now.ends.items ≡ [])
+            × (links ≤ vec_capacity worker.now.ends) × (worker.now.door_failed ≡ false) }
+        ensures { HasWorked (telling F.Door F.Link.Source F.Link.Sink) G.goes tokens.entry.now
+            links hall.entry.now worker.entry.now worker.exit.now }
+    { run_worker(rt, alloc, hall, tokens, links, worker) };
+    thread::for_each_mut(rt, workers, MOST_THREADS, &run);
 }
 
 /// Runs the workers, each in a thread of its own where one can be made: each serves the links of its door, one after another,
@@ -116,6 +114,12 @@ where
         → Works (telling ⟦<F as Door>⟧ ⟦<F::Link as Source>⟧ ⟦<F::Link as Sink>⟧) links
         x.door y.door y.ends.items
         (account tokens.now hall.now x.pass) (account tokens.now hall.now y.pass) y.door_failed }
+
+    // Each turn of each request that a worker's links asked went through its own gate, in order.
+    ensures gates { (i : ℕ) (x y : _)
+        → slice_get workers.old i ≡ Some x → slice_get workers.new i ≡ Some y
+        → HasGoneThroughAll G.goes (account tokens.now hall.now x.pass)
+        (account tokens.now hall.now y.pass) x.gate y.gate }
 {
     work_each(rt, alloc, hall, tokens, links, workers);
 }

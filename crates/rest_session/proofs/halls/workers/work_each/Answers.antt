@@ -6,6 +6,9 @@ use Rattle.atomic_table.proofs.shared.Seat.TheSendSync as seat
 use Rattle.atomic_table.proofs.shared.Shared.TheSendSync as shared
 use Rattle.hall_rule.proofs.Sent as rule
 use Rattle.hall.proofs.Sent.{desk_send, owner_send, owner_sync, owners_sync, register_send}
+use Rattle.rest_session.specs.Halls.Visits.{telling}
+use Rattle.rest_session.specs.Halls.Workers.{HasWorked}
+use Rattle.rest_session.proofs.OfHalls.Lists.{each_left}
 use Rattle.rest_session.proofs.OfHalls.Sent.{tokens_sync}
 use Rattle.rest_session.proofs.halls.workers.work_each.Goals as goal
 
@@ -21,3 +24,8 @@ for_each_mut-requires-sync-F g c κs within =
     let d = c.type_bounds.send-D in
     let r = c.type_bounds.sync-R in
     search (sendable, crosses, frees, heap.the_send, rule.slot_send, register_send, owner_send, owner_sync, owners_sync, desk_send, lease.the_sync, shared.the_sync, tokens_sync) depth 40 fits 5000
+
+pub returns : goal.returns
+returns g c =
+    each_left _ _ (HasWorked (telling g.F.Door g.F.Link.Source g.F.Link.Sink) g.G.Gate.goes c.args.tokens.now c.args.links c.args.hall.now) _ _
+    c.for_each_mut.ensures (λ i p q worked. worked)
