@@ -1,15 +1,14 @@
 -- How many bytes answers have.
-use Rattle.std.proofs.Common.{◌≡◌, ℕ, ◌+◌, ◌*◌, ◌<◌, ◌≤◌, ◌^◌, ◌==◌, List, [], ◌∷◌, ◌++◌, length, length-append, codes, Bool, true, false, cond, nat_lt, decimal, refl, ap, arith}
+use Rattle.std.proofs.Common.{◌≡◌, ℕ, ◌+◌, ◌*◌, ◌<◌, ◌≤◌, ◌^◌, ◌==◌, List, [], ◌∷◌, ◌++◌, length, length-append, codes, Bool, true, false, cond, nat_lt, decimal, refl, arith}
 use Rattle.std.proofs.lemmas.Fmt.{length-decimal-le}
 use Rattle.json.specs.Print.{escape, escape_byte, escape_letter, quoted}
-use Rattle.std.specs.Char.{digit_char}
 use Rattle.std.specs.Fmt.{digits}
 use Rattle.serde_json.specs.Data.{Data, Members, member, no_members, string, number, unsigned, object}
 use Rattle.serde_json.specs.Written.{compact_text, members_text}
 use Rattle.access_lists.specs.RightWords.{right_name}
 use Rattle.access_lists.specs.declared.right.Right.{Right}
 use Rattle.access_lists.specs.declared.right.Right.TheVariants.{Create, Read, Update, Delete, ReadAcl, UpdateAcl}
-use Rattle.http_wire.specs.Replies.{reply_text, reply_head, line_of, phrase_of, content_lines, extra_line, closing_line, crlf, no_memory_reply}
+use Rattle.http_wire.specs.Replies.{reply_text, reply_head, line_of, phrase_of, content_lines, extra_line, closing_line, crlf}
 use Rattle.http_wire.specs.declared.extra.Extra.{Extra}
 use Rattle.http_wire.specs.declared.extra.Extra.TheVariants as extra
 use Rattle.http_wire.specs.declared.limits.TheConstants.{ANSWER_ROOM}

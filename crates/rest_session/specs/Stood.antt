@@ -10,8 +10,7 @@ use Rattle.std.specs.Prelude.{◌≡◌, ℕ, ◌≤◌, List, ◌++◌, Some}
 use Rattle.std.specs.List.{AllByRecursion}
 use Rattle.edge_traits.specs.declared.disk.Disk.{Ghosts}
 use Rattle.flush_journal.specs.Batches.{records}
-use Rattle.flush_journal.specs.Files.{held}
-use Rattle.flush_journal.specs.Records.{Held, Record}
+use Rattle.flush_journal.specs.Records.{Record}
 use Rattle.flush_journal.specs.Standing.{pending_of}
 use Rattle.http_wire.specs.Messages.{RequestMessage}
 use Rattle.flush_journal.specs.Keepings.Keepings.{IsBacked}

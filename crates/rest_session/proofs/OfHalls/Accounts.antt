@@ -1,7 +1,6 @@
 -- What a pass was told, as its lists grow.
 use Rattle.std.proofs.Common.{◌≡◌, ℕ, List, [], ◌∷◌, ◌++◌, map, false, true, Option, Some, None, refl, sym, ap, ◌∙◌}
 use Rattle.std.specs.Prelude.{IsSome, option_map}
-use Rattle.std.specs.List.{AllByRecursion}
 use Rattle.std.proofs.lemmas.List.{map-append}
 use Rattle.access_lists.specs.declared.people.Caller.{Caller}
 use Rattle.object_ops.specs.declared.ops.Request.{Request}

@@ -1,10 +1,10 @@
 -- What a hall answers has no number with a fraction or an exponent.
-use Rattle.std.proofs.Common.{◌≡◌, ◌⊎◌, inl, inr, ⊎_elim, ℕ, Bool, true, false, cond, List, [], ◌∷◌, Option, Some, None, refl, sym, ap, subst}
+use Rattle.std.proofs.Common.{◌≡◌, ◌⊎◌, inl, inr, ⊎_elim, ℕ, Bool, true, false, cond, [], ◌∷◌, Option, Some, None, refl, sym, ap, subst}
 use Rattle.std.specs.Prelude.{◌==◌}
 use Rattle.access_lists.specs.declared.people.Caller.{Caller}
 use Rattle.object_ops.specs.declared.ops.Request.{Request}
 use Rattle.object_ops.specs.declared.replies.Reply.{Reply}
-use Rattle.register.specs.Decided.{Decides, RegisterState, decided}
+use Rattle.register.specs.Decided.{Decides, RegisterState}
 use Rattle.register.specs.declared.verdicts.Verdict.{Verdict}
 use Rattle.register.specs.declared.verdicts.Verdict.TheVariants as verdict
 use Rattle.service_core.specs.AnswerTrees.Bodies.{ReplyHas, VerdictHas}

@@ -1,5 +1,5 @@
 -- From lists of workers to what the call says of each door.
-use Rattle.std.proofs.Common.{◌≡◌, ⊎_elim, Bool, ℕ, ◌+◌, ◌-◌, ◌<◌, List, [], ◌∷◌, length, map, Option, Some, refl, sym, ap, ◌∙◌, subst, arith}
+use Rattle.std.proofs.Common.{◌≡◌, ⊎_elim, Bool, ℕ, ◌+◌, ◌-◌, ◌<◌, List, [], length, map, Option, Some, sym, ap, ◌∙◌, subst, arith}
 use Rattle.std.specs.Prelude.{All}
 use Rattle.std.specs.List.{slice_get}
 use Rattle.std.proofs.lemmas.List.{length-map}
@@ -21,14 +21,12 @@ use Rattle.hall.specs.declared.desk.AtDesk.{Ghosts}
 use Rattle.hall.specs.declared.gate.OpenGate.{OpenGate}
 use Rattle.hall.specs.declared.hall.Hall.{Hall}
 use Rattle.hall.specs.declared.pass.Pass.{Pass}
-use Rattle.rest_session.specs.declared.links.end.LinkEnd.{LinkEnd}
-use Rattle.rest_session.specs.declared.halls.hiring.Report.{Report}
 use Rattle.rest_session.specs.declared.halls.workers.Worker.{Worker}
 use Rattle.rest_session.specs.Halls.Accounts.{Account, AllAnswered, IsReady, Lists, account, told_by, told_of, unasked}
 use Rattle.rest_session.specs.Halls.Staff.{IsAlone, IsGiver, IsHired}
 use Rattle.rest_session.specs.Halls.Visits.{Telling, Works}
 use Rattle.rest_session.proofs.OfHalls.Accounts.{told_still}
-use Rattle.rest_session.proofs.OfHalls.Lists.{all_at, all_images, all_map, all_on, get_map, length_upward, map_of, some_same, upward_at}
+use Rattle.rest_session.proofs.OfHalls.Lists.{all_at, all_images, all_map, all_on, get_map, length_upward, some_same, upward_at}
 use Rattle.rest_session.proofs.OfHalls.Shares.{grows_on, number_named}
 
 -- ---- the beginning

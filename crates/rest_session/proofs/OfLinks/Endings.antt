@@ -1,18 +1,15 @@
 -- The same bytes end a link alike, in whatever pieces they come.
-use Rattle.std.proofs.Common.{◌≡◌, ◌⊎◌, inl, inr, ℕ, ◌+◌, ◌<◌, ◌≤◌, List, [], ◌++◌, length, length-append, drop, Option, Some, None, Result, Ok, Err, refl, sym, ap, ◌∙◌, subst, append_assoc, append-nil, arith}
+use Rattle.std.proofs.Common.{◌≡◌, ◌⊎◌, inl, inr, ℕ, ◌<◌, List, [], ◌++◌, length, length-append, drop, Some, Err, refl, sym, ap, ◌∙◌, subst, append_assoc, append-nil, arith}
 use Rattle.std.proofs.Math.Seq.{drop-append_seam}
 use Rattle.httparse.specs.Grammar.{RequestHead, ReadsRequest}
-use Rattle.httparse.specs.Spans.{RequestExceeds}
 use Rattle.httparse.proofs.GrammarLemmas.{request_unique, ReadsRequest-append}
 use Rattle.http_wire.specs.Heads.{IsSmall}
-use Rattle.http_wire.specs.Messages.{RequestMessage, spelling, HasNoMessage, HasNoBadSize, HasBadSize, StopsInside, IsRefusedFor, body_size}
-use Rattle.http_wire.specs.declared.limits.TheConstants.{FIELD_LIMIT, HEAD_LIMIT}
+use Rattle.http_wire.specs.Messages.{spelling, HasNoMessage, HasNoBadSize, HasBadSize, StopsInside, IsRefusedFor, body_size}
 use Rattle.http_wire.specs.declared.message_fault.MessageFault.{MessageFault}
 use Rattle.http_wire.specs.declared.message_fault.MessageFault.TheVariants.{BadHead, HeadTooLong, BadLength, BodyTooLong, TransferCoding}
 use Rattle.http_wire.proofs.MessageLemmas.{message_unique}
 use Rattle.rest_session.specs.declared.links.end.LinkEnd.{LinkEnd}
 use Rattle.rest_session.specs.declared.links.end.LinkEnd.TheVariants.{Closed, Cut, Ended, ReadFault, WriteFault, Budget, NoMemory}
-use Rattle.rest_session.specs.declared.links.end.TheConstants.{BUDGET}
 use Rattle.rest_session.specs.Links.Links.{Step, AreAlike, IsCounted, IsEnd, IsHeadFault, IsOfBytes, IsTranscript, IsUndecided, closing_message, spellings}
 use Rattle.rest_session.proofs.OfLinks.Readings.{none_empty, refused_first, same_messages, some_refused}
 

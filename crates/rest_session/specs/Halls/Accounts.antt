@@ -2,7 +2,7 @@
 --     told_by lanes by seen   the entries of a pass in some lists, each with what it was answered
 --     account tokens h p      what the service over one link goes by
 --     IsReady h p             a pass of this hall, all of whose entries were answered
-use Rattle.std.specs.Prelude.{◌≡◌, ℕ, List, [], map, Option, IsSome, option_map}
+use Rattle.std.specs.Prelude.{ℕ, List, [], map, Option, IsSome, option_map}
 use Rattle.std.specs.List.{AllByRecursion}
 use Rattle.access_lists.specs.Tokens.Bearer.{TokenTable}
 use Rattle.register.specs.declared.verdicts.Verdict.{Verdict}

@@ -4,7 +4,7 @@
 --     LeavesWorlds old after first closing last      what a crash leaves of that
 --     AreDoorsKept ..      doors were served over a hall, and what that left was kept
 --     HaveEnded before after .. outcome      what they came to
-use Rattle.std.specs.Prelude.{◌≡◌, ◌⊎◌, ℕ, List, Option, None, Some, Result, Err, OnErr, OnOk}
+use Rattle.std.specs.Prelude.{◌≡◌, ◌⊎◌, ℕ, List, None, Some, Result, Err, OnErr, OnOk}
 use Rattle.access_lists.specs.Tokens.Bearer.{TokenTable}
 use Rattle.edge_traits.specs.declared.disk.Disk.{Ghosts}
 use Rattle.flush_journal.specs.Files.{held}

@@ -1,4 +1,4 @@
-use Rattle.std.proofs.Common.{arith, refl}
+use Rattle.std.proofs.Common.{arith}
 use Rattle.std.proofs.lemmas.Result.{err_from_is_err_and}
 use Rattle.rest_session.specs.Halls.Accounts.{account}
 use Rattle.rest_session.specs.Halls.Visits.{Visit, telling}

@@ -1,4 +1,4 @@
-use Rattle.std.proofs.Common.{◌+◌, refl, ap, ◌∙◌}
+use Rattle.std.proofs.Common.{◌+◌, ap, ◌∙◌}
 use Rattle.hall_rule.specs.Rule.{head_or_zero, tail_of}
 use Rattle.hall_rule.specs.Sums.{upward}
 use Rattle.lane_histories.specs.Histories.{own}

@@ -1,7 +1,6 @@
-use Rattle.std.proofs.Common.{◌≡◌, ◌≢◌, ℕ, ◌+◌, ◌<◌, ◌++◌, [], ◌∷◌, map, length, refl, sym, ap, ◌∙◌, subst, arith, append_assoc, append-nil}
+use Rattle.std.proofs.Common.{◌≡◌, ◌++◌, [], ◌∷◌, map, length, refl, sym, ap, ◌∙◌, subst, arith, append_assoc, append-nil}
 use Rattle.std.specs.Prelude.{All, reverse}
 use Rattle.std.proofs.lemmas.List.Elements.{All-cons}
-use Rattle.hall_rule.specs.Sums.{upward}
 use Rattle.hall.specs.Passes.{IsPassOf, TookIn, view_of}
 use Rattle.hall.specs.declared.gate.OpenGate.{OpenGate}
 use Rattle.rest_session.specs.declared.halls.workers.Worker.{Worker}

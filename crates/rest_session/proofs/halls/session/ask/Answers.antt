@@ -1,4 +1,4 @@
-use Rattle.std.proofs.Common.{◌≤◌, ◌+◌, ℕ, List, [], ◌∷◌, refl, sym, ap, ◌∙◌, subst}
+use Rattle.std.proofs.Common.{◌≤◌, ◌+◌, ℕ, List, refl, sym, ap, ◌∙◌, subst}
 use Rattle.service_core.specs.AnswerTrees.Exact.{IsExact}
 use Rattle.hall.specs.ArrayMachines.{lanes_in}
 use Rattle.hall.specs.Passes.{opening, view_of}

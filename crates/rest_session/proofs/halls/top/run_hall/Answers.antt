@@ -1,5 +1,4 @@
-use Rattle.std.proofs.Common.{◌≡◌, ℕ, ◌+◌, ◌<◌, List, [], Some, length, map, vec_len, sym, ap, ◌∙◌, subst, arith}
-use Rattle.std.specs.Prelude.{All}
+use Rattle.std.proofs.Common.{◌≡◌, ℕ, ◌+◌, [], Some, length, vec_len, sym, ap, ◌∙◌, subst, arith}
 use Rattle.std.specs.List.{slice_get}
 use Rattle.std.proofs.lemmas.List.{length-map}
 use Rattle.lane_histories.specs.Histories.{own}
@@ -7,13 +6,10 @@ use Rattle.hall.specs.ArrayMachines.{lanes_in}
 use Rattle.hall.specs.Passes.{IsPassOf, opening, view_of}
 use Rattle.hall.specs.contracts.desk.UnitAtDesk.TheImpl.{ghosts}
 use Rattle.hall.specs.declared.gate.OpenGate.{OpenGate}
-use Rattle.hall_rule.specs.Rule.{names}
-use Rattle.hall_rule.specs.Sums.{times, upward}
-use Rattle.rest_session.specs.declared.links.end.LinkEnd.{LinkEnd}
 use Rattle.rest_session.specs.declared.halls.hiring.Report.{Report}
 use Rattle.rest_session.specs.declared.halls.workers.Worker.{Worker}
 use Rattle.rest_session.specs.Halls.Accounts.{IsReady, told_by, unasked}
-use Rattle.rest_session.specs.Halls.Staff.{IsAlone, IsHired, numbers}
+use Rattle.rest_session.specs.Halls.Staff.{IsAlone, IsHired}
 use Rattle.rest_session.specs.Halls.Visits.{Works, telling}
 use Rattle.rest_session.proofs.OfHalls.Lists.{all_on, all_two, found, length_upward, report, some_same}
 use Rattle.rest_session.proofs.OfHalls.Shares.{number_named, one_name}

@@ -1,4 +1,4 @@
-use Rattle.std.proofs.Common.{ℕ, ◌+◌, arith, subst}
+use Rattle.std.proofs.Common.{ℕ, arith, subst}
 use Rattle.hall.specs.Passes.{HasBegun}
 use Rattle.rest_session.proofs.halls.top.serve_hall.Goals as goal
 

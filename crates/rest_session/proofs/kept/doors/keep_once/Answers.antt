@@ -1,4 +1,4 @@
-use Rattle.std.proofs.Common.{◌≡◌, ◌∷◌, [], List, Result, ℕ, refl, sym, ap, subst, ◌∙◌}
+use Rattle.std.proofs.Common.{◌∷◌, [], List, refl, sym, ap, subst, ◌∙◌}
 use Rattle.edge_traits.specs.Causes.{Rose}
 use Rattle.flush_journal.specs.Batches.{records}
 use Rattle.flush_journal.specs.Standing.{disk_of, pending_of}
