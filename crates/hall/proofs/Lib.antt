@@ -10,3 +10,8 @@ pub mod MemoryLemmas
 pub mod FrontLemmas
 pub mod SharingLemmas
 pub mod Sent
+pub mod NoteLemmas
+pub mod JournalDeskLemmas
+pub mod DeskTurnLemmas
+pub mod DeskWorkLemmas
+pub mod KeptAnswerLemmas

@@ -52,7 +52,7 @@ in_one_of (y ∷ xs) ys x here = ⊎_elim
     (λ later. ⊎_elim (λ a. inl (inr a)) (λ b. inr b) (in_one_of xs ys x later))
     here
 
-in_beginning : {X : Type 0} (front more : List X) (x : X) → IsIn front x → IsIn (front ++ more) x
+pub in_beginning : {X : Type 0} (front more : List X) (x : X) → IsIn front x → IsIn (front ++ more) x
 in_beginning [] more x here = absurd here
 in_beginning (y ∷ front) more x here = ⊎_elim (λ same. inl same) (λ later. inr (in_beginning front more x later)) here
 

@@ -3,3 +3,7 @@ pub mod Turns
 pub mod Passes
 pub mod Answers
 pub mod Cutting
+pub mod Notes
+pub mod JournalDesks
+pub mod DeskTurns
+pub mod KeptAnswers

@@ -95,7 +95,7 @@ impl<D: AtDesk> Hall<D> {
 
     /// Answers one request, at the next place. Waits for the turn of the register, and for those of
     /// the lanes that the verdict names, one after another; in each of these it goes through the
-    /// gate first.
+    /// gate first. It keeps nothing: over a journal's desk `ask_kept` does.
     pub fn ask<W: Wait, G: Gate>(
         &self,
         rt: &W,

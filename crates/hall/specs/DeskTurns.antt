@@ -1,0 +1,171 @@
+-- What a turn of a journal's desk does.
+--     IsBehind ..          the desk's note may be brought up to what was seen
+--     HasKeptAll ..        what a desk says of a flush, or of a keeping of the catalogue
+--     HasDone met work ..  of whichever was asked of it
+--     HasGoneOn ..         from what the desk was before a turn to what it is after it
+--     IsTurnOf met work .. so of a whole turn
+--     HasFlushed ..        what a turn leaves in which the desk kept what was done
+--     HasKeptRegister ..   so of one in which it kept the catalogue
+--     HasLooked ..         and of one in which nothing was asked of the disk
+--     IsInTurn ..          how a pass stands between two steps of it
+use Rattle.std.specs.Prelude.{◌≡◌, ◌≢◌, ℕ, ◌<◌, ◌≤◌, List, [], ◌∷◌, Option, Some, None, Result, Ok, length}
+use Rattle.std.specs.Prelude.{IfErr, IfOk, IsErr, OnOk, true}
+use Rattle.std.specs.declared.snapshot.Snapshot.{Snapshot}
+use Rattle.edge_traits.specs.declared.disk.Disk.{Ghosts as Disks}
+use Rattle.flush_journal.specs.Standing.{disk_of}
+use Rattle.flush_journal.specs.Unchanged.{SameDisk}
+use Rattle.flush_journal.specs.declared.journal.Journal.{Journal}
+use Rattle.flush_journal.specs.declared.why.Why.{Why}
+use Rattle.journal_desk.specs.Cuts.{Resumes}
+use Rattle.journal_desk.specs.Keepings.{AreItsKeepings, Continues, HasKept as KeepsSince, IsAllKept, IsFullWhere, MayRefuseTurn, keeping_of}
+use Rattle.journal_desk.specs.Notes.{NoteOf}
+use Rattle.journal_desk.specs.Standing.{Standing}
+use Rattle.register.specs.declared.tickets.Turn.{Turn}
+use Rattle.lane_histories.specs.Histories.{cut_of, own, places}
+use Rattle.lane_histories.specs.Legal.{IsLegal}
+use Rattle.lane_histories.specs.declared.items.Answer.TheVariants.{Looked}
+use Rattle.lane_histories.specs.declared.items.Reach.{Reach}
+use Rattle.lane_histories.specs.declared.items.RegisterItem.{RegisterItem}
+use Rattle.lane_histories.specs.declared.items.RegisterItem.TheVariants.{Entered, DrawnCut, RegisterCut}
+use Rattle.hall_rule.specs.Claims.{claim}
+use Rattle.hall_rule.specs.LaneTickets.{IsServingLanes}
+use Rattle.hall_rule.specs.Rule.{names, seeing}
+use Rattle.hall_rule.specs.Seen.{GrowsFrom}
+use Rattle.hall_rule.specs.Sums.{times}
+use Rattle.hall_rule.specs.WholeTurns.{HasKept, IsPass}
+use Rattle.hall_rule.specs.declared.queue.Claim.{Claim}
+use Rattle.hall_rule.specs.declared.queue.Queue.TheVariants.{OfDesk}
+use Rattle.hall.specs.Answers.{ArrayStart, ArrayView}
+use Rattle.hall.specs.ArrayMachines.{IsOpened, lanes_in, machines}
+use Rattle.hall.specs.Cutting.{AreCutTickets}
+use Rattle.hall.specs.JournalDesks.{IsJournalSince}
+use Rattle.hall.specs.Notes.{hall_notes}
+use Rattle.hall.specs.declared.journal.DeskWork.{DeskWork}
+use Rattle.hall.specs.declared.journal.DeskWork.TheVariants.{Flush, KeepRegister, Look}
+use Rattle.hall.specs.declared.note.HallNote.{HallNote}
+
+-- ---- the desk
+
+-- what was seen is over as many lanes, and goes on from its note's lists with no cut; the keepings seen are its own
+pub record IsBehind {D N : Type 0} (met : Disks D) (notes : NoteOf N) (d : Standing D N) (lanes : ℕ) (seen : N) : Type 0 where
+  pub lanes_are : lanes ≡ d.lanes
+  pub start : notes.start seen ≡ notes.start d.note
+  pub was : notes.was seen ≡ notes.was d.note
+  pub legal : IsLegal notes.kept.service (notes.start seen) (notes.history seen)
+  pub resumes : Resumes (notes.history d.note) (notes.history seen) d.kept
+  pub keepings : AreItsKeepings met notes d (notes.history seen)
+
+-- The answer is the number reached, and at least the places of the note before. What was cut is kept, unless it is refused; where a
+-- batch was pending on a disk that had stopped, it is.
+pub record HasKeptAll {D N : Type 0} (met : Disks D) (notes : NoteOf N) (reached : Reach → ℕ) (before after : Standing D N)
+    (result : Result ℕ Why) : Type 0 where
+  pub ok : IfOk result (λ n. (reached after.kept ≡ n) × (places (notes.history before.note).register ≤ n))
+  pub all : OnOk result (IsAllKept after)
+  pub cause : IfErr result (MayRefuseTurn met before after)
+  pub full : IsFullWhere met after result
+  pub stopped : before.pending ≢ None → met.stopped before.disk → IsErr result
+
+abbrev pub HasDone : {D N : Type 0} → Disks D → NoteOf N → DeskWork → Standing D N → Standing D N → Result ℕ Why → Type 0
+HasDone met notes Flush before after result = HasKeptAll met notes (λ r. r.c) before after result
+HasDone met notes KeepRegister before after result = HasKeptAll met notes (λ r. r.p) before after result
+HasDone met notes Look before after result = (after ≡ before) × (result ≡ Ok before.kept.c)
+
+-- ---- whole turns
+
+-- A hall's desk went on so: its disk from the one with which the hall began, and what was kept stays kept. Whatever a crash since then
+-- leaves is kept from the lists that it has noted, at least as far as it reaches.
+pub record HasGoneOn {D : Type 0} (met : Disks D) (start : ArrayStart (Snapshot (Journal D met)))
+    (before after : Standing D (HallNote (Snapshot (Journal D met)))) : Type 0 where
+  pub first : SameDisk met (disk_of start.desk.value) before.disk
+  pub went : Continues met (hall_notes (lanes_in start)) before after
+  pub since : IsJournalSince met after start
+  pub images : met.honest → KeepsSince met (hall_notes (lanes_in start)) after (met.moment after.disk) after.kept
+
+-- The desk went on from `before` to `after`, and this is its keeping. The answer is the number reached, and at least the places that
+-- the pass had seen.
+pub record HasKeptTo {D : Type 0} (met : Disks D) (reached : Reach → ℕ) (start : ArrayStart (Snapshot (Journal D met)))
+    (result : Result ℕ Why) (v w : ArrayView (Snapshot (Journal D met))) : Type 0 where
+  pub before : Standing D (HallNote (Snapshot (Journal D met)))
+  pub after : Standing D (HallNote (Snapshot (Journal D met)))
+  pub turn : HasKept (machines (lanes_in start)) start (keeping_of met before after result) [] v w
+  pub gone : HasGoneOn met start before after
+  pub ok : IfOk result (λ n. (n ≡ reached after.kept) × (places v.seen.register ≤ n))
+  pub all : OnOk result (IsAllKept after)
+  pub cause : IfErr result (MayRefuseTurn met before after)
+  pub full : IsFullWhere met after result
+  -- where a batch was pending on a disk that had stopped, it is refused
+  pub stopped : before.pending ≢ None → met.stopped before.disk → IsErr result
+
+-- the places that are kept
+abbrev pub HasFlushed : {D : Type 0} (met : Disks D) → ArrayStart (Snapshot (Journal D met)) → Result ℕ Why
+    → ArrayView (Snapshot (Journal D met)) → ArrayView (Snapshot (Journal D met)) → Type 0
+HasFlushed met start result v w = HasKeptTo met (λ r. r.c) start result v w
+
+-- and those of the catalogue
+abbrev pub HasKeptRegister : {D : Type 0} (met : Disks D) → ArrayStart (Snapshot (Journal D met)) → Result ℕ Why
+    → ArrayView (Snapshot (Journal D met)) → ArrayView (Snapshot (Journal D met)) → Type 0
+HasKeptRegister met start result v w = HasKeptTo met (λ r. r.p) start result v w
+
+-- the desk stayed as it was; the answer is its own number
+pub record HasLooked {D : Type 0} (met : Disks D) (start : ArrayStart (Snapshot (Journal D met))) (result : ℕ)
+    (v w : ArrayView (Snapshot (Journal D met))) : Type 0 where
+  pub desk : Standing D (HallNote (Snapshot (Journal D met)))
+  pub turn : HasKept (machines (lanes_in start)) start
+      (record (keeping_of met desk desk (Ok result)) { answer = Looked }) [] v w
+  pub gone : HasGoneOn met start desk desk
+  pub is : result ≡ desk.kept.c
+
+-- whichever was asked
+abbrev pub IsTurnOf : {D : Type 0} (met : Disks D) → DeskWork → ArrayStart (Snapshot (Journal D met)) → Result ℕ Why
+    → ArrayView (Snapshot (Journal D met)) → ArrayView (Snapshot (Journal D met)) → Type 0
+IsTurnOf met Flush start result v w = HasFlushed met start result v w
+IsTurnOf met KeepRegister start result v w = HasKeptRegister met start result v w
+IsTurnOf met Look start result v w = (n : ℕ) × (result ≡ Ok n) × HasLooked met start n v w
+
+-- ---- between two steps
+
+-- the cut that was drawn last: its number, and how many places had been given
+abbrev pub drawn_from : {Q V : Type 0} → ℕ × ℕ → List (RegisterItem Q V) → ℕ × ℕ
+drawn_from last [] = last
+drawn_from last (Entered e ∷ items) = drawn_from last items
+drawn_from last (DrawnCut number c ∷ items) = drawn_from (number, c) items
+drawn_from last (RegisterCut p found ∷ items) = drawn_from last items
+
+abbrev pub last_drawn : {Q V : Type 0} → List (RegisterItem Q V) → ℕ × ℕ
+last_drawn items = drawn_from (0, 0) items
+
+-- a note of what a pass knows; no byte of it exists
+abbrev pub note_seen : {K : Type 0} → ArrayView K → HallNote K
+note_seen v = record {
+  badge = record {
+    marker = record {};
+    table_id = record { words = 0; slots = 0; views_name = 0; atom = 0; block = 0; offset = 0; slot_names = [] };
+    id = 0;
+    views = v ∷ [];
+  };
+  world = None;
+}
+
+-- no ticket is left; or one of each lane from this one on, before other claims
+abbrev pub AreLeft : {K : Type 0} → ArrayStart K → ℕ → List Claim → Option (List Turn) → ArrayView K → Type 0
+AreLeft start lane others None w = (lane ≡ lanes_in start) × (w.claims ≡ others)
+AreLeft {K} start lane others (Some turns) w = (count : ℕ → ℕ) × (v : ArrayView K) × IsPass start v
+    × IsServingLanes (machines {K = K} (lanes_in start)) start count
+    (cut_of (last_drawn w.seen.register).0 (last_drawn w.seen.register).1) lane others v w
+    × (lane < lanes_in start) × AreCutTickets count (lanes_in start) lane turns
+
+-- since the desk's turn was taken, when the pass knew `first`
+pub record IsInTurn {K : Type 0} (start : ArrayStart K) (first now : ArrayView K) (lanes lane : ℕ)
+    (turns : Option (List Turn)) : Type 0 where
+  pub opened : IsOpened start
+  pub lanes_are : lanes ≡ lanes_in start
+  pub pass : IsPass start now
+  pub number : ℕ
+  pub mine : first.claims ≡ claim OfDesk number true ∷ []
+  pub left : AreLeft start lane first.claims turns now
+  pub view_is : now ≡ seeing first now.claims now.seen
+  pub longer : GrowsFrom now.seen first.seen
+  pub keepings : now.seen.keepings ≡ first.seen.keepings
+  pub own_same : (x : ℕ) → 0 < times x (names first) → own x now.seen.register ≡ own x first.seen.register
+  pub sized : length now.seen.lanes ≡ lanes_in start
+  pub owners : length now.seen.was ≡ lanes_in start
