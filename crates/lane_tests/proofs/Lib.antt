@@ -1,4 +1,5 @@
 mod LastLemmas
 mod PassLemmas
 mod CallerLists
+mod OfClerks
 pub mod OfExamples

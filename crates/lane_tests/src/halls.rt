@@ -2,6 +2,8 @@
 
 mod asks;
 mod crowds;
+mod doors;
 mod histories;
 mod rows;
+mod watched;
 mod worlds;
