@@ -25,7 +25,7 @@ impl Draws {
     }
 
     /// A number below this one, or 0.
-    fn below(&mut self, n: u64) -> u64 {
+    pub fn below(&mut self, n: u64) -> u64 {
         let next = self.state.wrapping_mul(6364136223846793005);
         self.state = next.wrapping_add(1442695040888963407);
         (self.state >> 33) % n.max(1)
@@ -126,7 +126,7 @@ fn chunk_counts(dims: &Dims, chunk: &Dims) -> Dims {
 
 // ---- words of a row
 
-fn add(rt: &(impl Abort + AllocGlobal), row: &mut String, text: &str) {
+pub fn add(rt: &(impl Abort + AllocGlobal), row: &mut String, text: &str) {
     row.push_str(text).expect(rt, "memory");
 }
 

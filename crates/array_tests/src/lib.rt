@@ -13,6 +13,8 @@ mod draws;
 #[cfg(test)]
 mod hand_rows;
 #[cfg(test)]
+mod kept_rows;
+#[cfg(test)]
 mod layout_rows;
 #[cfg(test)]
 mod link_rows;

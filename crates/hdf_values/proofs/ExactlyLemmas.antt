@@ -4,7 +4,7 @@ use Rattle.std.specs.List.{AllByRecursion}
 use Rattle.std.proofs.lemmas.Bool.{cases_Bool}
 use Rattle.serde_json.specs.Data.{Data, null, boolean, number, string, array, object, Items, no_items, item}
 use Rattle.serde_json.specs.Find.{as_str}
-use Rattle.json_trees.specs.Trees.{list_of, list_in}
+use Rattle.json_trees.specs.Trees.{list_of, list_in, AreTexts, AreItemTexts}
 use Rattle.json_trees.specs.Faults.{◌>>=◌}
 use Rattle.json_trees.proofs.TreeLemmas.{list_in_array}
 use Rattle.hdf_types.specs.declared.IntType.{IntType}
@@ -17,7 +17,7 @@ use Rattle.hdf_values.specs.declared.faults.Misfit.{Misfit}
 use Rattle.hdf_values.specs.declared.faults.Misfit.TheVariants.{OutOfRange}
 use Rattle.hdf_values.specs.declared.faults.ValueFault.{ValueFault}
 use Rattle.hdf_values.specs.Integers.{integer_in, in_range, IsInRange, int_bytes}
-use Rattle.hdf_values.specs.Texts.{AreTexts, AreItemTexts, text_misfit, padded}
+use Rattle.hdf_values.specs.Texts.{text_misfit, padded}
 use Rattle.hdf_values.specs.Elements.{Fits, FitFields, bytes_of, encoded, fields_encoded, int_encoded, text_encoded, misfit_or, listed_or, joined}
 use Rattle.hdf_values.specs.Nested.{FitsNested, nested_bytes, each_nested, nested_from}
 use Rattle.hdf_values.specs.Shaped.{IsValue, null_from, value_from}

@@ -22,3 +22,4 @@ pub mod AttributeLemmas
 pub mod ContentLemmas
 pub mod PrintLemmas
 pub mod ReadBackLemmas
+pub mod OfKept

@@ -15,7 +15,8 @@ use Rattle.hdf_types.specs.Reading.{size_of}
 use Rattle.shapes.specs.RowMajor.{cell_count}
 use Rattle.hdf_values.specs.Elements.{decoded, fields_decoded}
 use Rattle.hdf_values.specs.Nested.{pieces, nested_decoded}
-use Rattle.hdf_values.specs.Printed.{Adds, keyed, list_tokens}
+use Rattle.hdf_values.specs.Printed.{keyed, list_tokens}
+use Rattle.json_trees.specs.Copied.{Adds}
 
 pub signed_text : (z : ℤ) → signed_decimal z ≡ number_text (of_integer z)
 signed_text (pos n) = refl

@@ -6,7 +6,7 @@ use Rattle.serde_json.specs.View.{view, view_step, items_of}
 use Rattle.serde_json.specs.declared.value.Value.{Value, map-Value}
 use Rattle.serde_json.specs.declared.value.Value.TheOpen.{Value-F}
 use Rattle.serde_json.specs.declared.value.Value.TheFolds.{fold-roll-Value, ind-Value}
-use Rattle.hdf_values.specs.Texts.{AreTexts, AreItemTexts}
+use Rattle.json_trees.specs.Trees.{AreTexts, AreItemTexts}
 
 abbrev HasTexts : Value → Type 0
 HasTexts v = AreTexts (view v)

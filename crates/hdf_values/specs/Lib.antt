@@ -7,6 +7,7 @@ pub mod Lowest
 pub mod Shaped
 pub mod Attributes
 pub mod Printed
+pub mod Streamed
 pub use Rattle.json_trees.specs.Trees
 pub use Rattle.serde_json.specs.View
 pub use Rattle.serde_json.specs.Data

@@ -1,7 +1,6 @@
 -- Texts of a fixed length.
-use Rattle.std.specs.Prelude.{◌≡◌, ◌≢◌, ℕ, ◌-◌, ◌<◌, ◌≤◌, ◌&&◌, not, false, List, [], ◌∷◌, ◌++◌, length, replicate, Option, Some, None, nat_lt, nat_le, nat_eq, IsUtf8, if◌then◌else◌}
+use Rattle.std.specs.Prelude.{◌≡◌, ◌≢◌, ℕ, ◌-◌, ◌<◌, ◌≤◌, ◌&&◌, not, false, List, [], ◌∷◌, ◌++◌, length, replicate, Option, Some, None, nat_lt, nat_le, nat_eq, if◌then◌else◌}
 use Rattle.std.specs.List.{AllByRecursion, list_any}
-use Rattle.serde_json.specs.Data.{Data, null, boolean, number, string, array, object, Items, no_items, item}
 use Rattle.hdf_types.specs.declared.TextType.{TextType}
 use Rattle.hdf_types.specs.declared.Pad.{Pad}
 use Rattle.hdf_types.specs.declared.Pad.TheVariants.{NullTerm, NullPad, SpacePad}
@@ -48,19 +47,3 @@ kept f b (c ∷ rest) = b ∷ c ∷ rest
 abbrev pub without_end : ℕ → List ℕ → List ℕ
 without_end f [] = []
 without_end f (b ∷ bs) = kept f b (without_end f bs)
-
--- ---- the texts of trees
-
-abbrev mutual
-  -- each text is UTF-8: the tree itself, or in its lists; an object is a value of no type, so that nothing is asked of it
-  pub AreTexts : Data → Type 0
-  AreTexts null = Unit {0}
-  AreTexts (boolean b) = Unit {0}
-  AreTexts (number n) = Unit {0}
-  AreTexts (string s) = IsUtf8 s
-  AreTexts (array ds) = AreItemTexts ds
-  AreTexts (object ms) = Unit {0}
-
-  pub AreItemTexts : Items → Type 0
-  AreItemTexts no_items = Unit {0}
-  AreItemTexts (item d ds) = AreTexts d × AreItemTexts ds

@@ -1,8 +1,8 @@
 -- Trees of JSON: what stands in them, with lists as lists.
-use Rattle.std.specs.Prelude.{ℕ, Bool, false, List, [], ◌∷◌, Option, Some, option_map, option_and_then, ◌≡◌, None, codes, if◌then◌else◌}
+use Rattle.std.specs.Prelude.{ℕ, Bool, false, List, [], ◌∷◌, Option, Some, option_map, option_and_then, ◌≡◌, None, IsUtf8, codes, if◌then◌else◌}
 use Rattle.std.specs.Option.{option_map_or}
 use Rattle.std.specs.Str.{bytes_eq, is_utf8}
-use Rattle.serde_json.specs.Data.{Data, Items, no_items, item, string, Members, no_members, member}
+use Rattle.serde_json.specs.Data.{Data, Items, no_items, item, null, boolean, number, string, array, object, Members, no_members, member}
 use Rattle.serde_json.specs.Find.{get, as_number, as_u64, as_array, as_str}
 use Rattle.serde_json.specs.Read.{read}
 
@@ -48,3 +48,19 @@ HasClass class d = get (codes "class") d ≡ Some (string class)
 abbrev pub pairs_of : Members → List (List ℕ × Data)
 pairs_of no_members = []
 pairs_of (member key d rest) = (key, d) ∷ pairs_of rest
+
+-- ---- the texts of trees
+
+abbrev mutual
+  -- each text is UTF-8: the tree itself, or in its lists; an object is a value of no type, so that nothing is asked of it
+  pub AreTexts : Data → Type 0
+  AreTexts null = Unit {0}
+  AreTexts (boolean b) = Unit {0}
+  AreTexts (number n) = Unit {0}
+  AreTexts (string s) = IsUtf8 s
+  AreTexts (array ds) = AreItemTexts ds
+  AreTexts (object ms) = Unit {0}
+
+  pub AreItemTexts : Items → Type 0
+  AreItemTexts no_items = Unit {0}
+  AreItemTexts (item d ds) = AreTexts d × AreItemTexts ds

@@ -1,6 +1,8 @@
 //! Trees of JSON (RFC 8259) that contracts see as data, and looking into them: their whole numbers,
 //! their lists, the texts at their keys.
 //!
+//! A [`Tree`] holds its nodes, a [`KeptTree`] its text.
+//!
 //! `specs/` has the words that contracts on trees share, and `Faults` those by which a contract
 //! says which of several faults comes first.
 #![tactic(auto)]
@@ -10,8 +12,13 @@ ghost use Rattle.serde_json.specs.View.{view};
 ghost use Rattle.json_trees.specs.Faults.{◌>>=◌ as followed_by};
 ghost use Rattle.json_trees.specs.Trees.{whole_in, list_in, text_at, is_text};
 
+mod kept;
 mod tree;
 
+pub use kept::{
+    KeptTree, ReadFault, check_value, has_number, member_at, negative_of, pass_rest, pass_value,
+    unsigned_of,
+};
 use serde_json::Value;
 pub use tree::Tree;
 

@@ -8,8 +8,8 @@ use json_trees::Tree;
 use object_ids::Kind;
 use object_ops::{LinkPlace, Make, Part, refusal_json};
 use request_bodies::{
-    AttributeBodyFault, BodyFault, attribute_of, body_of, dims_of, folder_of, make_of, name_of,
-    points_of, rights_of, target_of, title_of, write_of,
+    AttributeBodyFault, BodyFault, ValueBody, attribute_of, body_of, dims_of, folder_of, make_of,
+    name_of, points_of, rights_of, target_of, title_of, value_body_of, write_of,
 };
 use std::alloc::Global;
 use std::test::Fail;
@@ -113,7 +113,15 @@ value|{"points":[0],"start":null,"value":[1]}|{"field":"points","reason":"bad-fi
 value|{"points":null,"stop":[1],"value":[1]}|{"field":"points","reason":"bad-field"}
 value|{"points":[0],"start":[1]}|{"field":"value","reason":"bad-field"}
 value||{"field":"value","reason":"bad-field"}
+value|[]|{"reason":"bad-json"}
+value|7|{"reason":"bad-json"}
+value|{"value":1} 2|{"reason":"bad-json"}
+value|{"value":[1,1e400]}|{"reason":"bad-json"}
+value|{"value":1,"other":[1e400]}|{"reason":"bad-json"}
+value|{"value":1,"other":{"value":2,"deep":[[-0,"\ud800"]]}}|{"reason":"bad-json"}
+value|{"value":1,"other":{"value":2,"points":[0]},"value":[ 3 , 1.0 ]}|slab [3,1.0]
 points|{"points":[[0,1]]}|done
+points|{"points":7,"points":[[0,1]],"step":[1]}|done
 points|{"points":null}|done
 points|{"point":[0]}|{"field":"points","reason":"bad-field"}"#;
 
@@ -153,17 +161,17 @@ fn part_text(alloc: Global, part: &Part) -> Result<String, Fail> {
     match part {
         Part::Slab { .. } => Ok(String::from_str(alloc, "slab")?),
         Part::Points { points } => {
-            Ok(format!(in alloc; "points {}", points.value().to_string(alloc)?)?)
+            Ok(format!(in alloc; "points {}", points.to_value(alloc)?.to_string(alloc)?)?)
         }
     }
 }
 
 /// The part that a body writes and the value.
-fn written(alloc: Global, body: Tree) -> Result<String, Fail> {
+fn written(alloc: Global, body: ValueBody) -> Result<String, Fail> {
     match write_of(body) {
         Ok((part, value)) => {
             let part = part_text(alloc, &part)?;
-            Ok(format!(in alloc; "{part} {}", value.value().to_string(alloc)?)?)
+            Ok(format!(in alloc; "{part} {}", value.to_value(alloc)?.to_string(alloc)?)?)
         }
         Err(fault) => refused(alloc, &fault),
     }
@@ -197,27 +205,37 @@ fn made(alloc: Global, kind: Kind, body: &Tree) -> Result<String, Fail> {
 }
 
 /// What is told of a body that is read so.
-fn read_as(alloc: Global, what: &str, body: Tree) -> Result<String, Fail> {
+fn read_as(alloc: Global, what: &str, body: &Tree) -> Result<String, Fail> {
     match what {
-        "group" => made(alloc, Kind::Group, &body),
-        "dataset" => made(alloc, Kind::Dataset, &body),
-        "datatype" => made(alloc, Kind::Datatype, &body),
-        "layout" => layout_told(alloc, &body),
-        "attribute" => attribute_told(alloc, &body),
-        "folder" => outcome(alloc, &folder_of(&body)),
-        "is folder" => folder_told(alloc, &body),
-        "acl" => outcome(alloc, &rights_of(&body)),
-        "shape" => outcome(alloc, &dims_of(&body)),
-        "link" => outcome(alloc, &target_of(alloc, &body)),
-        "points" => outcome(alloc, &points_of(body)),
-        "value" => written(alloc, body),
+        "group" => made(alloc, Kind::Group, body),
+        "dataset" => made(alloc, Kind::Dataset, body),
+        "datatype" => made(alloc, Kind::Datatype, body),
+        "layout" => layout_told(alloc, body),
+        "attribute" => attribute_told(alloc, body),
+        "folder" => outcome(alloc, &folder_of(body)),
+        "is folder" => folder_told(alloc, body),
+        "acl" => outcome(alloc, &rights_of(body)),
+        "shape" => outcome(alloc, &dims_of(body)),
+        "link" => outcome(alloc, &target_of(alloc, body)),
         _ => Ok(String::from_str(alloc, "done")?),
     }
 }
 
+/// What is told of a body that brings elements, or asks for some.
+fn elements_told(alloc: Global, what: &str, text: &[u8]) -> Result<String, Fail> {
+    match value_body_of(alloc, text) {
+        Ok(body) if what == "points" => outcome(alloc, &points_of(body)),
+        Ok(body) => written(alloc, body),
+        Err(fault) => refused(alloc, &fault),
+    }
+}
+
 fn told(alloc: Global, what: &str, text: &[u8]) -> Result<String, Fail> {
+    if what == "points" || what == "value" {
+        return elements_told(alloc, what, text);
+    }
     match body_of(alloc, text) {
-        Ok(body) => read_as(alloc, what, body),
+        Ok(body) => read_as(alloc, what, &body),
         Err(fault) => refused(alloc, &fault),
     }
 }

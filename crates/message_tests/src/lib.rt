@@ -5,6 +5,8 @@
 #[cfg(test)]
 mod bodies;
 #[cfg(test)]
+mod drawn_bodies;
+#[cfg(test)]
 mod links;
 #[cfg(test)]
 mod requests;

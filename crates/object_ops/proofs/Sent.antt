@@ -3,7 +3,7 @@ use denote.Param.Send.{IsSend, sendable}
 use Rattle.std.proofs.Crossing.{crosses}
 use Rattle.std.proofs.MapsCrossing as maps
 use Rattle.serde_json.proofs.value.Value.TheLaws.TheKnot.{send-Value}
-use Rattle.json_trees.specs.contracts.tree.Tree as tree
+use Rattle.json_trees.specs.contracts.kept.kept_tree.KeptTree as tree
 use Rattle.hdf_types.proofs.types.Fields.TheLaws.TheKnot as knot
 use Rattle.hdf_types.specs.contracts.types.ElemType as elem
 use Rattle.hdf_values.specs.contracts.attributes.Attribute as attribute
@@ -31,7 +31,7 @@ pub make_send : IsSend make.the_field.row
 make_send = search (sendable, crosses, maps.crosses, elem_send) depth 40 fits 20000
 
 tree_send : IsSend tree.the_field.row
-tree_send = search (sendable, crosses, maps.crosses, send-Value) depth 40 fits 20000
+tree_send = search (sendable, crosses, maps.crosses) depth 40 fits 20000
 
 part_send : IsSend part.the_field.row
 part_send = search (sendable, crosses, tree_send) depth 40 fits 20000

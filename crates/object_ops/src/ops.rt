@@ -5,7 +5,7 @@ use chunk_layout::Layout;
 use groups_links::LinkTo;
 use hdf_types::ElemType;
 use hdf_values::{Attribute, Bytes};
-use json_trees::Tree;
+use json_trees::KeptTree;
 use object_ids::{DomainPath, Kind, Name, ObjectId};
 use shapes::{Dims, Shape};
 use std::marker::Model;
@@ -185,14 +185,14 @@ pub enum Op {
         /// The part.
         part: Part,
         /// The elements.
-        value: Tree,
+        value: KeptTree,
     },
     /// The elements at points of a dataset.
     GetPoints {
         /// The dataset.
         id: ObjectId,
         /// The points.
-        points: Tree,
+        points: KeptTree,
     },
 }
 
@@ -281,15 +281,15 @@ pub enum Part {
     /// A strided part; an absent list stands for 0, the dims or 1.
     Slab {
         /// The first coordinate on each axis.
-        start: Option<Tree>,
+        start: Option<KeptTree>,
         /// The end on each axis.
-        stop: Option<Tree>,
+        stop: Option<KeptTree>,
         /// The distance on each axis.
-        step: Option<Tree>,
+        step: Option<KeptTree>,
     },
     /// Points, in their order.
     Points {
         /// The points.
-        points: Tree,
+        points: KeptTree,
     },
 }

@@ -2,4 +2,4 @@ mod BodyLemmas
 mod LinkLemmas
 mod MakeLemmas
 pub mod OrderLemmas
-mod ValueLemmas
+mod ValueBodyLemmas

@@ -3,6 +3,7 @@ pub mod Bodies
 pub mod Properties
 pub mod Makes
 pub mod Values
+pub mod ValueBodies
 pub mod Order
 pub use Rattle.json_trees.specs.Faults
 pub use Rattle.json_trees.specs.Trees

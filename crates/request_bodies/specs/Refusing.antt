@@ -1,7 +1,10 @@
 -- The refusal of a body, and what a call answers beside it.
 use Rattle.std.specs.Prelude.{◌≡◌, Option, Some, None, Result, Ok, Err}
 use Rattle.json_trees.specs.Faults.{Gives as GivesTold}
+use Rattle.json_trees.specs.declared.kept.fault.ReadFault.{ReadFault}
+use Rattle.json_trees.specs.declared.kept.fault.ReadFault.TheVariants as read
 use Rattle.object_ops.specs.declared.refusals.Refusal.{Refusal}
+use Rattle.object_ops.specs.declared.refusals.Refusal.TheVariants.{BadJson}
 use Rattle.request_bodies.specs.declared.faults.BodyFault.{BodyFault}
 use Rattle.request_bodies.specs.declared.faults.BodyFault.TheVariants.{Refused, NoMemory}
 
@@ -22,3 +25,8 @@ Answers given found = GivesTold Tells (λ x. x) given found
 abbrev pub or_refuse : {A : Type 0} → Refusal → Option A → Result A Refusal
 or_refuse refusal None = Err refusal
 or_refuse refusal (Some x) = Ok x
+
+-- why bytes are read as no object
+abbrev pub read_fault : ReadFault → BodyFault
+read_fault read.NoMemory = NoMemory
+read_fault read.NotJson = Refused BadJson

@@ -9,6 +9,7 @@ use Rattle.object_ops.specs.declared.refusals.Refusal.{Refusal}
 use Rattle.object_ops.specs.declared.refusals.Refusal.TheVariants.{BadField}
 use Rattle.object_ops.specs.declared.words.FieldWord.TheVariants as field
 use Rattle.request_bodies.specs.Refusing.{or_refuse}
+use Rattle.request_bodies.specs.declared.value_bodies.ValueBody.{ValueBody}
 
 -- the part of a dataset: points alone, or a slab by what is there of its three lists
 abbrev pub part_by : (points start stop step : Option Data) → Result Part Refusal
@@ -22,6 +23,13 @@ part_at d = part_by (get (codes "points") d) (get (codes "start") d) (get (codes
 abbrev pub write_in : Data → Result (Part × Data) Refusal
 write_in d = or_refuse (BadField field.Value) (get (codes "value") d) >>= λ value. part_at d >>= λ part. Ok (part, value)
 
+-- the same of what stands at the five keys
+abbrev pub write_by : ValueBody → Result (Part × Data) Refusal
+write_by body = or_refuse (BadField field.Value) body.value >>= λ value. part_by body.points body.start body.stop body.step >>= λ part. Ok (part, value)
+
 -- the points that are read
 abbrev pub points_in : Data → Result Data Refusal
 points_in d = or_refuse (BadField field.Points) (get (codes "points") d)
+
+abbrev pub points_by : ValueBody → Result Data Refusal
+points_by body = or_refuse (BadField field.Points) body.points

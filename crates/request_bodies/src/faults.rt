@@ -4,6 +4,7 @@ ghost use Rattle.std.specs.Prelude.{◌≡◌};
 ghost use Rattle.request_bodies.specs.declared.faults.BodyFault.TheVariants.{NoMemory, Refused};
 ghost use Rattle.request_bodies.specs.declared.faults.AttributeBodyFault.TheVariants.{Body};
 
+use json_trees::ReadFault;
 use object_ops::Refusal;
 use std::alloc::AllocError;
 
@@ -46,5 +47,18 @@ impl From<AllocError> for BodyFault {
 
     fn from(_error: AllocError) -> BodyFault {
         BodyFault::NoMemory
+    }
+}
+
+impl From<ReadFault> for BodyFault {
+    ghost use Rattle.request_bodies.specs.Refusing.{read_fault};
+
+    ghost from_gives = { λ fault e. e ≡ read_fault fault };
+
+    fn from(fault: ReadFault) -> BodyFault {
+        match fault {
+            ReadFault::NoMemory => BodyFault::NoMemory,
+            ReadFault::NotJson => BodyFault::Refused(Refusal::BadJson),
+        }
     }
 }

@@ -15,6 +15,7 @@ mod laws;
 mod links;
 mod makes;
 mod properties;
+mod value_bodies;
 mod values;
 
 pub use attributes::{MAX_ATTRIBUTE_CELLS, attribute_of};
@@ -24,4 +25,5 @@ pub use keys::{dims_of, folder_of, rights_of};
 pub use laws::{attributes_in_order, limits_of_bodies, makes_in_order};
 pub use links::{MAX_NAME, id_of_kind, name_of, target_of, title_of};
 pub use makes::make_of;
+pub use value_bodies::{ValueBody, value_body_of};
 pub use values::{points_of, write_of};

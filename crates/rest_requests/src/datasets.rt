@@ -10,7 +10,7 @@ use crate::parameters::id_at;
 use crate::queries::first_value;
 use object_ids::Kind;
 use object_ops::{Op, SelectText};
-use request_bodies::{BodyFault, body_of, dims_of, points_of, write_of};
+use request_bodies::{BodyFault, body_of, dims_of, points_of, value_body_of, write_of};
 use std::alloc::{AllocError, Global};
 
 pub(crate) fn get_shape(alloc: Global, path: &str) -> Result<Op, BodyFault>
@@ -61,9 +61,9 @@ pub(crate) fn put_value(alloc: Global, path: &str, body: &[u8]) -> Result<Op, Bo
     ensures exact { Answers result (put_value path.now body.now) }
     ensures sound { IfOk result IsSoundOp }
 {
-    let tree = body_of(alloc, body)?;
+    let asked = value_body_of(alloc, body)?;
     let id = id_at(alloc, Kind::Dataset, path)?;
-    let (part, value) = write_of(tree)?;
+    let (part, value) = write_of(asked)?;
     Ok(Op::PutValue { id, part, value })
 }
 
@@ -71,8 +71,8 @@ pub(crate) fn get_points(alloc: Global, path: &str, body: &[u8]) -> Result<Op, B
     ensures exact { Answers result (get_points path.now body.now) }
     ensures sound { IfOk result IsSoundOp }
 {
-    let tree = body_of(alloc, body)?;
+    let asked = value_body_of(alloc, body)?;
     let id = id_at(alloc, Kind::Dataset, path)?;
-    let points = points_of(tree)?;
+    let points = points_of(asked)?;
     Ok(Op::GetPoints { id, points })
 }

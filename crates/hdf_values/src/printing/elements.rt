@@ -9,7 +9,8 @@ ghost use Rattle.hdf_types.specs.Types.{IsFormed, AreFormed};
 ghost use Rattle.hdf_types.specs.Views.{elem, field_list};
 ghost use Rattle.hdf_types.specs.declared.TheConstants.{MAX_SIZE};
 ghost use Rattle.hdf_values.specs.Elements.{IsEncoded, AreEncodedFields, decoded, fields_decoded};
-ghost use Rattle.hdf_values.specs.Printed.{Adds, list_tokens};
+ghost use Rattle.hdf_values.specs.Printed.{list_tokens};
+ghost use Rattle.json_trees.specs.Copied.{Adds};
 
 use crate::printing::numbers::write_int;
 use crate::texts::{fill, kept_len};

@@ -10,7 +10,8 @@ ghost use Rattle.hdf_types.specs.Types.{IsSoundType};
 ghost use Rattle.hdf_types.specs.Views.{elem};
 ghost use Rattle.shapes.specs.RowMajor.{cell_count};
 ghost use Rattle.hdf_values.specs.Nested.{AreEncoded, nested_decoded, pieces};
-ghost use Rattle.hdf_values.specs.Printed.{Adds, keyed, list_tokens};
+ghost use Rattle.hdf_values.specs.Printed.{keyed, list_tokens};
+ghost use Rattle.json_trees.specs.Copied.{Adds};
 
 use crate::printing::elements::write_element;
 use crate::printing::numbers::write_ints;

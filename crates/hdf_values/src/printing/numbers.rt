@@ -8,7 +8,8 @@ ghost use Rattle.hdf_types.specs.Reading.{int_size};
 ghost use Rattle.hdf_types.specs.Types.{IsWidth};
 ghost use Rattle.hdf_values.specs.Elements.{decoded};
 ghost use Rattle.hdf_values.specs.Nested.{pieces};
-ghost use Rattle.hdf_values.specs.Printed.{Adds, list_tokens};
+ghost use Rattle.hdf_values.specs.Printed.{list_tokens};
+ghost use Rattle.json_trees.specs.Copied.{Adds};
 
 use crate::integers::{plain_number, signed};
 use hdf_types::IntType;

@@ -5,7 +5,7 @@ use Rattle.serde_json.specs.Data.{Data}
 use Rattle.hdf_types.specs.Elems.{Elem}
 use Rattle.hdf_values.specs.declared.faults.ValueFault.{ValueFault}
 use Rattle.hdf_values.specs.Elements.{Fits}
-use Rattle.hdf_values.specs.Texts.{AreTexts}
+use Rattle.json_trees.specs.Trees.{AreTexts}
 use Rattle.hdf_values.specs.Nested.{FitsNested, nested_bytes, nested_from}
 use Rattle.hdf_values.specs.Lowest.{IsFirstFault}
 use Rattle.hyperslab.specs.declared.Slab.{Slab}

@@ -6,7 +6,7 @@ ghost use Rattle.serde_json.specs.Data.{Data};
 ghost use Rattle.hdf_values.specs.declared.faults.ValueFault.{ValueFault};
 ghost use Rattle.hdf_values.specs.Lowest.{IsFirstFault};
 ghost use Rattle.hdf_values.specs.Nested.{FitsNested, nested_bytes, nested_normal};
-ghost use Rattle.hdf_values.specs.Texts.{AreTexts};
+ghost use Rattle.json_trees.specs.Trees.{AreTexts};
 ghost use Rattle.hyperslab.specs.declared.Slab.{Slab};
 ghost use Rattle.hyperslab.specs.Judged.{lists_slab};
 ghost use Rattle.hyperslab.specs.Selected.{IsSlab, SlabIn, extents};

@@ -1,7 +1,6 @@
 //! What requests read of an array.
 
 ghost use Rattle.std.specs.Prelude.{◌≡◌, All, Ok, IfOk, codes, option_map};
-ghost use Rattle.serde_json.specs.View.{view};
 ghost use Rattle.shapes.specs.Shapes.{IsSound, LiesIn};
 ghost use Rattle.hyperslab.specs.Selected.{IsSlab, SlabIn, extents, slab_cells};
 ghost use Rattle.hdf_values.specs.Nested.{nested_decoded};
@@ -18,7 +17,7 @@ use crate::arrays::faults::{Stop, refused_slab, settle};
 use chunk_store::Array;
 use hdf_types::type_json;
 use hyperslab::{Slab, SlabFault, read_select, whole};
-use json_trees::Tree;
+use json_trees::KeptTree;
 use object_ops::{Reply, SelectText};
 use point_select::Points;
 use serde_json::Value;
@@ -54,10 +53,10 @@ pub fn read_value(
 /// # Errors
 ///
 /// Only where memory runs out.
-pub fn read_points(alloc: Global, array: &Array, points: &Tree) -> Result<Reply, AllocError>
+pub fn read_points(alloc: Global, array: &Array, points: &KeptTree) -> Result<Reply, AllocError>
     ensures { IfOk result (λ r. r ≡ points_read points.now array.now.grid) }
 {
-    Ok(settle(points_reply(alloc, array, points.value()))?)
+    Ok(settle(points_reply(alloc, array, points))?)
 }
 
 /// The shape of an array.
@@ -126,10 +125,11 @@ fn cells_reply(alloc: Global, array: &Array, slab: &Slab) -> Result<Reply, Alloc
     Ok(Reply::cells(kind, slab.extents(), bytes))
 }
 
-fn points_reply(alloc: Global, array: &Array, points: &Value) -> Result<Reply, Stop>
-    ensures { IfOk (settled result) (λ r. r ≡ points_read (view points.now) array.now.grid) }
+fn points_reply(alloc: Global, array: &Array, points: &KeptTree) -> Result<Reply, Stop>
+    ensures { IfOk (settled result) (λ r. r ≡ points_read points.now array.now.grid) }
 {
-    let points = point_select::read_points(alloc, points, array.shape())?;
+    let tree = points.to_value(alloc)?;
+    let points = point_select::read_points(alloc, &tree, array.shape())?;
     Ok(elements_reply(alloc, array, &points)?)
 }
 

@@ -1,10 +1,11 @@
 //! What requests write to an array.
 
-ghost use Rattle.std.specs.Prelude.{◌≡◌, ◌≤◌, ℕ, List, All, IfOk, nat_le, true};
+ghost use Rattle.std.specs.Prelude.{◌≡◌, ◌≤◌, ℕ, List, All, IfOk, nat_le, option_map, true};
 ghost use Rattle.serde_json.specs.View.{view};
 ghost use Rattle.json_trees.specs.Shown.{shown};
 ghost use Rattle.json_trees.specs.Faults.{Gives};
 ghost use Rattle.shapes.specs.RowMajor.{cell_count};
+ghost use Rattle.shapes.specs.Shapes.{IsSound};
 ghost use Rattle.shapes.specs.declared.TheConstants.{MAX_EXTENT};
 ghost use Rattle.hyperslab.specs.declared.TheConstants.{MAX_SELECTED};
 ghost use Rattle.hyperslab.specs.Judged.{lists_slab};
@@ -26,14 +27,14 @@ use crate::arrays::faults::{Stop, refused_dims, refused_slab, settle};
 use crate::arrays::{MAX_BYTES, MAX_NEW_BYTES};
 use crate::fault::ChangeFault;
 use chunk_store::Array;
-use hdf_values::read_nested;
-use hyperslab::{Slab, from_lists};
-use json_trees::Tree;
+use hdf_values::read_kept;
+use hyperslab::{Slab, SlabFault, from_lists};
+use json_trees::KeptTree;
 use object_ops::{Part, Reply};
 use point_select::read_points;
 use serde_json::Value;
-use shapes::{Dims, resized};
-use std::alloc::Global;
+use shapes::{Dims, Shape, resized};
+use std::alloc::{AllocError, Global};
 
 /// Other elements in a part of an array: a tree nested by how many numbers are selected on each axis, or a list with
 /// one element for each point, of which the last of a repeated point counts. The reply is refused, and nothing is
@@ -48,7 +49,7 @@ pub fn write_value(
     alloc: Global,
     array: &mut Array,
     part: &Part,
-    value: &Tree,
+    value: &KeptTree,
 ) -> Result<Reply, ChangeFault>
     ensures acts { Follows (value_written part.now value.now array.old.grid) array.old.grid
         result array.new.grid }
@@ -62,20 +63,8 @@ pub fn write_value(
         (was_done (value_written part.now value.now array.old.grid).0 ≡ true) }
 {
     match part {
-        Part::Slab { start, stop, step } => write_lists(
-            alloc,
-            array,
-            lent(start),
-            lent(stop),
-            lent(step),
-            value.value(),
-        ),
-        Part::Points { points } => settle(write_points(
-            alloc,
-            array,
-            points.value(),
-            value.value(),
-        )),
+        Part::Slab { start, stop, step } => write_lists(alloc, array, start, stop, step, value),
+        Part::Points { points } => settle(write_points(alloc, array, points, value)),
     }
 }
 
@@ -100,54 +89,83 @@ pub fn change_shape(array: &mut Array, alloc: Global, dims: &Dims) -> Reply
 }
 
 /// The value of a tree that may be absent.
-fn lent(tree: &Option<Tree>) -> Option<&Value>
-    ensures { shown result ≡ tree.now }
+fn value_of(alloc: Global, tree: &Option<KeptTree>) -> Result<Option<Value>, AllocError>
+    ensures { IfOk result (λ value. option_map view value ≡ tree.now) }
 {
     match tree {
-        None => None,
-        Some(tree) => Some(tree.value()),
+        None => Ok(None),
+        Some(tree) => Ok(Some(tree.to_value(alloc)?)),
     }
+}
+
+fn lent(value: &Option<Value>) -> Option<&Value>
+    ensures { shown result ≡ option_map view value.now }
+{
+    match value {
+        None => None,
+        Some(value) => Some(value),
+    }
+}
+
+/// The selection that kept lists spell on a shape, or why they spell none.
+fn slab_of(
+    alloc: Global,
+    shape: &Shape,
+    start: &Option<KeptTree>,
+    stop: &Option<KeptTree>,
+    step: &Option<KeptTree>,
+) -> Result<Result<Slab, SlabFault>, AllocError>
+    requires { IsSound shape.now }
+    ensures first { IfOk result (λ slab. slab ≡ lists_slab shape.now start.now stop.now step.now) }
+    ensures within { IfOk result (λ slab. IfOk slab (λ s. SlabIn s shape.now)) }
+    ensures sound { IfOk result (λ slab. IfOk slab IsSlab) }
+{
+    let start = value_of(alloc, start)?;
+    let stop = value_of(alloc, stop)?;
+    let step = value_of(alloc, step)?;
+    Ok(from_lists(lent(&start), lent(&stop), lent(&step), shape))
 }
 
 fn write_lists(
     alloc: Global,
     array: &mut Array,
-    start: Option<&Value>,
-    stop: Option<&Value>,
-    step: Option<&Value>,
-    value: &Value,
+    start: &Option<KeptTree>,
+    stop: &Option<KeptTree>,
+    step: &Option<KeptTree>,
+    value: &KeptTree,
 ) -> Result<Reply, ChangeFault>
-    ensures acts { Follows (slab_written array.old.grid (view value.now)
-        (lists_slab array.old.grid.shape (shown start.entry) (shown stop.entry) (shown step.entry)))
+    ensures acts { Follows (slab_written array.old.grid value.now
+        (lists_slab array.old.grid.shape start.now stop.now step.now))
         array.old.grid result array.new.grid }
     ensures tracked { (held : List ℕ → List ℕ) → IsTracked held array.old
         → IsTracked held array.new }
     ensures alone { MarksAlone (λ i. IsDone result × (touches array.old.grid.chunk
         (cells_in (slab_region array.old.grid.shape (lists_slab array.old.grid.shape
-        (shown start.entry) (shown stop.entry) (shown step.entry)))) i ≡ true))
-        array.old array.new }
+        start.now stop.now step.now))) i ≡ true)) array.old array.new }
     ensures few { IsDone result → AddsFew array.old (cells_in (slab_region array.old.grid.shape
-        (lists_slab array.old.grid.shape
-        (shown start.entry) (shown stop.entry) (shown step.entry)))) }
+        (lists_slab array.old.grid.shape start.now stop.now step.now))) }
     ensures many { IfTooMany result (AddsMany array.old (cells_in (slab_region array.old.grid.shape
-        (lists_slab array.old.grid.shape
-        (shown start.entry) (shown stop.entry) (shown step.entry))))) }
-    ensures judged { IfTooMany result (was_done (slab_written array.old.grid (view value.now)
-        (lists_slab array.old.grid.shape
-        (shown start.entry) (shown stop.entry) (shown step.entry))).0 ≡ true) }
+        (lists_slab array.old.grid.shape start.now stop.now step.now)))) }
+    ensures judged { IfTooMany result (was_done (slab_written array.old.grid value.now
+        (lists_slab array.old.grid.shape start.now stop.now step.now)).0 ≡ true) }
 {
     array.is_whole();
-    match from_lists(start, stop, step, array.shape()) {
+    match slab_of(alloc, array.shape(), start, stop, step)? {
         Ok(slab) => settle(write_slab(alloc, array, &slab, value)),
         Err(fault) => Ok(Reply::Refused(refused_slab(fault))),
     }
 }
 
-fn write_slab(alloc: Global, array: &mut Array, slab: &Slab, value: &Value) -> Result<Reply, Stop>
+fn write_slab(
+    alloc: Global,
+    array: &mut Array,
+    slab: &Slab,
+    value: &KeptTree,
+) -> Result<Reply, Stop>
     requires slab { IsSlab slab.now }
     requires inside { SlabIn slab.now array.old.grid.shape }
     ensures acts { Follows (tree_written array.old.grid
-        (slab_cells slab.now array.old.grid.shape) (extents_of slab.now) (view value.now))
+        (slab_cells slab.now array.old.grid.shape) (extents_of slab.now) value.now)
         array.old.grid (settled result) array.new.grid }
     ensures tracked { (held : List ℕ → List ℕ) → IsTracked held array.old
         → IsTracked held array.new }
@@ -158,7 +176,7 @@ fn write_slab(alloc: Global, array: &mut Array, slab: &Slab, value: &Value) -> R
     ensures many { IfTooMany (settled result) (AddsMany array.old
         (slab_cells slab.now array.old.grid.shape)) }
     ensures judged { IfTooMany (settled result) (was_done (tree_written array.old.grid
-        (slab_cells slab.now array.old.grid.shape) (extents_of slab.now) (view value.now)).0
+        (slab_cells slab.now array.old.grid.shape) (extents_of slab.now) value.now).0
         ≡ true) }
 {
     let bytes = elements(alloc, array, slab.count(), &slab.extents(), value)?;
@@ -173,25 +191,26 @@ fn write_slab(alloc: Global, array: &mut Array, slab: &Slab, value: &Value) -> R
 fn write_points(
     alloc: Global,
     array: &mut Array,
-    points: &Value,
-    value: &Value,
+    points: &KeptTree,
+    value: &KeptTree,
 ) -> Result<Reply, Stop>
-    ensures acts { Follows (points_written array.old.grid (view value.now)
-        (points_of (view points.now) array.old.grid.shape))
+    ensures acts { Follows (points_written array.old.grid value.now
+        (points_of points.now array.old.grid.shape))
         array.old.grid (settled result) array.new.grid }
     ensures tracked { (held : List ℕ → List ℕ) → IsTracked held array.old
         → IsTracked held array.new }
     ensures alone { MarksAlone (λ i. IsDone (settled result) × (touches array.old.grid.chunk
-        (cells_in (points_region (points_of (view points.now) array.old.grid.shape))) i ≡ true))
+        (cells_in (points_region (points_of points.now array.old.grid.shape))) i ≡ true))
         array.old array.new }
     ensures few { IsDone (settled result) → AddsFew array.old
-        (cells_in (points_region (points_of (view points.now) array.old.grid.shape))) }
+        (cells_in (points_region (points_of points.now array.old.grid.shape))) }
     ensures many { IfTooMany (settled result) (AddsMany array.old
-        (cells_in (points_region (points_of (view points.now) array.old.grid.shape)))) }
+        (cells_in (points_region (points_of points.now array.old.grid.shape)))) }
     ensures judged { IfTooMany (settled result) (was_done (points_written array.old.grid
-        (view value.now) (points_of (view points.now) array.old.grid.shape)).0 ≡ true) }
+        value.now (points_of points.now array.old.grid.shape)).0 ≡ true) }
 {
-    let points = read_points(alloc, points, array.shape())?;
+    let tree = points.to_value(alloc)?;
+    let points = read_points(alloc, &tree, array.shape())?;
     let many = points.len() as u64;
     let bytes = elements(alloc, array, many, &Dims::repeated(many, 1), value)?;
     let new = array.points_add(alloc, &points)?;
@@ -215,11 +234,11 @@ fn elements(
     array: &Array,
     many: u64,
     extents: &Dims,
-    value: &Value,
+    value: &KeptTree,
 ) -> Result<Vec<u8>, Stop>
     requires few { many ≤ MAX_SELECTED }
     ensures read { Gives Tells (λ v. v.items) result
-        (bytes_read array.now.grid many extents.now (view value.now)) }
+        (bytes_read array.now.grid many extents.now value.now) }
     ensures encoded { IfOk result
         (λ v. AreEncoded array.now.grid.kind (cell_count extents.now) v.items) }
 {
@@ -228,5 +247,5 @@ fn elements(
     if bytes > MAX_BYTES {
         return Err(Stop::Refused(too_many_bytes(bytes)));
     }
-    Ok(read_nested(alloc, array.elem(), extents, value)?)
+    Ok(read_kept(alloc, array.elem(), extents, value)?)
 }

@@ -1,0 +1,3 @@
+pub mod StreamLemmas
+pub mod MemberLemmas
+pub mod ValueLemmas

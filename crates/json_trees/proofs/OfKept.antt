@@ -1,0 +1,7 @@
+pub mod GrammarLemmas
+pub mod ReadLemmas
+pub mod CopyLemmas
+pub mod KeptLemmas
+pub mod NumberLemmas
+pub mod PassLemmas
+pub mod KeyLemmas
