@@ -87,6 +87,13 @@ module _ {Q V : Type 0} where
   drawn_push last (DrawnCut n k ∷ items) number c = drawn_push (n, k) items number c
   drawn_push last (RegisterCut p found ∷ items) number c = drawn_push last items number c
 
+  drawn_behind : (last : ℕ × ℕ) (items : List (RegisterItem Q V)) (p : ℕ) (found : Bool)
+      → drawn_from last (items ++ RegisterCut p found ∷ []) ≡ drawn_from last items
+  drawn_behind last [] p found = refl
+  drawn_behind last (Entered e ∷ items) p found = drawn_behind last items p found
+  drawn_behind last (DrawnCut n k ∷ items) p found = drawn_behind (n, k) items p found
+  drawn_behind last (RegisterCut q other ∷ items) p found = drawn_behind last items p found
+
   drawn_none : (last : ℕ × ℕ) (more : List (RegisterItem Q V)) → AllByRecursion IsNoRegisterCut more → drawn_from last more ≡ last
   drawn_none last [] all = refl
   drawn_none last (Entered e ∷ more) all = drawn_none last more all.1
@@ -371,6 +378,16 @@ module _ {K : Type 0} (start : ArrayStart K) where
         (each.begin_cut start place v w d)) in
         in_turn_by_register (DrawnCut (drawn d.before.register) (places d.before.register)) refl x (holds_now all) 0 (Some tickets)
         (count_of s d.before.register, w, pass_on start v w _ x.seen x.is t.pass, serving, t.opened.some_lane, drew.tickets_are)
+
+    -- no cut is drawn in it
+    pub drawn_stays : {w : ArrayView K} {place : ℕ} {found : Bool} → lane ≡ lanes_in start → HasCutRegister m start place found v w
+        → last_drawn w.seen.register ≡ last_drawn v.seen.register
+    drawn_stays {found = found} all d =
+        let x = d.turned in
+        let more = (x.uncut (holds_now all)).register in
+        ap (λ (y : ArrayView K). last_drawn y.seen.register) x.is ∙ ap (λ (h : SeenLists s Lane). last_drawn h.register) x.added.seen_is
+        ∙ drawn_behind (0, 0) x.added.mid.register (places d.before.register) found
+        ∙ ap (λ (items : List (RegisterItem Asked Verdict)). last_drawn items) more.1 ∙ drawn_on (0, 0) v.seen.register more.0 more.2
 
     pub in_turn_cut_register : {w : ArrayView K} {place : ℕ} {found : Bool} → lane ≡ lanes_in start → HasCutRegister m start place found v w
         → IsInTurn start first w lanes lane turns

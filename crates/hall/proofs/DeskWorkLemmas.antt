@@ -1,19 +1,23 @@
 -- A whole turn of a journal's desk.
-use Rattle.std.proofs.Common.{◌≡◌, ◌⊎◌, ℕ, zero, suc, ◌<◌, ◌≤◌, List, [], ◌∷◌, ◌++◌, Option, Some, None, Result, Ok, Err, length, false, true}
+use Rattle.std.proofs.Common.{◌≡◌, ◌⊎◌, inl, inr, ⊎_elim, ℕ, zero, suc, ◌+◌, ◌<◌, ◌≤◌, List, [], ◌∷◌, ◌++◌, Option, Some, None, Result, Ok, Err, length, false, true}
 use Rattle.std.proofs.Common.{refl, sym, ap, subst, ◌∙◌, arith}
 use Rattle.std.proofs.lemmas.List.{append-nil}
-use Rattle.std.specs.Prelude.{IfOk}
+use mathlib.Core.Logic.{dite}
+use native.Mathlib.Decide.{dec_le}
+use Rattle.std.specs.Prelude.{IfOk, OnOk}
 use Rattle.std.specs.List.{AllByRecursion}
 use Rattle.std.specs.declared.snapshot.Snapshot.{Snapshot}
 use Rattle.edge_traits.specs.declared.disk.Disk.{Ghosts as Disks}
 use Rattle.chunk_owner.specs.Lanes.{Lane}
+use Rattle.flush_journal.specs.Frames.{need_of}
+use Rattle.flush_journal.specs.Records.{Record}
 use Rattle.flush_journal.specs.Standing.{disk_of}
 use Rattle.flush_journal.specs.Unchanged.{SameDisk}
 use Rattle.flush_journal.specs.declared.journal.Journal.{Journal}
 use Rattle.flush_journal.specs.declared.why.Why.{Why}
 use Rattle.flush_journal.proofs.Unchanged.{same_both, same_here}
 use Rattle.journal_desk.specs.Cuts.{Resumes}
-use Rattle.journal_desk.specs.Keepings.{AreItsKeepings, Continues, HasKept as KeepsSince, keeping_of}
+use Rattle.journal_desk.specs.Keepings.{AreItsKeepings, Continues, HasKept as KeepsSince, IsAllKept, StaysOwed, answer_of, keeping_of, owed_by}
 use Rattle.journal_desk.specs.Notes.{AreAlike, NoteOf, at_lanes}
 use Rattle.journal_desk.specs.Standing.{Standing}
 use Rattle.journal_desk.specs.declared.note.Note.{Ghosts as Notes}
@@ -28,6 +32,7 @@ use Rattle.lane_histories.specs.declared.items.Keeping.{Keeping}
 use Rattle.lane_histories.specs.declared.items.Reach.{Reach}
 use Rattle.lane_histories.specs.declared.items.RegisterItem.{RegisterItem}
 use Rattle.lane_histories.specs.declared.items.RegisterItem.TheVariants.{DrawnCut, Entered, RegisterCut}
+use Rattle.lane_histories.proofs.Lists.{all_both, all_weaker}
 use Rattle.register.specs.Decided.{RegisterState}
 use Rattle.register.specs.declared.verdicts.Verdict.{Verdict}
 use Rattle.hall_rule.specs.Claims.{busy, claim, numbers}
@@ -48,14 +53,15 @@ use Rattle.service_histories.specs.ArrayServices.{Asked, array_service}
 use Rattle.service_histories.specs.Tellings.{opening}
 use Rattle.hall.specs.Answers.{ArrayLists, ArrayStart, ArrayView}
 use Rattle.hall.specs.ArrayMachines.{IsOpened, desk_machines, lanes_in, machines}
-use Rattle.hall.specs.DeskTurns.{HasDone, HasGoneOn, HasKeptAll, HasKeptTo, IsBehind, IsInTurn, IsTurnOf, note_seen}
-use Rattle.hall.specs.JournalDesks.{IsJournalSince, answer_by, keeping_by}
+use Rattle.hall.specs.DeskTurns.{HasDone, HasFlushed, HasFlushedPast, HasGoneOn, HasKeptAll, HasKeptTo, HasShared, IsBehind, IsInTurn, IsTurnOf, note_seen}
+use Rattle.hall.specs.JournalDesks.{AllFollow, AreTold, Follows, IsJournalSince, Left, LiesBetween, answer_by, item_of, keeping_by, left_after, left_by, left_first}
+use Rattle.hall.specs.JournalDesks.{left_of, moment_by}
 use Rattle.hall.specs.Notes.{AreOfLanes, hall_notes, listed, of_lanes, owner_at, seen_in, world_known}
 use Rattle.hall.specs.declared.desk.AtDesk.{Ghosts}
 use Rattle.hall.specs.declared.desk.NotedDesk.{NotedDesk}
 use Rattle.hall.specs.declared.journal.DeskNews.{DeskNews}
 use Rattle.hall.specs.declared.journal.DeskWork.{DeskWork}
-use Rattle.hall.specs.declared.journal.DeskWork.TheVariants.{Flush, KeepRegister, Look}
+use Rattle.hall.specs.declared.journal.DeskWork.TheVariants.{Flush, FlushPast, KeepRegister, Look}
 use Rattle.hall.specs.declared.note.HallNote.{HallNote}
 use Rattle.hall.proofs.DeskTurnLemmas.{grows_here, legal_as, pass_on, rests}
 use Rattle.hall.proofs.FrontLemmas.{AreBelow}
@@ -87,6 +93,7 @@ module _ {D N : Type 0} where
     };
     disk = same_here met d.disk;
     own = record { c = omega arith; p = omega arith };
+    reached = λ honest. omega arith;
     lasts = λ honest moment own le far has. has;
   }
 
@@ -116,6 +123,8 @@ pub record Reads {D J : Type 0} (met : Disks D) (ghosts : Ghosts J (Snapshot (Jo
   pub note : (owners : List Lane) → ghosts.note d owners ≡ of_lanes (length owners) (seen_in st.note)
   pub reach : ghosts.reach d ≡ st.kept
   pub moment : ghosts.moment d ≡ met.moment st.at
+  pub told_out : (j : Snapshot (Journal D met)) (ks : List Keeping) → ghosts.HasTold d j ks → AreTold met j.value st ks
+  pub told_into : (j : Snapshot (Journal D met)) (ks : List Keeping) → AreTold met j.value st ks → ghosts.HasTold d j ks
   pub out : (o : Start RegisterState Lane (Snapshot (Journal D met))) → ghosts.IsSince d o → (lanes ≡ length o.owners) × IsJournalSince met st o
   pub into : (o : Start RegisterState Lane (Snapshot (Journal D met))) → (lanes ≡ length o.owners) × IsJournalSince met st o → ghosts.IsSince d o
 
@@ -144,6 +153,10 @@ module _ {D : Type 0} (met : Disks D) (st mid st' : Standing D (HallNote (Snapsh
             subst (λ (k : ℕ). KeepsSince met (hall_notes k) st' (met.moment (disk_of o.desk.value)) nowhere) (sym same)
             (more.lasts honest (met.moment (disk_of o.desk.value)) nowhere (omega (arith, first, then_)) (record { c = omega arith; p = omega arith })
             (resumed.lasts honest (met.moment (disk_of o.desk.value)) nowhere first (record { c = omega arith; p = omega arith }) (since.kept honest)));
+        reached = λ honest.
+            let first = since.reached honest in
+            let then_ = resumed.reached honest in
+            let last = more.reached honest in omega (arith, first, then_, last);
       }
 
 -- the desk's note is what the pass has seen
@@ -187,9 +200,14 @@ module _ {D J : Type 0} (met : Disks D) {ghosts : Ghosts J (Snapshot (Journal D 
         listed_length zero f = refl
         listed_length (suc n) f = ap suc (listed_length n (λ l. f (suc l)))
 
-    far_here : AllByRecursion (λ (k : Keeping). IsAsFar k.own st.kept) h.keepings
+    pub far_here : AllByRecursion (λ (k : Keeping). IsAsFar k.own st.kept) h.keepings
     unfolding desk_machines
     far_here = subst (λ (r : Reach). AllByRecursion (λ (k : Keeping). IsAsFar k.own r) h.keepings) reads.reach is.far
+
+    -- what the last turn left
+    pub left_here : left_of st ≡ left_after (left_first start.desk.value) h.keepings
+    unfolding desk_machines
+    left_here = (reads.told_out start.desk h.keepings is.told).left
 
     kept_here : (k : Keeping) → IsIn h.keepings k → k.answer ≡ Kept
         → IsIn (seen_in st.note).keepings k ⊎ ((k.own ≡ st.kept) × (k.moment ≡ met.moment st.at))
@@ -276,14 +294,88 @@ module _ {J K : Type 0} (ghosts : Ghosts J K) (start : ArrayStart K) (v : ArrayV
 
 -- ---- the turn is passed
 
--- a keeping that was answered Ok is the desk's last
-ended : {D N : Type 0} (met : Disks D) (notes : NoteOf N) (work : DeskWork) (before after : Standing D N) (result : Result ℕ Why)
-    → HasDone met notes work before after result → answer_by work result ≡ Kept → after.at ≡ after.disk
-ended met notes Flush before after (Ok n) done answer = done.all.at
-ended met notes Flush before after (Err why) done answer = absurd (let never : Refused ≡ Kept = answer in cc)
-ended met notes KeepRegister before after (Ok n) done answer = done.all.at
-ended met notes KeepRegister before after (Err why) done answer = absurd (let never : Refused ≡ Kept = answer in cc)
-ended met notes Look before after result done answer = absurd (let never : Looked ≡ Kept = answer in cc)
+-- a keeping that was answered Ok has the moment at which the desk reached its numbers
+reached_at : {D N : Type 0} (met : Disks D) (notes : NoteOf N) (work : DeskWork) (before after : Standing D N) (result : Result ℕ Why)
+    → HasDone met notes work before after result → answer_by work result ≡ Kept → moment_by met after work result ≡ met.moment after.at
+reached_at met notes Flush before after (Ok n) done answer = ap met.moment (sym done.all.at)
+reached_at met notes Flush before after (Err why) done answer = absurd (let never : Refused ≡ Kept = answer in cc)
+reached_at met notes (FlushPast place) before after (Ok n) done answer = refl
+reached_at met notes (FlushPast place) before after (Err why) done answer = absurd (let never : Refused ≡ Kept = answer in cc)
+reached_at met notes KeepRegister before after (Ok n) done answer = ap met.moment (sym done.all.at)
+reached_at met notes KeepRegister before after (Err why) done answer = absurd (let never : Refused ≡ Kept = answer in cc)
+reached_at met notes Look before after result done answer = absurd (let never : Looked ≡ Kept = answer in cc)
+
+-- ---- what it told
+
+pub left_push : (left : Left) (ks : List Keeping) (k : Keeping) → left_after left (ks ++ k ∷ []) ≡ left_by k
+left_push left [] k = refl
+left_push left (i ∷ ks) k = left_push (left_by i) ks k
+
+follow_push : (most : ℕ) (left : Left) (ks : List Keeping) (k : Keeping) → AllFollow most left ks → Follows most (left_after left ks) k
+    → AllFollow most left (ks ++ k ∷ [])
+follow_push most left [] k all last = (last, tt)
+follow_push most left (i ∷ ks) k all last = (all.0, follow_push most (left_by i) ks k all.1 last)
+
+module _ {D N : Type 0} (met : Disks D) (notes : NoteOf N) (reached : Reach → ℕ) (before after : Standing D N) (result : Result ℕ Why)
+    (done : HasKeptAll met notes reached before after result) where
+  left_stays : StaysOwed before after → left_of after ≡ left_of before
+  left_stays stays = λ i. record { end = stays.end i; owed = owed_by (stays.pending i); cut = stays.cut i; own = stays.kept i }
+
+  settled_by : (p : Option (List Record)) → before.pending ≡ p → 0 < owed_by p
+      → (left_of after ≡ left_of before) ⊎ (IsAsFar before.cut after.kept × (before.end + owed_by p ≤ met.most before.disk))
+  settled_by None is some = absurd (omega arith)
+  settled_by (Some rs) is some = dite (dec_le (before.end + need_of rs) (met.most before.disk))
+      (λ fits. ⊎_elim (λ stays. inl (left_stays stays.1)) (λ kept. inr (kept, fits)) (done.first.settled rs is))
+      (λ no. inl (left_stays (done.first.full rs is (omega (arith, no))).1))
+
+  done_by : (answer_of result ≡ Kept) → (left_of after ≡ left_of before) ⊎ ((owed_by after.pending ≡ 0) × (after.kept ≡ after.cut))
+  done_by = by result done.all where
+    by : (r : Result ℕ Why) → OnOk r (IsAllKept after) → answer_of r ≡ Kept
+        → (left_of after ≡ left_of before) ⊎ ((owed_by after.pending ≡ 0) × (after.kept ≡ after.cut))
+    by (Ok n) all answer = inr (ap owed_by all.settled, all.kept)
+    by (Err why) all answer = absurd (let never : Refused ≡ Kept = answer in cc)
+
+-- of what it found
+follows_by : {D N : Type 0} (met : Disks D) (notes : NoteOf N) (work : DeskWork) (before after : Standing D N) (result : Result ℕ Why)
+    → HasDone met notes work before after result → Follows (met.most before.disk) (left_of before) (item_of met before after work result)
+follows_by met notes Flush before after result done = record {
+  settled = settled_by met notes (λ r. r.c) before after result done before.pending refl;
+  done = done_by met notes (λ r. r.c) before after result done;
+}
+follows_by met notes (FlushPast place) before after result done = dite (dec_le (place + 1) before.kept.c)
+    (λ more.
+    let past : place < before.kept.c = omega (arith, more) in
+    let same = ap left_of (done.shared past).0 in
+    record { settled = λ some. inl same; done = λ answer. inl same })
+    (λ no_more.
+    let most : before.kept.c ≤ place = omega (arith, no_more) in
+    let all = done.flushed most in record {
+      settled = settled_by met notes (λ r. r.c) before after result all before.pending refl;
+      done = done_by met notes (λ r. r.c) before after result all;
+    })
+follows_by met notes KeepRegister before after result done = record {
+  settled = settled_by met notes (λ r. r.p) before after result done before.pending refl;
+  done = done_by met notes (λ r. r.p) before after result done;
+}
+follows_by met notes Look before after result done =
+    let same = ap left_of done.0 in record { settled = λ some. inl same; done = λ answer. inl same }
+
+-- its moment is that of the turn's end, or the one at which the desk reached its numbers
+moment_behind : {D N : Type 0} (met : Disks D) (first : D) (after : Standing D N) → met.moment first ≤ met.moment after.at
+    → met.moment first ≤ met.moment after.disk → (work : DeskWork) (result : Result ℕ Why) → met.moment first ≤ moment_by met after work result
+moment_behind met first after at end Flush result = end
+moment_behind met first after at end (FlushPast place) (Ok n) = at
+moment_behind met first after at end (FlushPast place) (Err why) = end
+moment_behind met first after at end KeepRegister result = end
+moment_behind met first after at end Look result = end
+
+moment_before : {D N : Type 0} (met : Disks D) (after : Standing D N) → met.moment after.at ≤ met.moment after.disk
+    → (work : DeskWork) (result : Result ℕ Why) → moment_by met after work result ≤ met.moment after.disk
+moment_before met after by_now Flush result = omega arith
+moment_before met after by_now (FlushPast place) (Ok n) = by_now
+moment_before met after by_now (FlushPast place) (Err why) = omega arith
+moment_before met after by_now KeepRegister result = omega arith
+moment_before met after by_now Look result = omega arith
 
 module _ {D J : Type 0} (met : Disks D) {ghosts : Ghosts J (Snapshot (Journal D met))} (start : ArrayStart (Snapshot (Journal D met)))
     (laws : DeskTurns (desk_machines ghosts (lanes_in start))) (old new : NotedDesk J) (lanes : ℕ) (register_same : new.register ≡ old.register)
@@ -301,13 +393,16 @@ module _ {D J : Type 0} (met : Disks D) {ghosts : Ghosts J (Snapshot (Journal D 
 
   -- the desk went on
   pub gone_on : before.disk ≡ st.disk → (met.honest → KeepsSince met (hall_notes st'.lanes) st' (met.moment st'.disk) st'.kept)
+      → (met.honest → KeepsSince met (hall_notes st'.lanes) st' (met.moment st'.at) st'.kept) → (met.honest → met.moment st'.at ≤ met.moment st'.disk)
       → HasGoneOn met start before st'
-  gone_on same images =
+  gone_on same images reached by_now =
       let since = (since_here met start old lanes st reads v.seen is).1 in record {
         first = subst (SameDisk met (disk_of start.desk.value)) (sym same) since.disk;
         went = subst (λ (k : ℕ). Continues met (hall_notes k) before st') since.lanes continues;
         since = journal_goes_on met st before st' resumed continues fits start since;
         images = λ honest. subst (λ (k : ℕ). KeepsSince met (hall_notes k) st' (met.moment st'.disk) st'.kept) many (images honest);
+        reached = λ honest. subst (λ (k : ℕ). KeepsSince met (hall_notes k) st' (met.moment st'.at) st'.kept) many (reached honest);
+        by_now = by_now;
       }
 
   before_fits : IsAsFar st.kept st'.kept
@@ -318,11 +413,59 @@ module _ {D J : Type 0} (met : Disks D) {ghosts : Ghosts J (Snapshot (Journal D 
   note_is owners same = reads'.note owners ∙ ap (λ (os : List Lane). of_lanes (length os) (seen_in st'.note)) same
       ∙ lists_are met st' w (lanes_in start) many turn.sized turn.owners up_to
 
-  desk_after : IsDeskOf (desk_machines ghosts (lanes_in start)) start w.seen new
+  -- what its keeping tells lies between the first disk and this one
+  told_between : (met.honest → met.moment st'.at ≤ met.moment st'.disk) → (did : DeskNews)
+      → LiesBetween met (disk_of start.desk.value) st'.disk (keeping_by met before st' did)
+  told_between by_now did =
+      let since = (since_here met start old lanes st reads v.seen is).1 in
+      let after = journal_goes_on met st before st' resumed continues fits start since in
+      let a = since.disk.faults in
+      let b = resumed.disk.faults in record {
+        faults_before = omega (arith, a, b);
+        faults_after = omega arith;
+        begun = λ honest. moment_behind met (disk_of start.desk.value) st' (after.reached honest) (after.disk.goes_on honest) did.work did.result.value;
+        ended = λ honest. moment_before met st' (by_now honest) did.work did.result.value;
+      }
+
+  -- so do those that were told before
+  tells : (met.honest → met.moment st'.at ≤ met.moment st'.disk) → left_of before ≡ left_of st → (did : DeskNews)
+      → HasDone met (hall_notes st.lanes) did.work before st' did.result.value → (ks : List Keeping)
+      → AreTold met start.desk.value st ks → AreTold met start.desk.value st' (ks ++ keeping_by met before st' did ∷ [])
+  tells by_now same did done ks told =
+      let k = keeping_by met before st' did in
+      let first = left_first start.desk.value in
+      let disk = (since_here met start old lanes st reads v.seen is).1.disk in
+      let most : met.most before.disk ≡ met.most (disk_of start.desk.value) = resumed.disk.most ∙ disk.most in record {
+        between = all_both _ ks (k ∷ [])
+            (all_weaker _ _ ks (λ (i : Keeping) (lies : LiesBetween met (disk_of start.desk.value) st.disk i).
+            let a = resumed.disk in
+            let b = continues.disk in
+            let c = lies.faults_after in
+            let d = a.faults in
+            let e = b.faults in record {
+              faults_before = lies.faults_before;
+              faults_after = omega (arith, c, d, e);
+              begun = lies.begun;
+              ended = λ honest.
+                  let x = lies.ended honest in
+                  let y = a.goes_on honest in
+                  let z = b.goes_on honest in omega (arith, x, y, z);
+            }) told.between)
+            (told_between by_now did, tt);
+        follow = follow_push (met.most (disk_of start.desk.value)) first ks k told.follow
+            (subst (λ (x : ℕ × Left). Follows x.0 x.1 k) (λ i. (most i, (same ∙ told.left) i))
+            (follows_by met (hall_notes st.lanes) did.work before st' did.result.value done));
+        left = sym (left_push first ks k);
+      }
+
+  -- with its keeping it may be passed
+  pub keeping_fits : (met.honest → met.moment st'.at ≤ met.moment st'.disk) → left_of before ≡ left_of st → (did : DeskNews)
+      → HasDone met (hall_notes st.lanes) did.work before st' did.result.value
+      → IsDeskOf (desk_machines ghosts (lanes_in start)) start (pushed w.seen (at_desk (keeping_by met before st' did))) new
   unfolding desk_machines
-  desk_after =
+  keeping_fits by_now same did done =
       let owners = ap (λ (x : Snapshot _). x.value.items) owners_same ∙ is.owners in
-      laws.brought_up start w.seen v.seen old new is turn.keepings
+      laws.keeps start w.seen v.seen old new (keeping_by met before st' did) is turn.keepings
       (λ first since.
       let o = reads.out _ since in
       subst (λ (p : Start RegisterState Lane (Snapshot (Journal D met))). ghosts.IsSince new.desk p)
@@ -333,35 +476,30 @@ module _ {D J : Type 0} (met : Disks D) {ghosts : Ghosts J (Snapshot (Journal D 
       (subst (GrowsUncut w.seen) (sym (note_is new.owners.value.items owners)) (uncut_here w.seen))
       (ap (λ (h : ArrayLists). h.keepings) (note_is new.owners.value.items owners))
       (subst (λ (x : Reach × Reach). IsAsFar x.0 x.1) (λ i. (sym reads.reach i, sym reads'.reach i)) before_fits)
-
-  -- with its keeping it may be passed
-  pub keeping_fits : (did : DeskNews) → HasDone met (hall_notes st.lanes) did.work before st' did.result.value
-      → IsDeskOf (desk_machines ghosts (lanes_in start)) start (pushed w.seen (at_desk (keeping_by met before st' did))) new
-  unfolding desk_machines
-  keeping_fits did done = laws.keeps start w.seen new (keeping_by met before st' did) desk_after
       (subst (λ (r : Reach). IsAsFar st'.kept r) (sym reads'.reach) (record { c = omega arith; p = omega arith }))
+      (λ told. reads'.told_into start.desk _ (tells by_now same did done v.seen.keepings (reads.told_out start.desk v.seen.keepings told)))
       (λ answer. (
         sym reads'.reach,
-        ap met.moment (sym (ended met (hall_notes st.lanes) did.work before st' did.result.value done answer)) ∙ sym reads'.moment,
+        reached_at met (hall_notes st.lanes) did.work before st' did.result.value done answer ∙ sym reads'.moment,
       ))
 
-  ready : (did : DeskNews) → HasDone met (hall_notes st.lanes) did.work before st' did.result.value
+  ready : (met.honest → met.moment st'.at ≤ met.moment st'.disk) → left_of before ≡ left_of st → (did : DeskNews) → HasDone met (hall_notes st.lanes) did.work before st' did.result.value
       → ghosts.news new.desk ≡ Some (keeping_by met before st' did)
       → (more : List (ℕ × HallSlot (array_service (lanes_in start)) RegisterState Lane (NotedDesk J)))
       → IsReadyToPass (desk_machines ghosts (lanes_in start)) start (at_desk (keeping_by met before st' did)) (w, (1, AtDesk new) ∷ more)
   unfolding desk_machines
-  ready did done news more =
+  ready by_now same did done news more =
       laws.may_pass start (w, (1, AtDesk new) ∷ more) turn.number [] more new (keeping_by met before st' did) turn.pass (rests start turn refl).1 refl news
-      (keeping_fits did done)
+      (keeping_fits by_now same did done)
 
-  pub may_pass_desk : (did : DeskNews) → HasDone met (hall_notes st.lanes) did.work before st' did.result.value
+  pub may_pass_desk : (met.honest → met.moment st'.at ≤ met.moment st'.disk) → left_of before ≡ left_of st → (did : DeskNews) → HasDone met (hall_notes st.lanes) did.work before st' did.result.value
       → ghosts.news new.desk ≡ Some (keeping_by met before st' did)
       → (me : HallHand (array_service (lanes_in start)) RegisterState Lane (NotedDesk J) (Snapshot (Journal D met)))
       → (more : List (ℕ × HallSlot (array_service (lanes_in start)) RegisterState Lane (NotedDesk J))) → me ≡ (w, (1, AtDesk new) ∷ more)
       → IsReadyToPass (desk_machines ghosts (lanes_in start)) start (at_desk (keeping_by met before st' did)) me
-  may_pass_desk did done news me more is_me =
+  may_pass_desk by_now same did done news me more is_me =
       subst (λ (x : HallHand (array_service (lanes_in start)) RegisterState Lane (NotedDesk J) (Snapshot (Journal D met))).
-      IsReadyToPass (desk_machines ghosts (lanes_in start)) start (at_desk (keeping_by met before st' did)) x) (sym is_me) (ready did done news more)
+      IsReadyToPass (desk_machines ghosts (lanes_in start)) start (at_desk (keeping_by met before st' did)) x) (sym is_me) (ready by_now same did done news more)
 
 -- ---- what the turn leaves
 
@@ -375,39 +513,92 @@ ok_as : (result : Result ℕ Why) (m seen there : ℕ) → seen ≤ there → If
 ok_as (Ok n) m seen there le ok = let more = ok.1 in (sym ok.0, omega (arith, le, more))
 ok_as (Err why) m seen there le ok = ok
 
+-- what a flush kept it has kept since its end
+at_its_end : {D N : Type 0} (met : Disks D) (notes : NoteOf N) (reached : Reach → ℕ) (place : ℕ) (before after : Standing D N) (result : Result ℕ Why)
+    → HasKeptAll met notes reached before after result → moment_by met after (FlushPast place) result ≡ met.moment after.disk
+at_its_end met notes reached place before after (Ok n) done = ap met.moment done.all.at
+at_its_end met notes reached place before after (Err why) done = refl
+
+-- it was what the last turn left, and none before reaches farther
+abbrev pub IsFound : {D N : Type 0} {met : Disks D} → ArrayStart (Snapshot (Journal D met)) → Standing D N → List Keeping → Type 0
+IsFound start before ks =
+    AllByRecursion (λ (i : Keeping). IsAsFar i.own before.kept) ks × (left_of before ≡ left_after (left_first start.desk.value) ks)
+
 module _ {D : Type 0} (met : Disks D) (start : ArrayStart (Snapshot (Journal D met))) (k : ℕ)
     (before after : Standing D (HallNote (Snapshot (Journal D met)))) (result : Result ℕ Why) (v w : ArrayView (Snapshot (Journal D met)))
     (far : places v.seen.register ≤ places (seen_in before.note).register) (gone : HasGoneOn met start before after) where
-  to_here : (reached : Reach → ℕ) → HasKept (machines (lanes_in start)) start (keeping_of met before after result) [] v w
-      → HasKeptAll met (hall_notes k) reached before after result → HasKeptTo met reached start result v w
+  to_here : (reached : Reach → ℕ) → (t : HasKept (machines (lanes_in start)) start (keeping_of met before after result) [] v w)
+      × IsFound start before t.before.keepings → HasKeptAll met (hall_notes k) reached before after result → HasKeptTo met reached start result v w
   to_here reached turn done = record {
     before = before;
     after = after;
-    turn = turn;
+    turn = turn.0;
+    far = turn.1.0;
+    found = turn.1.1;
     gone = gone;
     ok = ok_as result (reached after.kept) (places v.seen.register) (places (seen_in before.note).register) far done.ok;
     all = done.all;
     cause = done.cause;
     full = done.full;
+    first = done.first;
     stopped = done.stopped;
   }
 
-  pub turn_is : (work : DeskWork)
-      → HasKept (machines (lanes_in start)) start (record (keeping_of met before after result) { answer = answer_by work result }) [] v w
-      → HasDone met (hall_notes k) work before after result → IsTurnOf met work start result v w
-  turn_is Flush turn done = to_here (λ r. r.c) turn done
-  turn_is KeepRegister turn done = to_here (λ r. r.p) turn done
-  turn_is Look turn done = (
-    before.kept.c,
-    done.1,
-    record {
-      desk = before;
-      turn = subst (λ (d : Standing D (HallNote (Snapshot (Journal D met)))). HasKept (machines (lanes_in start)) start
-          (record (keeping_of met before d (Ok before.kept.c)) { answer = Looked }) [] v w) done.0 turn;
-      gone = subst (HasGoneOn met start before) done.0 gone;
-      is = refl;
-    },
+  -- the place was kept already
+  shared_here : (place : ℕ) → place < before.kept.c
+      → (t : HasKept (machines (lanes_in start)) start (item_of met before after (FlushPast place) result) [] v w)
+      × IsFound start before t.before.keepings → (after ≡ before) × (result ≡ Ok before.kept.c)
+      → HasShared met start place result v w
+  shared_here place past turn same =
+      let shared = subst (λ (x : Standing D (HallNote (Snapshot (Journal D met))) × Result ℕ Why). (t : HasKept (machines (lanes_in start)) start
+      (item_of met before x.0 (FlushPast place) x.1) [] v w) × IsFound start before t.before.keepings)
+      (λ i. (same.0 i, same.1 i)) turn in record {
+        desk = before;
+        turn = shared.0;
+        far = shared.1.0;
+        found = shared.1.1;
+        gone = subst (HasGoneOn met start before) same.0 gone;
+        past = past;
+        is = same.1;
+      }
+
+  -- it was not, and all was flushed
+  flushed_here : (place : ℕ) → before.kept.c ≤ place
+      → (t : HasKept (machines (lanes_in start)) start (item_of met before after (FlushPast place) result) [] v w)
+      × IsFound start before t.before.keepings → HasKeptAll met (hall_notes k) (λ r. r.c) before after result
+      → (flushed : HasFlushed met start result v w) × (flushed.before.kept.c ≤ place)
+  unfolding to_here
+  flushed_here place most turn done = (
+    to_here (λ r. r.c) (subst (λ (m : ℕ). (t : HasKept (machines (lanes_in start)) start (record (keeping_of met before after result) { moment = m }) [] v w)
+        × IsFound start before t.before.keepings)
+        (at_its_end met (hall_notes k) (λ r. r.c) place before after result done) turn) done,
+    most,
   )
+
+  pub turn_is : (work : DeskWork) → (t : HasKept (machines (lanes_in start)) start (item_of met before after work result) [] v w)
+      × IsFound start before t.before.keepings → HasDone met (hall_notes k) work before after result → IsTurnOf met work start result v w
+  turn_is Flush turn done = to_here (λ r. r.c) turn done
+  turn_is (FlushPast place) turn done = dite (dec_le (place + 1) before.kept.c)
+      (λ more.
+      let past : place < before.kept.c = omega (arith, more) in inl (shared_here place past turn (done.shared past)))
+      (λ no_more.
+      let most : before.kept.c ≤ place = omega (arith, no_more) in inr (flushed_here place most turn (done.flushed most)))
+  turn_is KeepRegister turn done = to_here (λ r. r.p) turn done
+  turn_is Look turn done =
+      let looked = subst (λ (d : Standing D (HallNote (Snapshot (Journal D met)))). (t : HasKept (machines (lanes_in start)) start
+      (record (keeping_of met before d (Ok before.kept.c)) { answer = Looked }) [] v w)
+      × IsFound start before t.before.keepings) done.0 turn in (
+        before.kept.c,
+        done.1,
+        record {
+          desk = before;
+          turn = looked.0;
+          far = looked.1.0;
+          found = looked.1.1;
+          gone = subst (HasGoneOn met start before) done.0 gone;
+          is = refl;
+        },
+      )
 
 module _ {J K : Type 0} (ghosts : Ghosts J K) (start : ArrayStart K) (laws : DeskTurns (desk_machines ghosts (lanes_in start))) (v : ArrayView K)
     (pass : IsPass start v) (idle : v.claims ≡ []) (n : ℕ)
@@ -434,28 +625,41 @@ module _ {J K : Type 0} (ghosts : Ghosts J K) (start : ArrayStart K) (laws : Des
       let was : places first.0.seen.register ≡ places v.seen.register = ap (λ (x : ArrayView K). places x.seen.register) drew in
       omega (arith, more, all, was)
 
-  pub kept_then : (k : Keeping) (w : ArrayView K) → HasPassed (desk_machines ghosts (lanes_in start)) start (at_desk k) back.0 w
-      → HasKept (machines (lanes_in start)) start k [] v w
-  kept_then k w passed =
-      let x = (laws.kept start n k v first taken back w (may_draw_desk start v pass idle) drew t
+  -- what was true of all keepings before is so of those before this one
+  pub kept_then : (P : List Keeping → Type 0) → P taken.0.seen.keepings → (k : Keeping) (w : ArrayView K)
+      → HasPassed (desk_machines ghosts (lanes_in start)) start (at_desk k) back.0 w → (t : HasKept (machines (lanes_in start)) start k [] v w)
+      × P t.before.keepings
+  kept_then P found k w passed =
+      let law = laws.kept start n k v first taken back w (may_draw_desk start v pass idle) drew t
       (turn.view_is ∙ (λ i. seeing taken.0 (claims_then i) back.0.seen))
       (subst (GrowsFrom back.0.seen) seen_then turn.longer)
       (turn.keepings ∙ ap (λ (h : ArrayLists). h.keepings) seen_then)
       (λ y named. turn.own_same y (subst (λ ns. 0 < times y ns) (sym (named_taken ghosts start v pass idle n first taken drew t)) named)
       ∙ ap (λ (h : ArrayLists). own y h.register) seen_then)
-      passed).0 in
-      subst (λ cs. HasKept (machines (lanes_in start)) start k cs v w) idle (record {
-        before = x.before;
-        seen = x.seen;
-        is = x.is;
-        begins = x.begins;
-        longer = x.longer;
-        keepings = x.keepings;
-        own_same = x.own_same;
-        legal = subst (λ (y : World (array_service (lanes_in start))). IsLegal (array_service (lanes_in start)) y
-            (history_of (array_service (lanes_in start)) x.seen)) (same_world ghosts (lanes_in start) start) x.legal;
-        unused = x.unused;
-      })
+      passed in
+      let x = law.0 in
+      subst (λ cs. (t : HasKept (machines (lanes_in start)) start k cs v w) × P t.before.keepings)
+      idle (
+        record {
+          before = x.before;
+          seen = x.seen;
+          is = x.is;
+          begins = x.begins;
+          longer = x.longer;
+          keepings = x.keepings;
+          own_same = x.own_same;
+          legal = subst (λ (y : World (array_service (lanes_in start))). IsLegal (array_service (lanes_in start)) y
+              (history_of (array_service (lanes_in start)) x.seen)) (same_world ghosts (lanes_in start) start) x.legal;
+          unused = x.unused;
+        },
+        subst (λ (h : ArrayLists). P h.keepings) (seen_then ∙ sym law.1) found,
+      )
+
+-- whether a flush was shared or not, it is one turn of the desk
+pub one_kept : {D : Type 0} (met : Disks D) (start : ArrayStart (Snapshot (Journal D met))) (place : ℕ) (result : Result ℕ Why)
+    (v w : ArrayView (Snapshot (Journal D met))) → HasFlushedPast met start place result v w
+    → (k : Keeping) × HasKept (machines (lanes_in start)) start k [] v w
+one_kept met start place result v w turn = ⊎_elim (λ shared. (_, shared.turn)) (λ flushed. (_, flushed.0.turn)) turn
 
 -- ---- the pass
 

@@ -24,12 +24,13 @@ use Rattle.hall_rule.specs.WholeTurns.{HasKept}
 use Rattle.service_histories.specs.ArrayServices.{array_service}
 use Rattle.hall.specs.Answers.{ArrayLists, ArrayStart, ArrayView, HasAnswered, HasGoneThrough}
 use Rattle.hall.specs.ArrayMachines.{lanes_in, machines}
-use Rattle.hall.specs.DeskTurns.{HasKeptTo}
+use Rattle.hall.specs.DeskTurns.{HasFlushedPast, HasKeptTo}
 use Rattle.hall.specs.KeptAnswers.{HasKeptFor, IsKeptPast, without_number}
 use Rattle.hall.specs.declared.journal.DeskWork.{DeskWork}
-use Rattle.hall.specs.declared.journal.DeskWork.TheVariants.{Flush, KeepRegister, Look}
+use Rattle.hall.specs.declared.journal.DeskWork.TheVariants.{Flush, FlushPast, KeepRegister, Look}
 use Rattle.hall.proofs.DenialLemmas.{is_in_list}
 use Rattle.hall.proofs.DeskTurnLemmas.{grows_on}
+use Rattle.hall.proofs.DeskWorkLemmas.{one_kept}
 use Rattle.hall.proofs.MemoryLemmas.{in_beginning}
 
 -- ---- the answer stays
@@ -117,6 +118,7 @@ module _ {D : Type 0} (met : Disks D) (start : ArrayStart (Snapshot (Journal D m
       → (w ≡ mid) ⊎ ((k : Keeping) × HasKept (machines (lanes_in start)) start k [] mid w)
   none_or_one None t = inl t.1
   none_or_one (Some Flush) t = inr (_, t.2.turn)
+  none_or_one (Some (FlushPast place)) t = inr (one_kept met start place t.0 mid w t.2)
   none_or_one (Some KeepRegister) t = inr (_, t.2.turn)
   none_or_one (Some Look) t = inr (_, t.2.2.turn)
 
@@ -138,6 +140,11 @@ module _ {D : Type 0} (met : Disks D) (start : ArrayStart (Snapshot (Journal D m
 
 -- ---- what is acknowledged is kept
 
+module _ {K : Type 0} (start : ArrayStart K) (k : Keeping) (v w : ArrayView K) (t : HasKept (machines (lanes_in start)) start k [] v w) where
+  item_seen : IsIn w.seen.keepings k
+  item_seen = is_in_list w.seen.keepings t.before.keepings k
+      ([], ap (λ (x : ArrayView K). x.seen.keepings) t.is ∙ t.keepings ∙ sym (append-nil _))
+
 -- the place lies below all that the pass had seen
 module _ {D : Type 0} (met : Disks D) (start : ArrayStart (Snapshot (Journal D met))) (v w : ArrayView (Snapshot (Journal D met)))
     (place front : ℕ) (front_is : front ≡ place + 1) (counted : front ≤ places v.seen.register) where
@@ -147,18 +154,25 @@ module _ {D : Type 0} (met : Disks D) (start : ArrayStart (Snapshot (Journal D m
       let k : Keeping = keeping_of met t.before t.after (Ok n) in
       let more = t.ok.1 in (
         k,
-        is_in_list w.seen.keepings t.turn.before.keepings k
-            ([], ap (λ (x : ArrayView (Snapshot (Journal D met))). x.seen.keepings) t.turn.is ∙ t.turn.keepings ∙ sym (append-nil _)),
+        item_seen start k v w t.turn,
         refl,
         subst (λ (m : ℕ). place < m) t.ok.0 (omega (arith, front_is, counted, more)),
       )
   past_by reached (Err why) done t = absurd (let never : ◌≡◌ {A = Result (Unit {0}) Why} (Err why) (Ok tt) = done in cc)
 
+  shared_past : (result : Result ℕ Why) → without_number result ≡ Ok tt → HasFlushedPast met start place result v w → IsKeptPast (λ r. r.c) w place
+  shared_past result done t = ⊎_elim
+      (λ shared.
+      let k : Keeping = record (keeping_of met shared.desk shared.desk (Ok shared.desk.kept.c)) { moment = met.moment shared.desk.at } in
+      (k, item_seen start k v w shared.turn, refl, shared.past))
+      (λ flushed. past_by (λ r. r.c) result done flushed.0)
+      t
+
   module _ (work : Option DeskWork) (kept : Result (Unit {0}) Why) (turn : HasKeptFor met work start kept v w) (done : kept ≡ Ok tt) where
-    pub flush_past : work ≡ Some Flush → IsKeptPast (λ r. r.c) w place
+    pub flush_past : work ≡ Some (FlushPast place) → IsKeptPast (λ r. r.c) w place
     flush_past is =
         let t = subst (λ (x : Option DeskWork). HasKeptFor met x start kept v w) is turn in
-        past_by (λ r. r.c) t.0 (sym t.1 ∙ done) t.2
+        shared_past t.0 (sym t.1 ∙ done) t.2
 
     pub change_past : work ≡ Some KeepRegister → IsKeptPast (λ r. r.p) w place
     change_past is =

@@ -15,3 +15,4 @@ pub mod JournalDeskLemmas
 pub mod DeskTurnLemmas
 pub mod DeskWorkLemmas
 pub mod KeptAnswerLemmas
+pub mod ReachLemmas

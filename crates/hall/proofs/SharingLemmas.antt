@@ -85,11 +85,12 @@ module _ {D K : Type 0} (met : Ghosts D K) (s : State) (start : ArrayStart K) (d
   pub noted : start.desk ≡ met.known desk.desk → desk.register.value ≡ start.register → desk.owners.value.items ≡ start.owners
       → start.register ≡ s.register → start.owners ≡ s.lanes
       → met.IsSince desk.desk (record { register = s.register; owners = s.lanes; desk = met.known desk.desk })
-      → met.note desk.desk s.lanes ≡ nothing s.lanes → IsFreshDesk (desk_machines met (lanes_in start)) start desk
+      → met.note desk.desk s.lanes ≡ nothing s.lanes → met.HasTold desk.desk (met.known desk.desk) [] → IsFreshDesk (desk_machines met (lanes_in start)) start desk
   unfolding desk_machines
-  noted known registers owners register_is owners_are since note = record {
+  noted known registers owners register_is owners_are since note none = record {
     known_by = subst (met.IsSince desk.desk)
         (λ i. record { register = sym (registers ∙ register_is) i; owners = sym (owners ∙ owners_are) i; desk = sym known i }) since;
+    told = subst (λ (first : K). met.HasTold desk.desk first []) (sym known) none;
     note = subst (λ (os : List Lane). met.note desk.desk os ≡ nothing os) (sym (owners ∙ owners_are)) note
         ∙ ap nothing owners;
     register = registers;
@@ -182,6 +183,7 @@ module _ {D K : Type 0} (met : Ghosts D K) (start : ArrayStart K) (opened : IsOp
         since = subst (met.IsSince desk.desk) (λ i. record { register = is.register i; owners = owners_are i; desk = start.desk }) is.since;
         uncut = subst (λ (os : List Lane). GrowsUncut closed.seen (met.note desk.desk os)) owners_are is.uncut;
         far = is.far;
+        told = is.told;
         kept = λ k here ok. subst (λ (os : List Lane). IsIn (met.note desk.desk os).keepings k
             ⊎ ((k.own ≡ met.reach desk.desk) × (k.moment ≡ met.moment desk.desk))) owners_are (is.kept k here ok);
       }

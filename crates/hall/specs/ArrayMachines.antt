@@ -39,6 +39,7 @@ machines lanes = record {
   news = λ d. None;
   reach = λ d. record { c = 0; p = 0 };
   moment = λ d. 0;
+  HasTold = λ d first keepings. Unit {0};
 }
 
 -- the rule of a hall's table is over these
@@ -58,6 +59,7 @@ desk_machines met lanes = record {
   news = λ d. met.news d.desk;
   reach = λ d. met.reach d.desk;
   moment = λ d. met.moment d.desk;
+  HasTold = λ d first keepings. met.HasTold d.desk first keepings;
 }
 
 unfoldable pub start_of : {M N E : Type 0} → Opening M N E → Start M N E

@@ -1,15 +1,19 @@
 -- What a turn of a journal's desk does.
 --     IsBehind ..          the desk's note may be brought up to what was seen
 --     HasKeptAll ..        what a desk says of a flush, or of a keeping of the catalogue
+--     HasDonePast ..       of a flush that is asked for a place
 --     HasDone met work ..  of whichever was asked of it
 --     HasGoneOn ..         from what the desk was before a turn to what it is after it
 --     IsTurnOf met work .. so of a whole turn
 --     HasFlushed ..        what a turn leaves in which the desk kept what was done
 --     HasKeptRegister ..   so of one in which it kept the catalogue
+--     HasShared ..         of one in which the place was kept already
+--     HasFlushedPast ..    and of one in which a flush was asked for a place
 --     HasLooked ..         and of one in which nothing was asked of the disk
 --     IsInTurn ..          how a pass stands between two steps of it
-use Rattle.std.specs.Prelude.{◌≡◌, ◌≢◌, ℕ, ◌<◌, ◌≤◌, List, [], ◌∷◌, Option, Some, None, Result, Ok, length}
+use Rattle.std.specs.Prelude.{◌≡◌, ◌≢◌, ◌⊎◌, ℕ, ◌<◌, ◌≤◌, List, [], ◌∷◌, Option, Some, None, Result, Ok, length}
 use Rattle.std.specs.Prelude.{IfErr, IfOk, IsErr, OnOk, true}
+use Rattle.std.specs.List.{AllByRecursion}
 use Rattle.std.specs.declared.snapshot.Snapshot.{Snapshot}
 use Rattle.edge_traits.specs.declared.disk.Disk.{Ghosts as Disks}
 use Rattle.flush_journal.specs.Standing.{disk_of}
@@ -17,11 +21,12 @@ use Rattle.flush_journal.specs.Unchanged.{SameDisk}
 use Rattle.flush_journal.specs.declared.journal.Journal.{Journal}
 use Rattle.flush_journal.specs.declared.why.Why.{Why}
 use Rattle.journal_desk.specs.Cuts.{Resumes}
-use Rattle.journal_desk.specs.Keepings.{AreItsKeepings, Continues, HasKept as KeepsSince, IsAllKept, IsFullWhere, MayRefuseTurn, keeping_of}
+use Rattle.journal_desk.specs.Keepings.{AreItsKeepings, Continues, HasKept as KeepsSince, IsAllKept, IsFullWhere, MayRefuseTurn, SettlesFirst, keeping_of}
 use Rattle.journal_desk.specs.Notes.{NoteOf}
 use Rattle.journal_desk.specs.Standing.{Standing}
 use Rattle.register.specs.declared.tickets.Turn.{Turn}
 use Rattle.lane_histories.specs.Histories.{cut_of, own, places}
+use Rattle.lane_histories.specs.KeptContents.{IsAsFar}
 use Rattle.lane_histories.specs.Legal.{IsLegal}
 use Rattle.lane_histories.specs.declared.items.Answer.TheVariants.{Looked}
 use Rattle.lane_histories.specs.declared.items.Reach.{Reach}
@@ -38,10 +43,10 @@ use Rattle.hall_rule.specs.declared.queue.Queue.TheVariants.{OfDesk}
 use Rattle.hall.specs.Answers.{ArrayStart, ArrayView}
 use Rattle.hall.specs.ArrayMachines.{IsOpened, lanes_in, machines}
 use Rattle.hall.specs.Cutting.{AreCutTickets}
-use Rattle.hall.specs.JournalDesks.{IsJournalSince}
+use Rattle.hall.specs.JournalDesks.{IsJournalSince, left_after, left_first, left_of}
 use Rattle.hall.specs.Notes.{hall_notes}
 use Rattle.hall.specs.declared.journal.DeskWork.{DeskWork}
-use Rattle.hall.specs.declared.journal.DeskWork.TheVariants.{Flush, KeepRegister, Look}
+use Rattle.hall.specs.declared.journal.DeskWork.TheVariants.{Flush, FlushPast, KeepRegister, Look}
 use Rattle.hall.specs.declared.note.HallNote.{HallNote}
 
 -- ---- the desk
@@ -63,36 +68,49 @@ pub record HasKeptAll {D N : Type 0} (met : Disks D) (notes : NoteOf N) (reached
   pub all : OnOk result (IsAllKept after)
   pub cause : IfErr result (MayRefuseTurn met before after)
   pub full : IsFullWhere met after result
+  pub first : SettlesFirst met before after result
   pub stopped : before.pending ≢ None → met.stopped before.disk → IsErr result
+
+-- where the place is kept already all stays, and the answer is the number kept; else all is flushed
+pub record HasDonePast {D N : Type 0} (met : Disks D) (notes : NoteOf N) (place : ℕ) (before after : Standing D N) (result : Result ℕ Why)
+    : Type 0 where
+  pub shared : place < before.kept.c → (after ≡ before) × (result ≡ Ok before.kept.c)
+  pub flushed : before.kept.c ≤ place → HasKeptAll met notes (λ r. r.c) before after result
 
 abbrev pub HasDone : {D N : Type 0} → Disks D → NoteOf N → DeskWork → Standing D N → Standing D N → Result ℕ Why → Type 0
 HasDone met notes Flush before after result = HasKeptAll met notes (λ r. r.c) before after result
+HasDone met notes (FlushPast place) before after result = HasDonePast met notes place before after result
 HasDone met notes KeepRegister before after result = HasKeptAll met notes (λ r. r.p) before after result
 HasDone met notes Look before after result = (after ≡ before) × (result ≡ Ok before.kept.c)
 
 -- ---- whole turns
 
 -- A hall's desk went on so: its disk from the one with which the hall began, and what was kept stays kept. Whatever a crash since then
--- leaves is kept from the lists that it has noted, at least as far as it reaches.
+-- leaves is kept from the lists that it has noted, at least as far as it reaches; so is what one left since that was reached.
 pub record HasGoneOn {D : Type 0} (met : Disks D) (start : ArrayStart (Snapshot (Journal D met)))
     (before after : Standing D (HallNote (Snapshot (Journal D met)))) : Type 0 where
   pub first : SameDisk met (disk_of start.desk.value) before.disk
   pub went : Continues met (hall_notes (lanes_in start)) before after
   pub since : IsJournalSince met after start
   pub images : met.honest → KeepsSince met (hall_notes (lanes_in start)) after (met.moment after.disk) after.kept
+  pub reached : met.honest → KeepsSince met (hall_notes (lanes_in start)) after (met.moment after.at) after.kept
+  pub by_now : met.honest → met.moment after.at ≤ met.moment after.disk
 
--- The desk went on from `before` to `after`, and this is its keeping. The answer is the number reached, and at least the places that
--- the pass had seen.
+-- The desk went on from `before`, which is what the last keeping before it left, to `after`, and this is its keeping; no earlier one
+-- reaches farther than `before`. The answer is the number reached, and at least the places that the pass had seen.
 pub record HasKeptTo {D : Type 0} (met : Disks D) (reached : Reach → ℕ) (start : ArrayStart (Snapshot (Journal D met)))
     (result : Result ℕ Why) (v w : ArrayView (Snapshot (Journal D met))) : Type 0 where
   pub before : Standing D (HallNote (Snapshot (Journal D met)))
   pub after : Standing D (HallNote (Snapshot (Journal D met)))
   pub turn : HasKept (machines (lanes_in start)) start (keeping_of met before after result) [] v w
+  pub far : AllByRecursion (λ k. IsAsFar k.own before.kept) turn.before.keepings
+  pub found : left_of before ≡ left_after (left_first start.desk.value) turn.before.keepings
   pub gone : HasGoneOn met start before after
   pub ok : IfOk result (λ n. (n ≡ reached after.kept) × (places v.seen.register ≤ n))
   pub all : OnOk result (IsAllKept after)
   pub cause : IfErr result (MayRefuseTurn met before after)
   pub full : IsFullWhere met after result
+  pub first : SettlesFirst met before after result
   -- where a batch was pending on a disk that had stopped, it is refused
   pub stopped : before.pending ≢ None → met.stopped before.disk → IsErr result
 
@@ -106,12 +124,33 @@ abbrev pub HasKeptRegister : {D : Type 0} (met : Disks D) → ArrayStart (Snapsh
     → ArrayView (Snapshot (Journal D met)) → ArrayView (Snapshot (Journal D met)) → Type 0
 HasKeptRegister met start result v w = HasKeptTo met (λ r. r.p) start result v w
 
--- the desk stayed as it was; the answer is its own number
+-- The desk stayed as it was, and no earlier keeping reaches farther. It keeps the place already, so this is one keeping more of what it keeps,
+-- since that was reached.
+pub record HasShared {D : Type 0} (met : Disks D) (start : ArrayStart (Snapshot (Journal D met))) (place : ℕ) (result : Result ℕ Why)
+    (v w : ArrayView (Snapshot (Journal D met))) : Type 0 where
+  pub desk : Standing D (HallNote (Snapshot (Journal D met)))
+  pub turn : HasKept (machines (lanes_in start)) start
+      (record (keeping_of met desk desk (Ok desk.kept.c)) { moment = met.moment desk.at }) [] v w
+  pub far : AllByRecursion (λ k. IsAsFar k.own desk.kept) turn.before.keepings
+  pub found : left_of desk ≡ left_after (left_first start.desk.value) turn.before.keepings
+  pub gone : HasGoneOn met start desk desk
+  pub past : place < desk.kept.c
+  pub is : result ≡ Ok desk.kept.c
+
+-- shared exactly where the desk kept the place already
+abbrev pub HasFlushedPast : {D : Type 0} (met : Disks D) → ArrayStart (Snapshot (Journal D met)) → ℕ → Result ℕ Why
+    → ArrayView (Snapshot (Journal D met)) → ArrayView (Snapshot (Journal D met)) → Type 0
+HasFlushedPast met start place result v w =
+    HasShared met start place result v w ⊎ ((flushed : HasFlushed met start result v w) × (flushed.before.kept.c ≤ place))
+
+-- the desk stayed as it was, and no earlier keeping reaches farther; the answer is its own number
 pub record HasLooked {D : Type 0} (met : Disks D) (start : ArrayStart (Snapshot (Journal D met))) (result : ℕ)
     (v w : ArrayView (Snapshot (Journal D met))) : Type 0 where
   pub desk : Standing D (HallNote (Snapshot (Journal D met)))
   pub turn : HasKept (machines (lanes_in start)) start
       (record (keeping_of met desk desk (Ok result)) { answer = Looked }) [] v w
+  pub far : AllByRecursion (λ k. IsAsFar k.own desk.kept) turn.before.keepings
+  pub found : left_of desk ≡ left_after (left_first start.desk.value) turn.before.keepings
   pub gone : HasGoneOn met start desk desk
   pub is : result ≡ desk.kept.c
 
@@ -119,6 +158,7 @@ pub record HasLooked {D : Type 0} (met : Disks D) (start : ArrayStart (Snapshot 
 abbrev pub IsTurnOf : {D : Type 0} (met : Disks D) → DeskWork → ArrayStart (Snapshot (Journal D met)) → Result ℕ Why
     → ArrayView (Snapshot (Journal D met)) → ArrayView (Snapshot (Journal D met)) → Type 0
 IsTurnOf met Flush start result v w = HasFlushed met start result v w
+IsTurnOf met (FlushPast place) start result v w = HasFlushedPast met start place result v w
 IsTurnOf met KeepRegister start result v w = HasKeptRegister met start result v w
 IsTurnOf met Look start result v w = (n : ℕ) × (result ≡ Ok n) × HasLooked met start n v w
 

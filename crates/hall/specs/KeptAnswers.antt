@@ -1,9 +1,9 @@
 -- A request that is kept before its answer acknowledges it.
---     work_of op             what a turn of the desk keeps before the operation is acknowledged
---     work_for op what       so where the answer says that it was done
---     HasKeptFor met work .. what is to be kept was, or was refused, in one turn of the desk
---     HasKeptBehind met ..   so behind the answer of a request
---     IsKeptPast ..          a keeping that was answered Ok reaches past a place
+--     work_of op place         what is asked of the desk before the operation is acknowledged
+--     work_for op place what   so where the answer says that it was done
+--     HasKeptFor met work ..   what is to be kept was, or was refused, in one turn of the desk
+--     HasKeptBehind met ..     so behind the answer of a request
+--     IsKeptPast ..            a keeping that was answered Ok reaches past a place
 use Rattle.std.specs.Prelude.{◌≡◌, ℕ, ◌<◌, Option, Some, None, Result, Ok, Err}
 use Rattle.std.specs.declared.snapshot.Snapshot.{Snapshot}
 use Rattle.access_lists.specs.declared.people.Caller.{Caller}
@@ -23,43 +23,43 @@ use Rattle.lane_histories.specs.declared.items.Reach.{Reach}
 use Rattle.hall.specs.Answers.{ArrayStart, ArrayView, HasAnswered}
 use Rattle.hall.specs.DeskTurns.{IsTurnOf}
 use Rattle.hall.specs.declared.journal.DeskWork.{DeskWork}
-use Rattle.hall.specs.declared.journal.DeskWork.TheVariants.{Flush, KeepRegister}
+use Rattle.hall.specs.declared.journal.DeskWork.TheVariants.{FlushPast, KeepRegister}
 use Rattle.hall.specs.declared.kept_answer.KeptAnswer.{KeptAnswer}
 
 -- ---- what is kept first
 
-abbrev pub work_of : Op → Option DeskWork
-work_of op.Flush = Some Flush
-work_of (op.PutNode folder) = Some KeepRegister
-work_of op.DropNode = Some KeepRegister
-work_of (op.PutAcl name rights) = Some KeepRegister
-work_of op.GetNode = None
-work_of op.ListNodes = None
-work_of op.GetAcls = None
-work_of (op.GetAcl name) = None
-work_of (op.MakeObject make link) = None
-work_of (op.GetObject id) = None
-work_of (op.DropObject id) = None
-work_of (op.ListLinks id) = None
-work_of (op.GetLink id title) = None
-work_of (op.PutLink id title link) = None
-work_of (op.DropLink id title) = None
-work_of (op.ListAttributes id) = None
-work_of (op.GetAttribute id name) = None
-work_of (op.PutAttribute id name attribute) = None
-work_of (op.DropAttribute id name) = None
-work_of (op.GetShape id) = None
-work_of (op.PutShape id dims) = None
-work_of (op.GetElem id) = None
-work_of (op.GetValue id select) = None
-work_of (op.PutValue id part value) = None
-work_of (op.GetPoints id points) = None
+abbrev pub work_of : Op → ℕ → Option DeskWork
+work_of op.Flush place = Some (FlushPast place)
+work_of (op.PutNode folder) place = Some KeepRegister
+work_of op.DropNode place = Some KeepRegister
+work_of (op.PutAcl name rights) place = Some KeepRegister
+work_of op.GetNode place = None
+work_of op.ListNodes place = None
+work_of op.GetAcls place = None
+work_of (op.GetAcl name) place = None
+work_of (op.MakeObject make link) place = None
+work_of (op.GetObject id) place = None
+work_of (op.DropObject id) place = None
+work_of (op.ListLinks id) place = None
+work_of (op.GetLink id title) place = None
+work_of (op.PutLink id title link) place = None
+work_of (op.DropLink id title) place = None
+work_of (op.ListAttributes id) place = None
+work_of (op.GetAttribute id name) place = None
+work_of (op.PutAttribute id name attribute) place = None
+work_of (op.DropAttribute id name) place = None
+work_of (op.GetShape id) place = None
+work_of (op.PutShape id dims) place = None
+work_of (op.GetElem id) place = None
+work_of (op.GetValue id select) place = None
+work_of (op.PutValue id part value) place = None
+work_of (op.GetPoints id points) place = None
 
-abbrev pub work_for : Op → What → Option DeskWork
-work_for asked (what.Replied (reply.Done status body)) = work_of asked
-work_for asked (what.Replied (reply.Refused refusal)) = None
-work_for asked (what.Denied right) = None
-work_for asked what.NoMemory = None
+abbrev pub work_for : Op → ℕ → What → Option DeskWork
+work_for asked place (what.Replied (reply.Done status body)) = work_of asked place
+work_for asked place (what.Replied (reply.Refused refusal)) = None
+work_for asked place (what.Denied right) = None
+work_for asked place what.NoMemory = None
 
 -- ---- the turn of the desk
 
@@ -79,7 +79,7 @@ pub record HasKeptBehind {D : Type 0} (met : Disks D) (start : ArrayStart (Snaps
     (result : KeptAnswer) (v w : ArrayView (Snapshot (Journal D met))) : Type 0 where
   pub mid : ArrayView (Snapshot (Journal D met))
   pub answered : HasAnswered start caller request result.answer v mid
-  pub kept : HasKeptFor met (work_for request.op result.answer.what) start result.kept mid w
+  pub kept : HasKeptFor met (work_for request.op result.answer.place result.answer.what) start result.kept mid w
 
 -- among those that the pass has seen
 abbrev pub IsKeptPast : {K : Type 0} → (Reach → ℕ) → ArrayView K → ℕ → Type 0

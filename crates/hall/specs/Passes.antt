@@ -152,12 +152,14 @@ pub record HasEnded {K : Type 0} (start : ArrayStart K) (v : ArrayView K) (s : S
 
 -- The desk is one that a hall which began so may have made of its own: the lists of its note begin
 -- the history, and behind them nobody cut. No keeping reaches farther than the desk, and each that
--- was answered Ok is in the note or is the desk's last.
+-- was answered Ok is in the note or is the desk's last. They are what a desk that went on from the
+-- first one to this one may have told.
 pub record IsDeskAtEnd {D K : Type 0} (met : Ghosts D K) (start : ArrayStart K) (seen : ArrayLists)
     (desk : D) : Type 0 where
   pub since : met.IsSince desk start
   pub uncut : GrowsUncut seen (met.note desk start.owners)
   pub far : AllByRecursion (λ k. IsAsFar k.own (met.reach desk)) seen.keepings
+  pub told : met.HasTold desk start.desk seen.keepings
   pub kept : (k : Keeping) → IsIn seen.keepings k → k.answer ≡ Kept
       → IsIn (met.note desk start.owners).keepings k
       ⊎ ((k.own ≡ met.reach desk) × (k.moment ≡ met.moment desk))

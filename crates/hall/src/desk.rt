@@ -35,6 +35,9 @@ pub trait AtDesk: Drop {
 
     ghost moment: { Self → ℕ };
 
+    /// A desk that was known by this may have come to be it by turns that added these keepings.
+    ghost HasTold: { Self → Self.KnownBy → List Keeping → Type 0 };
+
     /// By what a hall that begins with it will know it.
     fn known_by(&self) -> Snapshot<Self::KnownBy>
         ensures { result.value ≡ known self.now };
@@ -58,6 +61,8 @@ impl AtDesk for () {
     ghost reach = { λ d. record { c = 0; p = 0 } };
 
     ghost moment = { λ d. 0 };
+
+    ghost HasTold = { λ d known keepings. Unit {0} };
 
     fn known_by(&self) -> Snapshot<()> {
         Snapshot::of(self)

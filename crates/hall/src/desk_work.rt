@@ -2,7 +2,7 @@
 ghost use Rattle.std.specs.Prelude.{◌≡◌, Some};
 ghost use Rattle.journal_desk.specs.Keepings.{Continues, IsUpTo};
 ghost use Rattle.journal_desk.specs.Notes.{AreAlike, at_lanes};
-ghost use Rattle.hall.specs.DeskTurns.{HasDone, IsBehind};
+ghost use Rattle.hall.specs.DeskTurns.{HasDone, HasDonePast, IsBehind};
 ghost use Rattle.hall.specs.Notes.{hall_notes};
 ghost use Rattle.hall.specs.declared.journal.DeskNews.{DeskNews};
 
@@ -12,6 +12,30 @@ use edge_traits::Disk;
 use flush_journal::{Journal, Why};
 use journal_desk::{Desk, Note, Turns};
 use std::snapshot::Snapshot;
+
+// Flushes, unless the place is kept already.
+fn flush_past<D: Disk, N: Note, T: Turns<N>>(
+    desk: &mut Desk<D, N>,
+    turns: &mut T,
+    place: u64,
+) -> Result<u64, Why>
+    requires here { IsUpTo N.Note desk.old (T.lanes turns.old) (T.seen turns.old) }
+    requires lanes { T.next_lane turns.old ≡ (N.kept (T.lanes turns.old)).service.lanes }
+    requires ready { T.ready turns.old }
+    ensures continues { Continues D.Disk (at_lanes N.Note desk.old.lanes) desk.old desk.new }
+    ensures here { IsUpTo N.Note desk.new (T.lanes turns.new) (T.seen turns.new) }
+    ensures lanes { T.next_lane turns.new ≡ (N.kept (T.lanes turns.new)).service.lanes }
+    ensures ready { T.ready turns.new }
+    ensures fixed { T.fixed turns.new ≡ T.fixed turns.old }
+    ensures done { HasDonePast D.Disk (at_lanes N.Note desk.old.lanes) place desk.old desk.new
+        result }
+{
+    let kept = desk.kept().c;
+    if place < kept {
+        return Ok(kept);
+    }
+    desk.flush(turns)
+}
 
 // Does what is asked of a desk. In a look nothing is asked of the disk.
 fn do_work<D: Disk, N: Note, T: Turns<N>>(
@@ -31,6 +55,7 @@ fn do_work<D: Disk, N: Note, T: Turns<N>>(
 {
     match work {
         DeskWork::Flush => desk.flush(turns),
+        DeskWork::FlushPast { place } => flush_past(desk, turns, place),
         DeskWork::KeepRegister => desk.keep_register(turns),
         DeskWork::Look => Ok(desk.kept().c),
     }

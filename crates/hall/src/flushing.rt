@@ -7,7 +7,8 @@ ghost use Rattle.hall_rule.specs.declared.queue.Queue.TheVariants.{OfDesk};
 ghost use Rattle.journal_desk.specs.Keepings.{Continues};
 ghost use Rattle.journal_desk.specs.Notes.{AreAlike};
 ghost use Rattle.hall.specs.ArrayMachines.{IsOpened, lanes_in};
-ghost use Rattle.hall.specs.DeskTurns.{HasDone, HasFlushed, HasKeptRegister, HasLooked};
+ghost use Rattle.hall.specs.DeskTurns.{HasDone, HasFlushed, HasFlushedPast, HasKeptRegister};
+ghost use Rattle.hall.specs.DeskTurns.{HasLooked};
 ghost use Rattle.hall.specs.DeskTurns.{IsBehind, IsInTurn, IsTurnOf, note_seen};
 ghost use Rattle.hall.specs.Notes.{hall_notes};
 ghost use Rattle.hall.specs.Passes.{IsPassOf, opening, view_of, who};
@@ -148,6 +149,7 @@ impl<D: Disk + Drop> Hall<JournalDesk<D>> {
         let mut noted = self.table.shared.exchange(seat, 1, Slot::Away).into_desk();
         let result = self.work(rt, seat, &mut noted.desk, work);
         noted.desk.images_are_kept();
+        noted.desk.keepings_are_kept();
         self.table.shared.exchange(seat, 1, Slot::AtDesk(noted));
         self.leave(seat, Queue::OfDesk);
         result
@@ -170,6 +172,24 @@ impl<D: Disk + Drop> Hall<JournalDesk<D>> {
             (view_of pass.new) }
     {
         self.take_desk(rt, &mut pass.seat, DeskWork::Flush)
+    }
+
+    // Keeps all that was done, unless the desk finds in its turn that the place is kept already. Then
+    // nothing is asked of the disk, and so many places as it keeps are answered. So callers who wait
+    // for the desk at the same time share one flush.
+    pub(crate) fn flush_past<W: Wait>(
+        &self,
+        rt: &W,
+        pass: &mut Pass<JournalDesk<D>>,
+        place: u64,
+    ) -> Result<u64, Why>
+        requires of_this_hall { IsPassOf self.now pass.old }
+        ensures of_this_hall { IsPassOf self.now pass.new }
+        ensures same { (who pass.new ≡ who pass.old) × (pass.new.front ≡ pass.old.front) }
+        ensures flushed { HasFlushedPast D.Disk (opening self.now) place result (view_of pass.old)
+            (view_of pass.new) }
+    {
+        self.take_desk(rt, &mut pass.seat, DeskWork::FlushPast { place })
     }
 
     /// Keeps the catalogue, with what earlier cuts of lanes left to be appended: as `flush`, without

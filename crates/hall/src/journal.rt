@@ -30,12 +30,16 @@ pub struct JournalDesk<D: Disk> {
     pub(crate) turn: Option<DeskNews>,
 }
 
-/// What is asked of the desk in its turn: a flush, a keeping of the catalogue, or a look at how many
-/// places are kept.
+/// What is asked of the desk in its turn.
 #[derive(Clone, Copy)]
 pub enum DeskWork {
+    /// A flush.
     Flush,
+    /// A flush, but where the place is kept already nothing.
+    FlushPast { place: u64 },
+    /// A keeping of the catalogue.
     KeepRegister,
+    /// A look at how many places are kept.
     Look,
 }
 
@@ -47,7 +51,7 @@ pub struct DeskNews {
 }
 
 impl<D: Disk + Drop> AtDesk for JournalDesk<D> {
-    ghost use Rattle.hall.specs.JournalDesks.{IsJournalSince, keeping_by};
+    ghost use Rattle.hall.specs.JournalDesks.{AreTold, IsJournalSince, keeping_by};
     ghost use Rattle.hall.specs.Notes.{of_lanes, seen_in};
 
     type KnownBy = Snapshot<Journal<D>>;
@@ -64,6 +68,9 @@ impl<D: Disk + Drop> AtDesk for JournalDesk<D> {
     ghost reach = { λ d. d.desk.kept };
 
     ghost moment = { λ d. D.moment d.desk.at };
+
+    ghost HasTold = { λ d first keepings.
+        AreTold D.Disk first.value d.desk keepings };
 
     fn known_by(&self) -> Snapshot<Snapshot<Journal<D>>> {
         Snapshot::of(&self.first)
@@ -86,23 +93,23 @@ fn are_owners(owners: &Owners, lanes: u32)
 }
 
 impl<D: Disk> JournalDesk<D> {
-    ghost use Rattle.std.specs.Prelude.{List};
+    ghost use Rattle.std.specs.Prelude.{◌≤◌, List, []};
     ghost use Rattle.std.specs.List.{AllByRecursion};
     ghost use Rattle.hall_rule.specs.Seen.{nothing};
     ghost use Rattle.journal_desk.specs.Desks.{HoldsAsFar, HoldsKept};
     ghost use Rattle.journal_desk.specs.Keepings.{HasKept, lists};
     ghost use Rattle.lane_histories.specs.Desks.{nowhere};
-    ghost use Rattle.lane_histories.specs.Histories.{IsIn};
+    ghost use Rattle.lane_histories.specs.Histories.{IsIn, places};
     ghost use Rattle.lane_histories.specs.KeptContents.{IsAsFar};
     ghost use Rattle.lane_histories.specs.declared.items.Answer.TheVariants.{Kept};
     ghost use Rattle.lane_histories.specs.declared.items.Keeping.{Keeping};
     ghost use Rattle.service_histories.specs.KeptArrays.{array_kept};
-    ghost use Rattle.hall.specs.JournalDesks.{HoldsWorld, IsJournalSince};
+    ghost use Rattle.hall.specs.JournalDesks.{AreTold, HoldsWorld, IsJournalSince};
     ghost use Rattle.hall.specs.Notes.{hall_notes, of_lanes, seen_in};
     ghost use Rattle.hall.specs.Passes.{IsNewWorld};
 
     /// The desk of a journal that holds a world, for a hall that begins with the world. No request
-    /// came to it yet.
+    /// came to it yet, nothing was cut, and nothing is pending.
     pub fn begin(alloc: Global, world: World, journal: Journal<D>) -> (World, JournalDesk<D>)
         requires new { IsNewWorld world }
         requires idle { pending_of journal ≡ None }
@@ -117,8 +124,10 @@ impl<D: Disk> JournalDesk<D> {
         ensures note { of_lanes (length world.lanes) (seen_in result.1.desk.note)
             ≡ nothing world.lanes }
         ensures first { result.1.first.value ≡ journal }
+        ensures told { AreTold D.Disk result.1.first.value result.1.desk [] }
         ensures disk { result.1.desk.disk ≡ disk_of journal }
-        ensures reach { result.1.desk.kept ≡ nowhere }
+        ensures idle { (result.1.desk.pending ≡ None) × (result.1.desk.building ≡ []) }
+        ensures reach { (result.1.desk.cut ≡ nowhere) × (result.1.desk.kept ≡ nowhere) }
         ensures turn { result.1.turn ≡ None }
     {
         worlds_open();
@@ -170,7 +179,7 @@ impl<D: Disk> JournalDesk<D> {
 
     /// For each keeping in the note that was answered Ok: whatever a crash since its moment left is
     /// kept with numbers at least as large. So it is for what the desk keeps, since it was reached.
-    /// No keeping in the note reaches farther.
+    /// None of these moments is later than the disk's. No keeping in the note reaches farther.
     pub fn keepings_are_kept(&self)
         ensures each { D.honest → (k : Keeping)
             → IsIn (lists D.Disk (hall_notes self.now.desk.lanes) self.now.desk).keepings k
@@ -178,16 +187,22 @@ impl<D: Disk> JournalDesk<D> {
             → HasKept D.Disk (hall_notes self.now.desk.lanes) self.now.desk k.moment k.own }
         ensures own { D.honest → HasKept D.Disk (hall_notes self.now.desk.lanes) self.now.desk
             (D.moment self.now.desk.at) self.now.desk.kept }
+        ensures moments { D.honest → (k : Keeping)
+            → IsIn (lists D.Disk (hall_notes self.now.desk.lanes) self.now.desk).keepings k
+            → k.answer ≡ Kept → k.moment ≤ D.moment self.now.desk.disk }
+        ensures reached { D.honest → D.moment self.now.desk.at ≤ D.moment self.now.desk.disk }
         ensures far { AllByRecursion (λ k. IsAsFar k.own self.now.desk.kept)
             (lists D.Disk (hall_notes self.now.desk.lanes) self.now.desk).keepings }
     {
         self.desk.keepings_are_kept();
     }
 
-    /// How far what the disk holds reaches.
+    /// How far what the disk holds reaches: to no place that isn't in the note's lists.
     pub fn kept(&self) -> Reach
-        ensures { result ≡ self.now.desk.kept }
+        ensures reach { result ≡ self.now.desk.kept }
+        ensures few { self.now.desk.kept.c ≤ places (seen_in self.now.desk.note).register }
     {
+        self.desk.reach_is_of_cuts();
         self.desk.kept()
     }
 

@@ -29,23 +29,24 @@ pub struct KeptAnswer {
     pub kept: Result<(), Why>,
 }
 
-/// What is asked of the desk before this is answered, if anything: a flush where a flush is done, and
-/// a keeping of the catalogue where a change of a folder, a domain or an access list is.
-pub fn work_for(op: &Op, what: &What) -> Option<DeskWork>
-    ensures { result ≡ work_for op.now what.now }
+/// What is asked of the desk before this is answered, if anything: where a flush is done, a flush that
+/// keeps its place, and where a change of a folder, a domain or an access list is, a keeping of the
+/// catalogue.
+pub fn work_for(op: &Op, place: u64, what: &What) -> Option<DeskWork>
+    ensures { result ≡ work_for op.now place what.now }
 {
     match what {
-        What::Replied(Reply::Done { .. }) => work_of(op),
+        What::Replied(Reply::Done { .. }) => work_of(op, place),
         What::Replied(Reply::Refused(_)) | What::Denied { .. } | What::NoMemory => None,
     }
 }
 
 // So where it is done.
-fn work_of(op: &Op) -> Option<DeskWork>
-    ensures { result ≡ work_of op.now }
+fn work_of(op: &Op, place: u64) -> Option<DeskWork>
+    ensures { result ≡ work_of op.now place }
 {
     match op {
-        Op::Flush => Some(DeskWork::Flush),
+        Op::Flush => Some(DeskWork::FlushPast { place }),
         Op::PutNode { .. } | Op::DropNode | Op::PutAcl { .. } => Some(DeskWork::KeepRegister),
         Op::GetNode
         | Op::ListNodes
@@ -87,6 +88,7 @@ impl<D: Disk + Drop> Hall<JournalDesk<D>> {
     {
         match work {
             DeskWork::Flush => self.flush(rt, pass),
+            DeskWork::FlushPast { place } => self.flush_past(rt, pass, place),
             DeskWork::KeepRegister => self.keep_register(rt, pass),
             DeskWork::Look => Ok(self.kept(rt, pass)),
         }
@@ -112,8 +114,8 @@ impl<D: Disk + Drop> Hall<JournalDesk<D>> {
     }
 
     /// Answers one request as `ask` does. A flush that is done, and a change of a folder, a domain or
-    /// an access list that is done, is kept before it is answered, in a turn of the desk. Waits for
-    /// turns.
+    /// an access list that is done, is kept before it is answered, in a turn of the desk. A flush whose
+    /// place is kept by then asks nothing of the disk. Waits for turns.
     ///
     /// `kept` has the errors of `flush`: the change then stands, and isn't acknowledged.
     pub fn ask_kept<W: Wait, G: Gate>(
@@ -146,18 +148,21 @@ impl<D: Disk + Drop> Hall<JournalDesk<D>> {
 
         // Where a flush is acknowledged, a keeping that the pass has seen, which was answered Ok, has
         // its place and all before it.
-        ensures flushed { work_for request.now.op result.answer.what ≡ Some DeskWork.Flush
+        ensures flushed { work_for request.now.op result.answer.place result.answer.what
+            ≡ Some (DeskWork.FlushPast result.answer.place)
             → result.kept ≡ Ok tt → IsKeptPast (λ r. r.c) (view_of pass.new) result.answer.place }
 
         // Where a change of the catalogue is, one has the catalogue with it.
-        ensures changed { work_for request.now.op result.answer.what ≡ Some DeskWork.KeepRegister
+        ensures changed { work_for request.now.op result.answer.place result.answer.what
+            ≡ Some DeskWork.KeepRegister
             → result.kept ≡ Ok tt → IsKeptPast (λ r. r.p) (view_of pass.new) result.answer.place }
     {
         histories_are_legal();
         replies_are_replays();
         verdicts_come_exactly();
         let answer = self.ask(rt, pass, gate, caller, request);
-        let kept = self.keep_first(rt, pass, work_for(&request.op, &answer.what));
+        let work = work_for(&request.op, answer.place, &answer.what);
+        let kept = self.keep_first(rt, pass, work);
         KeptAnswer { answer, kept }
     }
 }

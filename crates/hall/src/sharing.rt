@@ -74,13 +74,14 @@ impl<D: AtDesk> Hall<D> {
         requires some_pass { 1 ≤ passes }
         requires new { IsNewWorld world }
 
-        // The desk's note is empty.
+        // The desk's note is empty, and it has told nothing.
         requires since { D.IsSince desk (record {
           register = world.register;
           owners = world.lanes;
           desk = D.known desk;
         }) }
         requires note { D.note desk world.lanes ≡ nothing world.lanes }
+        requires told { D.HasTold desk (D.known desk) [] }
         ensures begun { IfOk result (λ h. HasBegun h.0 h.1 world passes) }
         ensures desk { IfOk result (λ h. (opening h.0).desk ≡ D.known desk) }
     {

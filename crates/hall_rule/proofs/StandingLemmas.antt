@@ -165,37 +165,31 @@ module _ {service : Service} {M N P E : Type 0} (m : Machines service M N P E) (
     owners = is.owners;
     uncut = goes_trans h g (m.note d) goes is.uncut;
     far = subst (λ ks. AllByRecursion (λ k. IsAsFar k.own (m.reach d)) ks) (sym same) is.far;
+    told = subst (m.HasTold d start.desk) (sym same) is.told;
     kept = λ k here. is.kept k (subst (λ ks. IsIn ks k) same here);
   }
 
-  -- its turn is passed with this item
-  pub desk_pushed_on : (h : SeenLists service N) (d : P) (k : Keeping) → IsDeskOf m start h d → IsAsFar k.own (m.reach d)
-      → (k.answer ≡ Kept → (k.own ≡ m.reach d) × (k.moment ≡ m.moment d)) → IsDeskOf m start (pushed h (at_desk k)) d
-  desk_pushed_on h d k is near own = record {
-    since = is.since;
-    register = is.register;
-    owners = is.owners;
-    uncut = goes_trans (pushed h (at_desk k)) h (m.note d) (goes_pushed h (at_desk k) tt refl) is.uncut;
-    far = all_both _ h.keepings (k ∷ []) is.far (near, tt);
-    kept = λ x here ok. ⊎_elim
-        (λ old. is.kept x old ok)
-        (λ (same : k ≡ x). subst (IsItsKeeping m start d) same (inr (own (ap (λ (y : Keeping). y.answer) same ∙ ok))))
-        (in_last h.keepings k x here);
-  }
-
-  -- its note was brought up in its turn, and it reaches no less far
-  pub desk_brought_up : (h g : SeenLists service N) (old new : P) → IsDeskOf m start g old → h.keepings ≡ g.keepings
+  -- its note was brought up in its turn, which is passed with this item; it reaches no less far
+  pub desk_pushed_on : (h g : SeenLists service N) (old new : P) (k : Keeping) → IsDeskOf m start g old → h.keepings ≡ g.keepings
       → ((first : E) → m.DeskIsSince old first → m.DeskIsSince new first) → m.noted_register new ≡ m.noted_register old → m.noted_owners new ≡ m.noted_owners old → GrowsUncut h (m.note new) → (m.note new).keepings ≡ h.keepings
-      → IsAsFar (m.reach old) (m.reach new) → IsDeskOf m start h new
-  desk_brought_up h g old new is same since register owners goes noted far = record {
+      → IsAsFar (m.reach old) (m.reach new) → IsAsFar k.own (m.reach new)
+      → (m.HasTold old start.desk g.keepings → m.HasTold new start.desk (g.keepings ++ k ∷ []))
+      → (k.answer ≡ Kept → (k.own ≡ m.reach new) × (k.moment ≡ m.moment new)) → IsDeskOf m start (pushed h (at_desk k)) new
+  desk_pushed_on h g old new k is same since register owners goes noted far near tells own = record {
     since = since start.desk is.since;
     register = register ∙ is.register;
     owners = owners ∙ is.owners;
-    uncut = goes;
-    far = subst (λ ks. AllByRecursion (λ k. IsAsFar k.own (m.reach new)) ks) (sym same)
-        (all_weaker _ _ g.keepings (λ (k : Keeping) (near : IsAsFar k.own (m.reach old)).
-        let a = near.c in let b = near.p in let c = far.c in let d = far.p in record { c = omega arith; p = omega arith }) is.far);
-    kept = λ k here _. inl (subst (λ ks. IsIn ks k) (sym noted) here);
+    uncut = goes_trans (pushed h (at_desk k)) h (m.note new) (goes_pushed h (at_desk k) tt refl) goes;
+    far = all_both _ h.keepings (k ∷ [])
+        (subst (λ ks. AllByRecursion (λ i. IsAsFar i.own (m.reach new)) ks) (sym same)
+        (all_weaker _ _ g.keepings (λ (i : Keeping) (near : IsAsFar i.own (m.reach old)).
+        let a = near.c in let b = near.p in let c = far.c in let d = far.p in record { c = omega arith; p = omega arith }) is.far))
+        (near, tt);
+    told = subst (λ ks. m.HasTold new start.desk (ks ++ k ∷ [])) (sym same) (tells is.told);
+    kept = λ x here ok. ⊎_elim
+        (λ before. inl (subst (λ ks. IsIn ks x) (sym noted) before))
+        (λ (it : k ≡ x). subst (IsItsKeeping m start new) it (inr (own (ap (λ (y : Keeping). y.answer) it ∙ ok))))
+        (in_last h.keepings k x here);
   }
 
   -- ---- before anything was done
@@ -219,6 +213,7 @@ module _ {service : Service} {M N P E : Type 0} (m : Machines service M N P E) (
     owners = fresh.owners;
     uncut = subst (GrowsUncut (nothing start.owners)) (sym fresh.note) (goes_refl (nothing start.owners));
     far = tt;
+    told = fresh.told;
     kept = λ k here _. absurd here;
   }
 

@@ -29,6 +29,8 @@ pub record Machines (service : Service) (M N P E : Type 0) : Type 1 where
   -- how far what its disk holds reaches, and the disk's moment when that was reached
   pub reach : P → Reach
   pub moment : P → ℕ
+  -- a desk that is known by this may have come to be this one by turns that added these keepings
+  pub HasTold : P → E → List Keeping → Type 0
 
 -- with their types
 pub record HallMachines (service : Service) : Type 1 where

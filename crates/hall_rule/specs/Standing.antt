@@ -6,7 +6,7 @@
 --     MarksRegister, MarksLane              what a turn does to the marks
 --     IsFresh m start                       the register and the owners as a hall begins
 --     IsFreshDesk m start desk              and its desk
-use Rattle.std.specs.Prelude.{◌≡◌, ◌⊎◌, ℕ, true, false}
+use Rattle.std.specs.Prelude.{◌≡◌, ◌⊎◌, ℕ, [], true, false}
 use mathlib.Core.Option.{some}
 use lib.ListN.{get_elem?}
 use Rattle.std.specs.List.{AllByRecursion}
@@ -63,13 +63,15 @@ module _ {service : Service} {M N P E : Type 0} (m : Machines service M N P E)
       IsIn (m.note desk).keepings k ⊎ ((k.own ≡ m.reach desk) × (k.moment ≡ m.moment desk))
 
   -- The note's lists begin those of the hall, and behind them nobody cut. No keeping reaches
-  -- farther than the desk, and each that was answered Ok is its own.
+  -- farther than the desk, and each that was answered Ok is its own. All of them are what a desk
+  -- that went on from the first one to this one may have told.
   pub record IsDeskOf (h : SeenLists service N) (desk : P) : Type 0 where
     pub since : m.DeskIsSince desk start.desk
     pub register : m.noted_register desk ≡ start.register
     pub owners : m.noted_owners desk ≡ start.owners
     pub uncut : GrowsUncut h (m.note desk)
     pub far : AllByRecursion (λ k. IsAsFar k.own (m.reach desk)) h.keepings
+    pub told : m.HasTold desk start.desk h.keepings
     pub kept : (k : Keeping) → IsIn h.keepings k → k.answer ≡ Kept → IsItsKeeping desk k
 
   -- nothing changed since the cuts
@@ -78,9 +80,10 @@ module _ {service : Service} {M N P E : Type 0} (m : Machines service M N P E)
     pub owners : (lane : ℕ) (o : N) → get_elem? start.owners lane ≡ some o
         → m.OwnerIsSince o lane o
 
-  -- the note is empty
+  -- the note is empty, and nothing was told
   pub record IsFreshDesk (desk : P) : Type 0 where
     pub known_by : m.DeskIsSince desk start.desk
+    pub told : m.HasTold desk start.desk []
     pub note : m.note desk ≡ nothing start.owners
     pub register : m.noted_register desk ≡ start.register
     pub owners : m.noted_owners desk ≡ start.owners

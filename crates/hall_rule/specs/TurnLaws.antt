@@ -4,7 +4,7 @@
 --     RegisterTurns m     a request is decided, a cut is drawn, or the register is cut
 --     LaneTurns m         a part of a request is done, or the lane is cut
 --     DeskTurns m         the desk's turn, with all that the pass does in it
-use Rattle.std.specs.Prelude.{◌≡◌, ℕ, ◌<◌, ◌^◌, Bool, true, false, List, ◌∷◌, length, Some}
+use Rattle.std.specs.Prelude.{◌≡◌, ℕ, ◌<◌, ◌^◌, Bool, true, false, List, [], ◌∷◌, ◌++◌, length, Some}
 use Rattle.std.specs.Prelude.{slice_get}
 use Rattle.std.specs.List.{AllByRecursion}
 use Rattle.std.specs.declared.snapshot.Snapshot.{Snapshot}
@@ -245,19 +245,18 @@ pub record DeskTurns {service : Service} {M N P E : Type 0} (m : Machines servic
   -- others asked and took turns since
   pub stays : (start : Start M N E) (h g : SeenLists service N) (d : P) → GrowsUncut h g
       → h.keepings ≡ g.keepings → IsDeskOf m start g d → IsDeskOf m start h d
-  -- its note was brought up in its turn, and it reaches no less far
-  pub brought_up : (start : Start M N E) (h g : SeenLists service N) (old new : P)
+  -- Its note was brought up in its turn, it reaches no less far, and it told this keeping behind all
+  -- others, which reaches no farther; one that is answered Ok is its own.
+  pub keeps : (start : Start M N E) (h g : SeenLists service N) (old new : P) (k : Keeping)
       → IsDeskOf m start g old → h.keepings ≡ g.keepings
       → ((first : E) → m.DeskIsSince old first → m.DeskIsSince new first)
       → m.noted_register new ≡ m.noted_register old → m.noted_owners new ≡ m.noted_owners old
       → GrowsUncut h (m.note new)
       → (m.note new).keepings ≡ h.keepings → IsAsFar (m.reach old) (m.reach new)
-      → IsDeskOf m start h new
-  -- the keeping of its turn reaches no farther; one that is answered Ok is its own
-  pub keeps : (start : Start M N E) (h : SeenLists service N) (d : P) (k : Keeping)
-      → IsDeskOf m start h d → IsAsFar k.own (m.reach d)
-      → (k.answer ≡ Kept → (k.own ≡ m.reach d) × (k.moment ≡ m.moment d))
-      → IsDeskOf m start (pushed h (at_desk k)) d
+      → IsAsFar k.own (m.reach new)
+      → (m.HasTold old start.desk g.keepings → m.HasTold new start.desk (g.keepings ++ k ∷ []))
+      → (k.answer ≡ Kept → (k.own ≡ m.reach new) × (k.moment ≡ m.moment new))
+      → IsDeskOf m start (pushed h (at_desk k)) new
   pub may_pass : (start : Start M N E) (me : HallHand service M N P E) (n : ℕ)
       (others : List Claim) (more : List (ℕ × HallSlot service M N P)) (d : P) (k : Keeping)
       → IsPass start me.0 → me.0.claims ≡ claim OfDesk n true ∷ others

@@ -1,5 +1,5 @@
 -- From a desk to the same desk later.
-use Rattle.std.proofs.Common.{◌≡◌, ℕ, List, refl, sym, ◌∙◌, subst, arith}
+use Rattle.std.proofs.Common.{◌≡◌, ◌≤◌, ℕ, List, refl, sym, ◌∙◌, subst, arith}
 use Rattle.edge_traits.specs.declared.disk.Disk.{Ghosts}
 use Rattle.flush_journal.specs.Moments.{CrashLeaves}
 use Rattle.flush_journal.specs.Records.{Record}
@@ -17,19 +17,29 @@ use Rattle.journal_desk.specs.Notes.{AreAlike, NoteOf, at_lanes}
 use Rattle.journal_desk.specs.declared.note.Note.{Ghosts as Notes}
 use Rattle.journal_desk.proofs.ImageLemmas.{farther, lasts_by, prefix_both, prefix_itself}
 
+-- what is kept now was reached no earlier than what was kept before
+pub reached_now : {D : Type 0} (met : Ghosts D) (at : D) (old new later : Journal D met) → later ≡ new → SameDisk met (disk_of old) (disk_of new)
+    → (met.honest → met.moment at ≤ met.moment (disk_of old)) → met.honest → met.moment at ≤ met.moment (disk_of later)
+reached_now met at old new later is disk before honest =
+    let first = before honest in
+    let more = disk.goes_on honest in
+    subst (λ j. met.moment at ≤ met.moment (disk_of j)) (sym is) (omega (arith, first, more))
+
 module _ {D N : Type 0} (met : Ghosts D) (notes : NoteOf N) where
   -- the note stayed, or grew
   pub continues_by : (old new : Standing D N) → new.lanes ≡ old.lanes → notes.start new.note ≡ notes.start old.note
       → IsLegal notes.kept.service (notes.start old.note) (lists met notes new) → IsPrefix (lists met notes old) (lists met notes new)
       → SameDisk met old.disk new.disk → IsAsFar old.kept new.kept
+      → (met.honest → met.moment old.at ≤ met.moment new.at)
       → (met.honest → CrashLeaves met old.disk new.disk (HoldsAsFar notes.kept (notes.start old.note) (lists met notes new) old.kept))
       → Continues met notes old new
-  continues_by old new lanes start legal prefix disk own leaves = record {
+  continues_by old new lanes start legal prefix disk own reached leaves = record {
     lanes = lanes;
     start = start;
     longer = prefix;
     disk = disk;
     own = own;
+    reached = reached;
     lasts = λ honest moment own le far since image left.
         subst (λ w. HoldsAsFar notes.kept w (lists met notes new) own image) (sym start)
         (lasts_by notes.kept (notes.start old.note) met (lists met notes old) (lists met notes new) legal prefix old.disk new.disk old.kept
@@ -39,11 +49,12 @@ module _ {D N : Type 0} (met : Ghosts D) (notes : NoteOf N) where
   -- a call of the journal, or none
   pub continues_here : (lanes : ℕ) (old new : Journal D met) (building built : List Record) (cut now kept own : Reach) (at later : D) (note : N)
       → IsLegal notes.kept.service (notes.start note) (notes.history note) → SameDisk met (disk_of old) (disk_of new) → IsAsFar kept own
+      → (met.honest → met.moment at ≤ met.moment later)
       → (met.honest → CrashLeaves met (disk_of old) (disk_of new) (HoldsAsFar notes.kept (notes.start note) (notes.history note) kept))
       → Continues met notes (standing_of lanes old building cut kept at note) (standing_of lanes new built now own later note)
-  continues_here lanes old new building built cut now kept own at later note legal disk far leaves =
+  continues_here lanes old new building built cut now kept own at later note legal disk far reached leaves =
       continues_by (standing_of lanes old building cut kept at note) (standing_of lanes new built now own later note) refl refl legal
-      (prefix_itself (notes.history note)) disk far leaves
+      (prefix_itself (notes.history note)) disk far reached leaves
 
   -- one call after another
   pub continues_again : (old mid new : Standing D N) → Continues met notes old mid → Continues met notes mid new → Continues met notes old new
@@ -53,6 +64,9 @@ module _ {D N : Type 0} (met : Ghosts D) (notes : NoteOf N) where
     longer = prefix_both (lists met notes old) (lists met notes mid) (lists met notes new) first.longer more.longer;
     disk = same_both met old.disk mid.disk new.disk first.disk more.disk;
     own = farther old.kept mid.kept new.kept first.own more.own;
+    reached = λ honest.
+        let a = first.reached honest in
+        let b = more.reached honest in omega (arith, a, b);
     lasts = λ honest moment own le far since.
         let later = first.disk.goes_on honest in
         more.lasts honest moment own (omega arith) (farther own old.kept mid.kept far first.own) (first.lasts honest moment own le far since);

@@ -66,7 +66,7 @@ module _ {D N : Type 0} {met : Ghosts D} (notes : NoteOf N) (j : Journal D met) 
       → Continues met notes (standing_of lanes j building cut kept at before) (standing_of lanes j built now kept at after)
   continues_grown after start legal prefix only_now lanes at built now =
       continues_by met notes (standing_of lanes j building cut kept at before) (standing_of lanes j built now kept at after) refl start legal prefix
-      (same_here met (disk_of j)) (as_far kept) leaves
+      (same_here met (disk_of j)) (as_far kept) (λ honest. omega arith) leaves
     where
       leaves : met.honest → CrashLeaves met (disk_of j) (disk_of j) (HoldsAsFar notes.kept (notes.start before) (notes.history after) kept)
       leaves honest = no_call met (disk_of j) (HoldsAsFar notes.kept (notes.start before) (notes.history after) kept)

@@ -1,10 +1,11 @@
 -- How a desk goes on.
 --     Continues ..          from a desk to the same desk later: what was kept stays kept
 --     IsUpTo ..             the note is what the callers' side has seen
+--     SettlesFirst ..       what comes of a batch that was pending before a turn
 --     MayRefuseTurn ..      why a turn may be refused
 --     AreItsKeepings ..     the keepings of a history are the desk's
 --     keeping_of ..         the item of a turn
-use Rattle.std.specs.Prelude.{◌≡◌, ◌⊎◌, ℕ, ◌+◌, ◌<◌, ◌≤◌, List, [], Some, None, Result, Ok, Err}
+use Rattle.std.specs.Prelude.{◌≡◌, ◌⊎◌, ℕ, ◌+◌, ◌<◌, ◌≤◌, List, [], Option, Some, None, Result, Ok, Err, IsErr}
 use Rattle.edge_traits.specs.Causes.{Rose}
 use Rattle.edge_traits.specs.declared.disk.Disk.{Ghosts}
 use Rattle.flush_journal.specs.Frames.{need_of}
@@ -44,6 +45,24 @@ pub record SameJournal {D N : Type 0} (old new : Standing D N) : Type 0 where
   pub kept : new.kept ≡ old.kept
   pub at : new.at ≡ old.at
 
+-- how many bytes a batch needs that is pending, 0 where none is
+abbrev pub owed_by : Option (List Record) → ℕ
+owed_by None = 0
+owed_by (Some rs) = need_of rs
+
+-- what was pending still is, behind the same end, with nothing cut behind it
+pub record StaysOwed {D N : Type 0} (old new : Standing D N) : Type 0 where
+  pub pending : new.pending ≡ old.pending
+  pub end : new.end ≡ old.end
+  pub cut : new.cut ≡ old.cut
+  pub kept : new.kept ≡ old.kept
+
+-- A batch that is pending is written before all else. It is refused and stays, or what it reaches is kept; where it doesn't fit behind
+-- the journal's end, it stays.
+pub record SettlesFirst {D N T : Type 0} (met : Ghosts D) (old new : Standing D N) (result : Result T Why) : Type 0 where
+  pub settled : (rs : List Record) → old.pending ≡ Some rs → (IsErr result × StaysOwed old new) ⊎ IsAsFar old.cut new.kept
+  pub full : (rs : List Record) → old.pending ≡ Some rs → met.most old.disk < old.end + need_of rs → IsErr result × StaysOwed old new
+
 module _ {D N : Type 0} (met : Ghosts D) (notes : NoteOf N) where
   -- the note's lists
   abbrev pub lists : Standing D N → History notes.kept.service
@@ -59,6 +78,8 @@ module _ {D N : Type 0} (met : Ghosts D) (notes : NoteOf N) where
     pub longer : IsPrefix (lists old) (lists new)
     pub disk : SameDisk met old.disk new.disk
     pub own : IsAsFar old.kept new.kept
+    -- that was reached no earlier
+    pub reached : met.honest → met.moment old.at ≤ met.moment new.at
     -- what was kept since an earlier moment still is
     pub lasts : met.honest → (moment : ℕ) (own : Reach) → moment ≤ met.moment old.disk → IsAsFar own old.kept
         → HasKept old moment own → HasKept new moment own
@@ -97,4 +118,6 @@ module _ {D N : Type 0} (met : Ghosts D) where
     faults_before = met.faults old.disk;
     faults_after = met.faults new.disk;
     moment = met.moment new.disk;
+    end = new.end;
+    owed = owed_by new.pending;
   }

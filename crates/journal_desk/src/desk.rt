@@ -18,6 +18,7 @@ ghost use Rattle.journal_desk.specs.Standing.{Standing};
 ghost use Rattle.journal_desk.specs.Desks.{HoldsAsFar, HoldsKept};
 ghost use Rattle.journal_desk.specs.Keepings.{AreItsKeepings, Continues, HasKept, IsAllKept};
 ghost use Rattle.journal_desk.specs.Keepings.{IsFullWhere, IsUpTo, MayRefuseTurn, SameJournal};
+ghost use Rattle.journal_desk.specs.Keepings.{SettlesFirst};
 ghost use Rattle.journal_desk.specs.Cuts.{CutsEach, Resumes};
 ghost use Rattle.journal_desk.specs.Notes.{at_lanes};
 
@@ -127,7 +128,8 @@ impl<D: Disk, N: Note> Desk<D, N> {
 
     /// For each keeping in the note that was answered Ok: whatever a crash since its moment left is
     /// kept with numbers at least as large. So it is for `kept`, since the disk was as `at` says.
-    /// No keeping in the note reaches farther than `kept`.
+    /// None of these moments is later than the disk's. No keeping in the note reaches farther than
+    /// `kept`.
     pub fn keepings_are_kept(&self)
         ensures each { D.honest → (i : Keeping)
             → IsIn (N.history self.now.lanes self.now.note).keepings i → i.answer ≡ Kept
@@ -135,6 +137,10 @@ impl<D: Disk, N: Note> Desk<D, N> {
         ensures own { D.honest
             → HasKept D.Disk (at_lanes N.Note self.now.lanes) self.now (D.moment self.now.at)
             self.now.kept }
+        ensures moments { D.honest → (i : Keeping)
+            → IsIn (N.history self.now.lanes self.now.note).keepings i → i.answer ≡ Kept
+            → i.moment ≤ D.moment self.now.disk }
+        ensures reached { D.honest → D.moment self.now.at ≤ D.moment self.now.disk }
         ensures far { AllByRecursion (λ i. IsAsFar i.own self.now.kept)
             (N.history self.now.lanes self.now.note).keepings }
     {
@@ -210,6 +216,7 @@ impl<D: Disk, N: Note> Desk<D, N> {
             × (self.new.note ≡ self.old.note) }
         ensures cause { IfErr result (MayRefuseTurn D.Disk self.old self.new) }
         ensures full { IsFullWhere D.Disk self.new result }
+        ensures first { SettlesFirst D.Disk self.old self.new result }
         ensures stopped { self.old.pending ≢ None → D.stopped self.old.disk → IsErr result }
     {
         if self.journal.pending() {
@@ -272,6 +279,7 @@ impl<D: Disk, N: Note> Desk<D, N> {
         ensures ok { OnOk result ((self.new.cut.c ≡ self.old.cut.c)
             × (places (N.history self.old.lanes self.old.note).register ≤ self.new.cut.p)) }
         ensures err { OnErr result (self.new.cut ≡ self.old.cut) }
+        ensures drawn { T.drawn turns.new ≡ T.drawn turns.old }
     {
         let places = turns.cut_register(&mut self.building);
         self.note = turns.note();
@@ -309,7 +317,8 @@ impl<D: Disk, N: Note> Desk<D, N> {
 
     /// Keeps all that was done: writes what is pending, cuts each lane and then the register, and
     /// appends. Answers how many places are kept, which are at least those that had been given.
-    /// Where a batch is pending on a disk that has stopped, it is refused.
+    /// Where a batch is pending on a disk that has stopped, or doesn't fit, it is refused, and
+    /// nothing is cut.
     ///
     /// # Errors
     ///
@@ -330,6 +339,7 @@ impl<D: Disk, N: Note> Desk<D, N> {
         ensures all { OnOk result (IsAllKept self.new) }
         ensures cause { IfErr result (MayRefuseTurn D.Disk self.old self.new) }
         ensures full { IsFullWhere D.Disk self.new result }
+        ensures first { SettlesFirst D.Disk self.old self.new result }
         ensures stopped { self.old.pending ≢ None → D.stopped self.old.disk → IsErr result }
     {
         self.settle()?;
@@ -340,8 +350,8 @@ impl<D: Disk, N: Note> Desk<D, N> {
     }
 
     /// Keeps the catalogue, with what earlier cuts of lanes left to be appended: as `flush`,
-    /// without the lanes' cuts. Answers the places of the catalogue, which are at least those that
-    /// had been given.
+    /// without the lanes' cuts, so no cut is drawn. Answers the places of the catalogue, which are
+    /// at least those that had been given.
     ///
     /// # Errors
     ///
@@ -355,11 +365,14 @@ impl<D: Disk, N: Note> Desk<D, N> {
         ensures lanes { T.next_lane turns.new ≡ (N.kept (T.lanes turns.new)).service.lanes }
         ensures ready { T.ready turns.new }
         ensures fixed { T.fixed turns.new ≡ T.fixed turns.old }
+        ensures uncut { (T.drawn turns.new ≡ T.drawn turns.old)
+            × (self.new.cut.c ≡ self.old.cut.c) }
         ensures ok { IfOk result (λ p. (self.new.kept.p ≡ p)
             × (places (N.history self.old.lanes self.old.note).register ≤ p)) }
         ensures all { OnOk result (IsAllKept self.new) }
         ensures cause { IfErr result (MayRefuseTurn D.Disk self.old self.new) }
         ensures full { IsFullWhere D.Disk self.new result }
+        ensures first { SettlesFirst D.Disk self.old self.new result }
         ensures stopped { self.old.pending ≢ None → D.stopped self.old.disk → IsErr result }
     {
         self.settle()?;

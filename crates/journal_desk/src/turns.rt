@@ -112,6 +112,7 @@ pub trait Turns<N: Note> {
             ≡ N.start (lanes self.old) (seen self.old) }
         ensures was { N.was (lanes self.old) (seen self.new)
             ≡ N.was (lanes self.old) (seen self.old) }
+        ensures drawn { drawn self.new ≡ drawn self.old }
         ensures same { lanes self.new ≡ lanes self.old }
         ensures fixed { fixed self.new ≡ fixed self.old }
         ensures ready { ready self.new };

@@ -56,10 +56,10 @@ module _ (s : Service) (j : JournalContents s) (start : World s) where
           desk = desk_longer s j start h (with_keeping h keeping) legal (keepings_longer s start h sound.legal keeping) desk (all_both _ core.keepings (keeping ∷ []) backed.keepings (far, tt)) backed;
         }
 
-    with_desk_sound : (ok : Bool) (batch : j.Content × Reach) (before after moment : ℕ)
+    with_desk_sound : (ok : Bool) (batch : j.Content × Reach) (before after moment end owed : ℕ)
         → IsKeptBatch s j start (history core) core.desk.own batch.0 batch.1
-        → IsSound s j start (with_desk core ok batch before after moment)
-    with_desk_sound ok batch before after moment b = desk_sound (appended ok batch core.desk) _ (same_built ok batch) (record { c = omega arith; p = omega arith }) (batch_on_desk (history core) core.desk ok batch sound.desk b)
+        → IsSound s j start (with_desk core ok batch before after moment end owed)
+    with_desk_sound ok batch before after moment end owed b = desk_sound (appended ok batch core.desk) _ (same_built ok batch) (record { c = omega arith; p = omega arith }) (batch_on_desk (history core) core.desk ok batch sound.desk b)
 
     pub append_sound : (ok : Bool) (before after moment : ℕ) (new : Core s j) → Appends ok before after moment core new
         → IsSound s j start new
@@ -67,9 +67,9 @@ module _ (s : Service) (j : JournalContents s) (start : World s) where
         let h = history core in
         let far = farther_than_cuts s j start h sound.legal core.desk.built core.torn sound.backing a.reach a.cut.cut a.register a.whole core.desk.own sound.desk.cuts a.cut.last in
         let batch = built_batch s j start h sound.legal core.desk.built core.torn sound.backing a.reach a.cut.cut a.register a.whole core.desk.own far in
-        subst (IsSound s j start) (sym a.new_is) (with_desk_sound ok (core.desk.built, a.reach) before after moment batch)
+        subst (IsSound s j start) (sym a.new_is) (with_desk_sound ok (core.desk.built, a.reach) before after moment a.end a.owed batch)
 
     pub settle_sound : (ok : Bool) (before after moment : ℕ) (new : Core s j) → Settles ok before after moment core new
         → IsSound s j start new
     settle_sound ok before after moment new a =
-        subst (IsSound s j start) (sym a.new_is) (with_desk_sound ok a.batch before after moment (sound.desk.pending a.batch.0 a.batch.1 a.pending))
+        subst (IsSound s j start) (sym a.new_is) (with_desk_sound ok a.batch before after moment a.end a.owed (sound.desk.pending a.batch.0 a.batch.1 a.pending))

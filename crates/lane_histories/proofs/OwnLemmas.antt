@@ -31,11 +31,20 @@ module _ (s : Service) (j : JournalContents s) where
   by_batch true batch desk = refl
   by_batch false batch desk = refl
 
-  desk_own : (core : Core s j) (ok : Bool) (batch : j.Content × Reach) (before after moment : ℕ) → OwnIn core
-      → OwnIn (with_desk core ok batch before after moment)
-  desk_own core ok batch before after moment own =
+  desk_own : (core : Core s j) (ok : Bool) (batch : j.Content × Reach) (before after moment end owed : ℕ) → OwnIn core
+      → OwnIn (with_desk core ok batch before after moment end owed)
+  desk_own core ok batch before after moment end owed own =
       let desk = appended ok batch core.desk in
-      let k : Keeping = record { cut = batch.1; own = desk.own; answer = answer_of ok; faults_before = before; faults_after = after; moment = moment } in
+      let k : Keeping = record {
+        cut = batch.1;
+        own = desk.own;
+        answer = answer_of ok;
+        faults_before = before;
+        faults_after = after;
+        moment = moment;
+        end = end;
+        owed = owed;
+      } in
       let now : desk.own ≡ own_by (answer_of ok) batch.1 (own_after nowhere core.keepings) = by_batch ok batch core.desk ∙ ap (own_by (answer_of ok) batch.1) own.is in
       record { is = now ∙ sym (own_push nowhere core.keepings k); are = are_push nowhere core.keepings k own.are now }
 
@@ -47,8 +56,8 @@ module _ (s : Service) (j : JournalContents s) where
   event_own (takes_turn l y) old new own leads = subst OwnIn (sym leads.new_is) own
   event_own (cuts_lane l true) old new own leads = subst OwnIn (sym leads.new_is) own
   event_own (cuts_lane l false) old new own leads = subst OwnIn (sym leads.new_is) own
-  event_own (appends ok before after moment) old new own leads = subst OwnIn (sym leads.new_is) (desk_own old ok (old.desk.built, leads.reach) before after moment own)
-  event_own (settles ok before after moment) old new own leads = subst OwnIn (sym leads.new_is) (desk_own old ok leads.batch before after moment own)
+  event_own (appends ok before after moment) old new own leads = subst OwnIn (sym leads.new_is) (desk_own old ok (old.desk.built, leads.reach) before after moment leads.end leads.owed own)
+  event_own (settles ok before after moment) old new own leads = subst OwnIn (sym leads.new_is) (desk_own old ok leads.batch before after moment leads.end leads.owed own)
   event_own crashes old new own leads = subst OwnIn (sym leads) own
 
   run_own : (events : List (Event s)) (old new : Core s j) → OwnIn old → Runs events old new → OwnIn new

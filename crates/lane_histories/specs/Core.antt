@@ -68,12 +68,22 @@ with_lane core l item objects torn = record core {
 abbrev pub with_built : {s : Service} {j : JournalContents s} → Core s j → j.Content → Core s j
 with_built core built = record core { desk = record core.desk { built = built } }
 
-abbrev pub with_desk : {s : Service} {j : JournalContents s} → Core s j → Bool → j.Content × Reach → ℕ → ℕ → ℕ → Core s j
-with_desk core ok batch before after moment = let desk = appended ok batch core.desk in record core {
+abbrev pub with_desk : {s : Service} {j : JournalContents s} → Core s j → Bool → j.Content × Reach → ℕ → ℕ → ℕ → ℕ → ℕ → Core s j
+with_desk core ok batch before after moment end owed = let desk = appended ok batch core.desk in record core {
   desk = desk;
   keepings =
       core.keepings
-      ++ record { cut = batch.1; own = desk.own; answer = answer_of ok; faults_before = before; faults_after = after; moment = moment } ∷ [];
+      ++ record {
+        cut = batch.1;
+        own = desk.own;
+        answer = answer_of ok;
+        faults_before = before;
+        faults_after = after;
+        moment = moment;
+        end = end;
+        owed = owed;
+      }
+      ∷ [];
 }
 
 -- ---- turns of lanes
@@ -130,12 +140,17 @@ pub record Appends {s : Service} {j : JournalContents s} (ok : Bool) (before aft
   pub register : last_cut None old.list ≡ Some reach.p
   -- no lane's part is of no worth
   pub whole : (l : ℕ) → l < s.lanes → old.torn l ≡ false
-  pub new_is : new ≡ with_desk old ok (old.desk.built, reach) before after moment
+  -- no content tells its bytes
+  pub end : ℕ
+  pub owed : ℕ
+  pub new_is : new ≡ with_desk old ok (old.desk.built, reach) before after moment end owed
 
 pub record Settles {s : Service} {j : JournalContents s} (ok : Bool) (before after moment : ℕ) (old new : Core s j) : Type 0 where
   pub batch : j.Content × Reach
   pub pending : old.desk.pending ≡ Some batch
-  pub new_is : new ≡ with_desk old ok batch before after moment
+  pub end : ℕ
+  pub owed : ℕ
+  pub new_is : new ≡ with_desk old ok batch before after moment end owed
 
 -- ---- any event
 

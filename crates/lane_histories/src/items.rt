@@ -69,7 +69,8 @@ pub enum Answer {
 }
 
 /// A turn of the journal: how far its batch was cut, how far the desk reaches at its end, what it
-/// was answered, the disk's counts of faults before and after it, and the disk's moment at its end.
+/// was answered, the disk's counts of faults before and after it, the disk's moment at its end, and
+/// where the journal ends then, with how many bytes a batch needs that is pending, 0 where none is.
 #[derive(Clone, Copy)]
 pub struct Keeping {
     pub cut: Reach,
@@ -78,4 +79,6 @@ pub struct Keeping {
     pub faults_before: u64,
     pub faults_after: u64,
     pub moment: u64,
+    pub end: u64,
+    pub owed: u64,
 }

@@ -1,5 +1,5 @@
 use Rattle.hall_rule.proofs.DeskTurns.{desk_ready, has_kept}
-use Rattle.hall_rule.proofs.StandingLemmas.{desk_brought_up, desk_on, desk_pushed_on}
+use Rattle.hall_rule.proofs.StandingLemmas.{desk_on, desk_pushed_on}
 use Rattle.hall_rule.proofs.TurnLemmas.{may_look_desk}
 use Rattle.hall_rule.proofs.laws.the_desk_takes_turns.Goals as goal
 
@@ -9,7 +9,6 @@ returns g c = λ number.
     record {
       may_look = may_look_desk;
       stays = desk_on m;
-      brought_up = desk_brought_up m;
       keeps = desk_pushed_on m;
       may_pass = desk_ready m;
       kept = has_kept m;

@@ -4,7 +4,7 @@ use Rattle.std.specs.declared.alloc.AllocError.{AllocError}
 use Rattle.flush_journal.specs.Batches.{records}
 use Rattle.hall.specs.ArrayMachines.{lanes_in, start_of}
 use Rattle.hall.specs.Cutting.{HasCutCatalogue}
-use Rattle.hall.proofs.DeskTurnLemmas.{holds_now, in_turn_cut_register, takes_register_cut}
+use Rattle.hall.proofs.DeskTurnLemmas.{drawn_stays, holds_now, in_turn_cut_register, takes_register_cut}
 use Rattle.hall.proofs.desk_turn.DeskTurnSnapshotChairJournalDeskTurnsHallNoteSnapshotJournal.cut_register.Goals as goal
 
 pub returns-in-Ok-clause-cut : goal.returns-in-Ok-clause-cut
@@ -20,6 +20,11 @@ returns-in-Ok-clause-cut g c =
           (c.cuts_tell_the_register.ensures.write (lanes_in start)),
       refl,
     )
+
+pub returns-in-Ok-clause-drawn : goal.returns-in-Ok-clause-drawn
+returns-in-Ok-clause-drawn g c =
+    let start = start_of c.args.self.now.hall.now.table.shared.key in
+    drawn_stays start c.requires.ready.2 c.requires.passed c.cut_catalogue-places.ensures.cut.turn
 
 pub returns-in-Ok-clause-ready : goal.returns-in-Ok-clause-ready
 returns-in-Ok-clause-ready g c =
@@ -43,6 +48,11 @@ returns-in-Err-clause-cut g c =
           (c.cuts_tell_the_register.ensures.write (lanes_in start)),
       tt,
     )
+
+pub returns-in-Err-clause-drawn : goal.returns-in-Err-clause-drawn
+returns-in-Err-clause-drawn g c =
+    let start = start_of c.args.self.now.hall.now.table.shared.key in
+    drawn_stays start c.requires.ready.2 c.requires.passed c.cut_catalogue-places.ensures.cut.turn
 
 pub returns-in-Err-clause-ready : goal.returns-in-Err-clause-ready
 returns-in-Err-clause-ready g c =

@@ -1,18 +1,21 @@
 use Rattle.std.proofs.Common.{ℕ, None, Result, refl, sym, ap, subst, ◌∙◌}
 use Rattle.std.specs.Prelude.{[], option_map}
+use Rattle.std.specs.List.{AllByRecursion}
 use Rattle.atomic_table.specs.Table.{rest}
 use Rattle.flush_journal.specs.declared.why.Why.{Why}
-use Rattle.journal_desk.specs.Keepings.{keeping_of}
 use Rattle.journal_desk.specs.Notes.{AreAlike}
 use Rattle.journal_desk.specs.Standing.{Standing}
+use Rattle.lane_histories.specs.KeptContents.{IsAsFar}
+use Rattle.lane_histories.specs.declared.items.Keeping.{Keeping}
+use Rattle.lane_histories.specs.declared.items.Reach.{Reach}
 use Rattle.hall_rule.specs.Seen.{at_desk}
 use Rattle.hall_rule.specs.WholeTurns.{HasKept}
 use Rattle.hall.specs.ArrayMachines.{lanes_in, machines, start_of}
 use Rattle.hall.specs.DeskTurns.{HasDone, IsBehind, IsInTurn, note_seen}
-use Rattle.hall.specs.JournalDesks.{answer_by, keeping_by}
+use Rattle.hall.specs.JournalDesks.{item_of, keeping_by, left_of}
 use Rattle.hall.specs.Notes.{hall_notes}
 use Rattle.hall.specs.declared.journal.DeskWork.{DeskWork}
-use Rattle.hall.proofs.DeskWorkLemmas.{begun_taken, desk_behind, desk_taken, far_then, gone_on, in_turn_taken, kept_then, legal_taken, may_draw_desk, may_pass_desk, owners_here, reads_at, since_here, turn_is}
+use Rattle.hall.proofs.DeskWorkLemmas.{IsFound, begun_taken, desk_behind, desk_taken, far_here, far_then, gone_on, in_turn_taken, kept_then, left_here, legal_taken, may_draw_desk, may_pass_desk, owners_here, reads_at, since_here, turn_is}
 use Rattle.hall.proofs.flushing.Hall+JournalDesk+D.take_desk.Goals as goal
 
 pub exchange-requires : goal.exchange-requires
@@ -57,7 +60,7 @@ work-result-requires-clause-taken g c =
     let here = sym (hand.read _ c.exchange.ensures.2) ∙ c.into_desk-noted.ensures in
     let is = desk_taken _ start v pass idle _ _ _ drew t noted here in
     let reads = reads_at g.D.Disk start _ _ _ _ t noted.desk noted.desk.lanes noted.desk.lanes noted.desk.desk refl
-    (record { note = λ owners. refl; reach = refl; moment = refl; out = λ o x. x; into = λ o x. x }) in
+    (record { note = λ owners. refl; reach = refl; moment = refl; told_out = λ j ks x. x; told_into = λ j ks x. x; out = λ o x. x; into = λ o x. x }) in
     let out = ap (λ me. me.0) c.exchange.ensures.3 in
     let many = (since_here g.D.Disk start noted noted.desk.lanes noted.desk.desk reads _ is).0 in
     let owners = owners_here g.D.Disk start noted noted.desk.lanes noted.desk.desk reads _ is in
@@ -79,7 +82,7 @@ work-result-requires-clause-behind g c =
     let here = sym (hand.read _ c.exchange.ensures.2) ∙ c.into_desk-noted.ensures in
     let is = desk_taken _ start v pass idle _ _ _ drew t noted here in
     let reads = reads_at g.D.Disk start _ _ _ _ t noted.desk noted.desk.lanes noted.desk.lanes noted.desk.desk refl
-    (record { note = λ owners. refl; reach = refl; moment = refl; out = λ o x. x; into = λ o x. x }) in
+    (record { note = λ owners. refl; reach = refl; moment = refl; told_out = λ j ks x. x; told_into = λ j ks x. x; out = λ o x. x; into = λ o x. x }) in
     let out = ap (λ me. me.0) c.exchange.ensures.3 in
     subst (λ y. IsBehind g.D.Disk (hall_notes noted.desk.desk.lanes) noted.desk.desk (lanes_in start) (note_seen y)) (sym out)
     (desk_behind g.D.Disk start noted noted.desk.lanes noted.desk.desk reads _ (begun_taken _ start v pass idle _ _ _ drew t) is
@@ -100,7 +103,7 @@ leave-requires-clause-ready g c =
     let here = sym (hand.read _ c.exchange.ensures.2) ∙ c.into_desk-noted.ensures in
     let is = desk_taken _ start v pass idle _ _ _ drew t noted here in
     let reads = reads_at g.D.Disk start _ _ _ _ t noted.desk noted.desk.lanes noted.desk.lanes noted.desk.desk refl
-    (record { note = λ owners. refl; reach = refl; moment = refl; out = λ o x. x; into = λ o x. x }) in
+    (record { note = λ owners. refl; reach = refl; moment = refl; told_out = λ j ks x. x; told_into = λ j ks x. x; out = λ o x. x; into = λ o x. x }) in
     let out = ap (λ me. me.0) c.exchange.ensures.3 in
     let w = c.work-result in
     let end = w.new.desk in
@@ -111,9 +114,10 @@ leave-requires-clause-ready g c =
     let done = subst (λ (x : DeskWork × Result ℕ Why). HasDone g.D.Disk (hall_notes noted.desk.desk.lanes) x.0 before end.desk x.1)
     (λ i. (sym news.2 i, sym news.3 i)) w.ensures.done in
     let reads' = reads_at g.D.Disk start _ _ _ _ t end end.lanes noted.desk.lanes end.desk w.ensures.begun.1
-    (record { note = λ owners. refl; reach = refl; moment = refl; out = λ o x. x; into = λ o x. x }) in
+    (record { note = λ owners. refl; reach = refl; moment = refl; told_out = λ j ks x. x; told_into = λ j ks x. x; out = λ o x. x; into = λ o x. x }) in
     let ready = may_pass_desk g.D.Disk start laws noted (record noted { desk = end }) noted.desk.lanes refl refl noted.desk.desk before end.desk reads reads'
-    c.wait.new.seat.me.0 w.new.seat.me.0 is turn w.ensures.resumed w.ensures.continues w.ensures.up_to did done
+    c.wait.new.seat.me.0 w.new.seat.me.0 is turn w.ensures.resumed w.ensures.continues w.ensures.up_to c.keepings_are_kept.ensures.reached
+    (ap (λ (d : Standing _ _). left_of d) w.ensures.before) did done
     (ap (option_map (keeping_by g.D.Disk before end.desk)) news.1) c.exchange-2.new.seat.me (rest w.new.seat.me.1) c.exchange-2.ensures.3 in
     (at_desk (keeping_by g.D.Disk before end.desk did), refl, ready)
 
@@ -145,7 +149,7 @@ returns-clause-turn g c =
     let here = sym (hand.read _ c.exchange.ensures.2) ∙ c.into_desk-noted.ensures in
     let is = desk_taken _ start v pass idle _ _ _ drew t noted here in
     let reads = reads_at g.D.Disk start _ _ _ _ t noted.desk noted.desk.lanes noted.desk.lanes noted.desk.desk refl
-    (record { note = λ owners. refl; reach = refl; moment = refl; out = λ o x. x; into = λ o x. x }) in
+    (record { note = λ owners. refl; reach = refl; moment = refl; told_out = λ j ks x. x; told_into = λ j ks x. x; out = λ o x. x; into = λ o x. x }) in
     let out = ap (λ me. me.0) c.exchange.ensures.3 in
     let w = c.work-result in
     let end = w.new.desk in
@@ -156,19 +160,27 @@ returns-clause-turn g c =
     let done = subst (λ (x : DeskWork × Result ℕ Why). HasDone g.D.Disk (hall_notes noted.desk.desk.lanes) x.0 before end.desk x.1)
     (λ i. (sym news.2 i, sym news.3 i)) w.ensures.done in
     let reads' = reads_at g.D.Disk start _ _ _ _ t end end.lanes noted.desk.lanes end.desk w.ensures.begun.1
-    (record { note = λ owners. refl; reach = refl; moment = refl; out = λ o x. x; into = λ o x. x }) in
+    (record { note = λ owners. refl; reach = refl; moment = refl; told_out = λ j ks x. x; told_into = λ j ks x. x; out = λ o x. x; into = λ o x. x }) in
     let ready = may_pass_desk g.D.Disk start laws noted (record noted { desk = end }) noted.desk.lanes refl refl noted.desk.desk before end.desk reads reads'
-    c.wait.new.seat.me.0 w.new.seat.me.0 is turn w.ensures.resumed w.ensures.continues w.ensures.up_to did done
+    c.wait.new.seat.me.0 w.new.seat.me.0 is turn w.ensures.resumed w.ensures.continues w.ensures.up_to c.keepings_are_kept.ensures.reached
+    (ap (λ (d : Standing _ _). left_of d) w.ensures.before) did done
     (ap (option_map (keeping_by g.D.Disk before end.desk)) news.1) c.exchange-2.new.seat.me (rest w.new.seat.me.1) c.exchange-2.ensures.3 in
     let passed = c.leave.ensures.passed (at_desk (keeping_by g.D.Disk before end.desk did)) ready in
     let back = subst (λ y. IsInTurn start c.wait.new.seat.me.0 y (lanes_in start) (lanes_in start) None) (sym (ap (λ me. me.0) c.exchange-2.ensures.3)) turn in
-    let kept = kept_then _ start laws v pass idle _ _ _ c.exchange-2.new.seat.me drew t back (keeping_by g.D.Disk before end.desk did) c.leave.new.seat.me.0 passed in
+    let found : IsFound start before c.wait.new.seat.me.0.seen.keepings = (
+      subst (λ (r : Reach). AllByRecursion (λ (i : Keeping). IsAsFar i.own r) c.wait.new.seat.me.0.seen.keepings)
+          (sym (ap (λ (d : Standing _ _). d.kept) w.ensures.before)) (far_here g.D.Disk start noted noted.desk.lanes noted.desk.desk reads _ is),
+      ap (λ (d : Standing _ _). left_of d) w.ensures.before ∙ left_here g.D.Disk start noted noted.desk.lanes noted.desk.desk reads _ is,
+    ) in
+    let kept = kept_then _ start laws v pass idle _ _ _ c.exchange-2.new.seat.me drew t back (IsFound start before) found (keeping_by g.D.Disk before end.desk did) c.leave.new.seat.me.0 passed in
     let noted_then = subst (λ y. AreAlike (hall_notes noted.desk.desk.lanes) before.note (note_seen y)) out w.ensures.noted in
     let far = far_then _ start laws v pass idle _ _ _ c.exchange-2.new.seat.me drew t back noted.desk.desk.lanes before.note noted_then in
     let gone = gone_on g.D.Disk start laws noted (record noted { desk = end }) noted.desk.lanes refl refl noted.desk.desk before end.desk reads reads'
     c.wait.new.seat.me.0 w.new.seat.me.0 is turn w.ensures.resumed w.ensures.continues w.ensures.up_to
-    (ap (λ (d : Standing _ _). d.disk) w.ensures.before) c.images_are_kept.ensures.since in
+    (ap (λ (d : Standing _ _). d.disk) w.ensures.before) c.images_are_kept.ensures.since c.keepings_are_kept.ensures.own
+    c.keepings_are_kept.ensures.reached in
     turn_is g.D.Disk start noted.desk.desk.lanes before end.desk w.result v c.leave.new.seat.me.0 far gone c.args.work
-    (subst (λ (x : DeskWork × Result ℕ Why). HasKept (machines (lanes_in start)) start
-    (record (keeping_of g.D.Disk before end.desk x.1) { answer = answer_by x.0 x.1 }) [] v c.leave.new.seat.me.0)
+    (subst (λ (x : DeskWork × Result ℕ Why). (y : HasKept (machines (lanes_in start)) start
+    (item_of g.D.Disk before end.desk x.0 x.1) [] v c.leave.new.seat.me.0)
+    × IsFound start before y.before.keepings)
     (λ i. (news.2 i, news.3 i)) kept) w.ensures.done

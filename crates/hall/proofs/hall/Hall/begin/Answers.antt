@@ -24,7 +24,7 @@ new-requires g c =
     (fresh_so g.D.AtDesk (lanes_in start) start here.fresh)
     (noted g.D.AtDesk s start desk c.known_by.ensures (c.of.ensures ∙ sym c.of-3.ensures)
     (ap (λ v. v.items) c.of-2.ensures ∙ sym (ap (λ v. v.items) c.of-4.ensures)) (c.of-3.ensures ∙ parts.register) owners_are
-    c.requires.since c.requires.note) c.requires.some_pass few
+    c.requires.since c.requires.note c.requires.told) c.requires.some_pass few
     (c.as_slice.ensures.value ∙ c.in_ok-words.ensures.items_if_clones_equal (λ y e. search rules)
     ∙ ap (λ n. replicate (n + 4) 0) (c.len-lanes.ensures ∙ ap (λ o. length o.owners) parts.owners ∙ sym (ap length owners_are)))
     (c.in_ok-slots.ensures.laid

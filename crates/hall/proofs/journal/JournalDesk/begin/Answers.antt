@@ -1,11 +1,11 @@
-use Rattle.std.proofs.Common.{◌≡◌, ℕ, Some, length, refl, sym, ap, ◌∙◌, subst}
+use Rattle.std.proofs.Common.{◌≡◌, ℕ, Some, length, arith, refl, sym, ap, ◌∙◌, subst}
 use Rattle.std.specs.Prelude.{slice_get}
 use Rattle.chunk_owner.specs.Lanes.{Lane}
 use Rattle.flush_journal.specs.Records.{Held}
-use Rattle.flush_journal.specs.Standing.{disk_of}
+use Rattle.flush_journal.specs.Standing.{disk_of, end_of}
 use Rattle.flush_journal.specs.Unchanged.{SameDisk}
 use Rattle.flush_journal.proofs.Unchanged.{same_here}
-use Rattle.journal_desk.specs.Keepings.{HasKept}
+use Rattle.journal_desk.specs.Keepings.{HasKept, owed_by}
 use Rattle.lane_histories.specs.declared.items.Reach.{Reach}
 use Rattle.register.specs.Decided.{RegisterState}
 use Rattle.register.specs.Installed.Registers.{DescribesRegister}
@@ -75,4 +75,16 @@ returns-clause-since g c =
       disk = subst (λ (x : g.row.D.Denot × g.row.D.Denot). SameDisk met x.0 x.1) (λ i. (sym first i, sym begun.disk.0 i)) (same_here met (disk_of c.args.journal));
       kept = λ honest.
           subst (λ (x : ℕ × Reach). HasKept met (hall_notes desk.lanes) desk x.0 x.1) (λ i. (moment i, begun.reach.1 i)) (c.images_are_kept.ensures.since honest);
+      reached = λ honest.
+          let same : met.moment (disk_of c.of-first.result.value) ≡ met.moment desk.at = ap met.moment (first ∙ sym begun.disk.1) in omega (arith, same);
+    }
+
+pub returns-clause-told : goal.returns-clause-told
+returns-clause-told g c =
+    let begun = c.begin-desk.ensures in
+    let desk = c.begin-desk.result in
+    let end : desk.end ≡ end_of c.of-first.result.value = begun.disk.2 ∙ sym (ap end_of c.of-first.ensures) in record {
+      between = tt;
+      follow = tt;
+      left = λ i. record { end = end i; owed = owed_by (begun.idle.0 i); cut = begun.reach.0 i; own = begun.reach.1 i };
     }

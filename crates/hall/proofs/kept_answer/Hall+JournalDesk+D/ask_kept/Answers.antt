@@ -17,7 +17,7 @@ returns g c =
     let asked = c.ask-answer.ensures in
     let last = c.keep_first-kept.new.pass in
     let kept = c.keep_first-kept.result in
-    let turn = subst (λ (work : Option DeskWork). HasKeptFor g.D.Disk work start kept (view_of mid) (view_of last)) c.work_for.ensures
+    let turn = subst (λ (work : Option DeskWork). HasKeptFor g.D.Disk work start kept (view_of mid) (view_of last)) c.work_for-work.ensures
     c.keep_first-kept.ensures.kept in
     let answered = still_answered g.D.Disk start kept (view_of mid) (view_of last) _ turn (replies.stay lanes) _ _ _ (view_of c.args.pass.now)
     c.args.pass.now.live asked.answered in record {

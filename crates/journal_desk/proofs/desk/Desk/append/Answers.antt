@@ -1,4 +1,4 @@
-use Rattle.std.proofs.Common.{◌≡◌, None, Some, ap, sym, ◌∙◌, subst}
+use Rattle.std.proofs.Common.{◌≡◌, None, Some, ap, arith, sym, ◌∙◌, subst}
 use Rattle.flush_journal.specs.Standing.{disk_of}
 use Rattle.flush_journal.specs.Batches.{records}
 use Rattle.lane_histories.specs.Cuts.{last_cut}
@@ -7,7 +7,7 @@ use Rattle.journal_desk.proofs.ImageLemmas.{as_far}
 use Rattle.journal_desk.proofs.AnsweredLemmas.{answered_call, answered_ok}
 use Rattle.journal_desk.proofs.ImageLemmas.{image_kept}
 use Rattle.journal_desk.specs.Notes.{at_lanes}
-use Rattle.journal_desk.proofs.ContinueLemmas.{continues_from, continues_here}
+use Rattle.journal_desk.proofs.ContinueLemmas.{continues_from, continues_here, reached_now}
 use Rattle.journal_desk.proofs.DeskLemmas.{append_err, append_leaves, append_ok}
 use Rattle.journal_desk.proofs.desk.Desk.append.Goals as goal
 
@@ -34,7 +34,7 @@ returns-in_err-append_all-clause-continues g c =
     (sym c.self.view_is) c.requires.register in
     continues_from g.D.Disk g.N.Note _ _ _ c.self.view_is
     (continues_here g.D.Disk (at_lanes g.N.Note d.lanes) d.lanes d.journal c.append_all.new.journal _ _ d.cut d.cut d.kept d.kept (disk_of d.at.value) (disk_of d.at.value)
-    d.note c.self.invariant.desk.legal c.append_all.ensures.same (as_far _)
+    d.note c.self.invariant.desk.legal c.append_all.ensures.same (as_far _) (λ honest. omega arith)
     (append_leaves _ _ _ _ d.journal c.append_all.new.journal (records d.building) d.cut d.kept c.self.invariant.desk idle register _ c.append_all.ensures.writes))
 
 pub invariant_of-self-2 : goal.invariant_of-self-2
@@ -62,4 +62,6 @@ returns-clause-continues g c =
     continues_from g.D.Disk g.N.Note _ _ _ c.self.view_is
     (continues_here g.D.Disk (at_lanes g.N.Note d.lanes) d.lanes d.journal c.append_all.new.journal _ _ d.cut d.cut d.kept d.cut (disk_of d.at.value) _
     d.note c.self.invariant.desk.legal c.append_all.ensures.same c.self.invariant.desk.far
+    (reached_now g.D.Disk (disk_of d.at.value) d.journal c.append_all.new.journal c.of.result.value c.of.ensures c.append_all.ensures.same
+    (λ honest. (c.self.invariant.answered.own honest).0))
     (append_leaves _ _ _ _ d.journal c.append_all.new.journal (records d.building) d.cut d.kept c.self.invariant.desk idle register _ c.append_all.ensures.writes))

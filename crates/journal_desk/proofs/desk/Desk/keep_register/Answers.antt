@@ -1,7 +1,10 @@
-use Rattle.std.proofs.Common.{◌≡◌, false, true, Result, subst}
+use Rattle.std.proofs.Common.{◌≡◌, false, true, Result, ap, subst}
 use Rattle.std.specs.Prelude.{IsErr}
 use Rattle.flush_journal.specs.declared.why.Why.{Why}
+use Rattle.std.specs.Result.{is_err}
 use Rattle.journal_desk.proofs.ContinueLemmas.{continues_both, still_up_to}
+use Rattle.journal_desk.proofs.ImageLemmas.{farther}
+use Rattle.journal_desk.proofs.RefusalLemmas.{first_handed, first_on}
 use Rattle.journal_desk.proofs.desk.Desk.keep_register.Goals as goal
 
 pub returns-in_err-cut_register-clause-continues : goal.returns-in_err-cut_register-clause-continues
@@ -38,3 +41,20 @@ returns-in_err-append-clause-here g c =
 pub returns-clause-here : goal.returns-clause-here
 returns-clause-here g c =
     still_up_to g.N.Note _ _ _ _ c.append.ensures.continues.lanes c.append.ensures.same.2 c.cut_register.ensures.here
+
+pub returns-in_err-settle-clause-first : goal.returns-in_err-settle-clause-first
+returns-in_err-settle-clause-first g c = first_handed g.D.Disk _ _ _ _ c.from_residual.ensures.0 c.settle.ensures.first
+
+pub returns-in_err-cut_register-clause-first : goal.returns-in_err-cut_register-clause-first
+returns-in_err-cut_register-clause-first g c =
+    first_on g.D.Disk _ _ _ _ _ (ap is_err c.in_ok-settle.was) c.cut_register.ensures.continues.own c.settle.ensures.first
+
+pub returns-in_err-append-clause-first : goal.returns-in_err-append-clause-first
+returns-in_err-append-clause-first g c =
+    first_on g.D.Disk _ _ _ _ _ (ap is_err c.in_ok-settle.was)
+    (farther _ _ _ c.cut_register.ensures.continues.own c.append.ensures.continues.own) c.settle.ensures.first
+
+pub returns-clause-first : goal.returns-clause-first
+returns-clause-first g c =
+    first_on g.D.Disk _ _ _ _ _ (ap is_err c.in_ok-settle.was)
+    (farther _ _ _ c.cut_register.ensures.continues.own c.append.ensures.continues.own) c.settle.ensures.first

@@ -1,4 +1,4 @@
-use Rattle.std.proofs.Common.{Err, ap, sym, ◌∙◌}
+use Rattle.std.proofs.Common.{Err, ap, arith, refl, sym, ◌∙◌}
 use Rattle.std.proofs.lemmas.Result.{err_from_is_err_and}
 use Rattle.flush_journal.specs.Standing.{disk_of}
 use Rattle.flush_journal.specs.Batches.{records}
@@ -7,9 +7,9 @@ use Rattle.journal_desk.proofs.ImageLemmas.{as_far}
 use Rattle.journal_desk.proofs.AnsweredLemmas.{answered_call, answered_ok}
 use Rattle.journal_desk.proofs.ImageLemmas.{image_kept}
 use Rattle.journal_desk.specs.Notes.{at_lanes}
-use Rattle.journal_desk.proofs.ContinueLemmas.{continues_from, continues_here}
+use Rattle.journal_desk.proofs.ContinueLemmas.{continues_from, continues_here, reached_now}
 use Rattle.journal_desk.proofs.DeskLemmas.{settle_err, settle_leaves, settle_ok, is_pending}
-use Rattle.journal_desk.proofs.RefusalLemmas.{refused, refused_full}
+use Rattle.journal_desk.proofs.RefusalLemmas.{first_done, first_refused, refused, refused_full}
 use Rattle.journal_desk.proofs.desk.Desk.settle.Goals as goal
 
 pub invariant_of-self : goal.invariant_of-self
@@ -30,7 +30,7 @@ returns-in_err-settle-clause-continues g c =
     let p = is_pending d.journal (c.pending.ensures.0 c.if-pending.true) in
     continues_from g.D.Disk g.N.Note _ _ _ c.self.view_is
     (continues_here g.D.Disk (at_lanes g.N.Note d.lanes) d.lanes d.journal c.settle.new.self _ _ d.cut d.cut d.kept d.kept (disk_of d.at.value) (disk_of d.at.value)
-    d.note c.self.invariant.desk.legal c.settle.ensures.same (as_far _)
+    d.note c.self.invariant.desk.legal c.settle.ensures.same (as_far _) (λ honest. omega arith)
     (settle_leaves _ _ _ _ d.journal c.settle.new.self (records d.building) d.cut d.kept c.self.invariant.desk p.0 p.1 _ c.settle.ensures.writes))
 
 pub returns-in_err-settle-clause-err : goal.returns-in_err-settle-clause-err
@@ -81,4 +81,23 @@ returns-in_ok-settle-clause-continues g c =
     continues_from g.D.Disk g.N.Note _ _ _ c.self.view_is
     (continues_here g.D.Disk (at_lanes g.N.Note d.lanes) d.lanes d.journal c.settle.new.self _ _ d.cut d.cut d.kept d.cut (disk_of d.at.value) _
     d.note c.self.invariant.desk.legal c.settle.ensures.same c.self.invariant.desk.far
+    (reached_now g.D.Disk (disk_of d.at.value) d.journal c.settle.new.self c.of.result.value c.of.ensures c.settle.ensures.same
+    (λ honest. (c.self.invariant.answered.own honest).0))
     (settle_leaves _ _ _ _ d.journal c.settle.new.self (records d.building) d.cut d.kept c.self.invariant.desk p.0 p.1 _ c.settle.ensures.writes))
+
+pub returns-in_err-settle-clause-first : goal.returns-in_err-settle-clause-first
+returns-in_err-settle-clause-first g c =
+    let d = c.self.inside in
+    let p = is_pending d.journal (c.pending.ensures.0 c.if-pending.true) in
+    let found = err_from_is_err_and c.from_residual.result c.from_residual.ensures.1 in
+    first_refused g.D.Disk d.lanes d.journal c.settle.new.self p.0 c.settle.ensures.same
+    (records d.building) (records d.building) d.cut d.kept (disk_of d.at.value) d.note _ _ _ c.self.view_is (found.1 ∙ ap Err found.2) p.1
+    (c.in_err-settle.ensures.tries p.0 p.1)
+
+pub returns-in_ok-settle-clause-first : goal.returns-in_ok-settle-clause-first
+returns-in_ok-settle-clause-first g c =
+    let d = c.self.inside in
+    let p = is_pending d.journal (c.pending.ensures.0 c.if-pending.true) in
+    first_done g.D.Disk d.lanes d.journal c.settle.new.self p.0 c.settle.ensures.same
+    (records d.building) (records d.building) d.cut d.kept (disk_of d.at.value) d.note _ _ _ c.self.view_is refl p.1
+    (c.in_ok-settle.ensures.tries p.0 p.1)
