@@ -1,17 +1,22 @@
 -- How links left the world, by the status.
-use Rattle.std.proofs.Common.{◌≡◌, ◌⊎◌, inl, inr, ℕ, Option, Some, None, Result, Ok, Err, OnOk, refl, sym, ap, subst, ◌∙◌}
+use Rattle.std.proofs.Common.{◌≡◌, ◌⊎◌, inl, inr, ℕ, List, Option, Some, None, Result, Ok, Err, OnOk, refl, sym, ap, subst, ◌∙◌}
+use Rattle.access_lists.specs.Tokens.Bearer.{TokenTable}
 use Rattle.edge_traits.specs.declared.disk.Disk.{Ghosts}
-use Rattle.command_words.specs.Commands.{Command, export, import, init, sample, serve, session, verify}
+use Rattle.command_words.specs.Commands.{Command, command_of, export, import, init, sample, serve, session, verify}
+use Rattle.flush_journal.specs.declared.journal.Journal.{Journal}
 use Rattle.flush_journal.specs.declared.why.Why.{Why}
 use Rattle.flush_journal.specs.declared.why.Why.TheVariants as why
+use Rattle.service_core.specs.Worlds.{State}
+use Rattle.rest_session.specs.Kept.Doors.{AreDoorsKept}
+use Rattle.rest_session.specs.declared.kept.outcome.ClosedDoors.{ClosedDoors}
 use Rattle.hsds_cli.specs.declared.closed.Closed.{Closed}
 use Rattle.hsds_cli.specs.Closings.{of_doors, of_link}
 use Rattle.hsds_cli.specs.Doors.{Doors}
 use Rattle.hsds_cli.specs.declared.status.Status.{Status}
 use Rattle.hsds_cli.specs.declared.status.Status.TheVariants.{Done, Words, Configuration, ReadFault, WriteFault, DiskFault, NotAJournal, Refused, JournalExists, DoorFault, InputCut, UsedUp, Budget, NoMemory}
 use Rattle.hsds_cli.specs.Openings.{IsSession, Serves, status_after, status_of}
-use Rattle.hsds_cli.specs.Runs.{IsCommanded, MayBeUnkept}
-use Rattle.hsds_cli.specs.Serves.{IsServedBy, ServesDoors, reports_status}
+use Rattle.hsds_cli.specs.Runs.{IsCommanded, IsRun, MayBeUnkept}
+use Rattle.hsds_cli.specs.Serves.{Desks, IsServedBy, ServesDoors, reports_status}
 use Rattle.hsds_cli.specs.Sides.{Sides}
 use Rattle.hsds_cli.specs.Status.{number_of}
 
@@ -37,19 +42,21 @@ by_closed made c closed is made_is ended last status e all =
     subst (λ (x : Closed). (x.kept ≡ x.front) ⊎ MayBeUnkept (number_of status)) (closed_once made c (sym made_is ∙ is))
     (by_last (made.kept ≡ made.front) ended last status e all)
 
--- what is after Ok, and what is always, hold together after Ok
-kept_all : (kept front places : ℕ) (last : Result ℕ Why) → front ≡ places → OnOk last (kept ≡ places) → OnOk last (kept ≡ front)
-kept_all kept front places (Ok n) same all = all ∙ sym same
-kept_all kept front places (Err why) same all = tt
+-- after Ok of the last flush all is kept
+doors_kept : {F L D : Type 0} (met : Ghosts D) (desks : Desks met) (links : ℕ) (doors : Doors F L) (tokens : TokenTable) (journal : Journal D met) (first : State) (after : D) (left : ClosedDoors)
+    (last : Result ℕ Why) → AreDoorsKept met desks doors.tells tokens links journal first after doors.before doors.after left last → OnOk last (left.kept ≡ left.front)
+doors_kept met desks links doors tokens journal first after left last k =
+    subst (λ (l : Result ℕ Why). OnOk l (left.kept ≡ left.front)) (sym k.last_is)
+    (subst (λ (c : ClosedDoors). OnOk k.hall.last (c.kept ≡ c.front)) (sym k.closed_is) k.is_closed.all)
 
-module _ {F L D : Type 0} (met : Ghosts D) (sides : Sides) (doors : Doors F L) (before after : D) (closed : Option Closed) (c : Closed) (is : closed ≡ Some c) where
+module _ {F L D : Type 0} (met : Ghosts D) (desks : Desks met) (sides : Sides) (doors : Doors F L) (before after : D) (closed : Option Closed) (c : Closed) (is : closed ≡ Some c) where
   served : (status : Status) → Serves met sides before after closed status → (c.kept ≡ c.front) ⊎ MayBeUnkept (number_of status)
   served status s = by_closed (of_link s.link_closed) c closed is s.is_closed (status_of s.link_closed.end) s.last status s.ended s.served.all
 
-  served_doors : (links : ℕ) (status : Status) → ServesDoors met links sides doors before after closed status → (c.kept ≡ c.front) ⊎ MayBeUnkept (number_of status)
+  served_doors : (links : ℕ) (status : Status) → ServesDoors met desks links sides doors before after closed status → (c.kept ≡ c.front) ⊎ MayBeUnkept (number_of status)
   served_doors links status s =
       by_closed (of_doors s.left) c closed is s.is_closed (reports_status s.left.reports.items) s.last status s.ended
-      (kept_all s.left.kept s.left.front s.served.closing.register.places s.last s.served.front s.served.last_keeping.all)
+      (doors_kept met desks links doors s.config.tokens s.journal s.first after s.left s.last s.served)
 
   of_session : (status : Status) → IsSession met sides before after closed status → (c.kept ≡ c.front) ⊎ MayBeUnkept (number_of status)
   of_session Done s = served Done s
@@ -68,7 +75,7 @@ module _ {F L D : Type 0} (met : Ghosts D) (sides : Sides) (doors : Doors F L) (
   of_session JournalExists s = absurd s
   of_session DoorFault s = absurd s
 
-  of_serve : (links : ℕ) (status : Status) → IsServedBy met links sides doors before after closed status → (c.kept ≡ c.front) ⊎ MayBeUnkept (number_of status)
+  of_serve : (links : ℕ) (status : Status) → IsServedBy met desks links sides doors before after closed status → (c.kept ≡ c.front) ⊎ MayBeUnkept (number_of status)
   of_serve links Done s = served_doors links Done s.0
   of_serve links Configuration s = none_closed closed c s.1.0 is
   of_serve links ReadFault s = none_closed closed c s.1.0 is
@@ -84,7 +91,7 @@ module _ {F L D : Type 0} (met : Ghosts D) (sides : Sides) (doors : Doors F L) (
   of_serve links JournalExists s = absurd s
   of_serve links InputCut s = absurd s
 
-  pub kept_or_refused : (command : Option Command) (status : Status) → IsCommanded met command sides doors before after closed status → (c.kept ≡ c.front) ⊎ MayBeUnkept (number_of status)
+  kept_or_refused : (command : Option Command) (status : Status) → IsCommanded met desks command sides doors before after closed status → (c.kept ≡ c.front) ⊎ MayBeUnkept (number_of status)
   kept_or_refused None status h = none_closed closed c h.2 is
   kept_or_refused (Some (init config journal lanes)) status h = none_closed closed c h.1 is
   kept_or_refused (Some (session config journal)) status h = of_session status h
@@ -93,3 +100,9 @@ module _ {F L D : Type 0} (met : Ghosts D) (sides : Sides) (doors : Doors F L) (
   kept_or_refused (Some (import path journal owner)) status h = none_closed closed c h.1 is
   kept_or_refused (Some (sample n)) status h = none_closed closed c h.2 is
   kept_or_refused (Some (verify journal)) status h = none_closed closed c h.2 is
+
+-- so it is of a run, with its disk or without
+pub kept_of_run : {F L D : Type 0} (met : Ghosts D) (desks : Desks met) (words : List (List ℕ)) (sides : Sides) (doors : Doors F L) (before : D) (after : Option D) (closed : Option Closed) (c : Closed)
+    → closed ≡ Some c → (status : Status) → IsRun met desks words sides doors before after closed status → (c.kept ≡ c.front) ⊎ MayBeUnkept (number_of status)
+kept_of_run met desks words sides doors before (Some after) closed c is status ran = kept_or_refused met desks sides doors before after closed c is (command_of words) status ran
+kept_of_run met desks words sides doors before None closed c is status ran = none_closed closed c ran.2.0 is

@@ -24,7 +24,7 @@ use Rattle.hsds_cli.specs.Makings.{IsInit}
 use Rattle.hsds_cli.specs.Openings.{IsSession, IsVerified, Serves}
 use Rattle.hsds_cli.specs.Runs.{IsCommanded}
 use Rattle.hsds_cli.specs.Sampled.{IsSampled}
-use Rattle.hsds_cli.specs.Serves.{IsServedBy, reports_status}
+use Rattle.hsds_cli.specs.Serves.{Desks, IsServedBy, reports_status}
 use Rattle.hsds_cli.specs.Sides.{Sides, SpellsNone, configured}
 use Rattle.hsds_cli.specs.Status.{number_of}
 use Rattle.hsds_cli.proofs.EndLemmas.{full, full_doors, reports_full, status_budget, status_cut, uncut_over}
@@ -70,7 +70,7 @@ accepted file path left after w has kept (inr (l, cause, document, is)) =
     let wrong : None ≡ Some cause = sym (has.free w kept l loads) ∙ is in
     cc
 
-module _ {F L D : Type 0} (met : Ghosts D) (honest : met.honest) (sides : Sides) (doors : Doors F L) (before after : D) (closed : Option Closed) where
+module _ {F L D : Type 0} (met : Ghosts D) (desks : Desks met) (honest : met.honest) (sides : Sides) (doors : Doors F L) (before after : D) (closed : Option Closed) where
   -- a link that was served over whole messages wasn't cut
   whole_link : (status : Status) (s : Serves met sides before after closed status) → IsWholeInput sides.left_before → IsUncut s.link_closed.end
   whole_link status s whole =
@@ -80,7 +80,7 @@ module _ {F L D : Type 0} (met : Ghosts D) (honest : met.honest) (sides : Sides)
   session_budget : Serves met sides before after closed Budget → UsesUpBudget closed
   session_budget s = (of_link s.link_closed, s.is_closed, (0, s.link_closed.end ∷ [], refl, 0, ap (λ (e : LinkEnd). Some e) (status_budget s.link_closed.end s.last s.ended)))
 
-  of_init : (lanes : ℕ) (config journal : List ℕ) (status : Status) → IsInit met lanes sides before after status → IsUndisturbed met (init config journal lanes) sides doors before after closed → IsEnd status
+  of_init : (lanes : ℕ) (config journal : List ℕ) (status : Status) → IsInit met lanes sides before after status → IsUndisturbed met desks (init config journal lanes) sides doors before after closed → IsEnd status
   of_init lanes config journal Done h u = inl refl
   of_init lanes config journal NoMemory h u = inr refl
   of_init lanes config journal Configuration h u = absurd (spelled sides.text u.finds.0 h.0)
@@ -96,7 +96,7 @@ module _ {F L D : Type 0} (met : Ghosts D) (honest : met.honest) (sides : Sides)
   of_init lanes config journal InputCut h u = absurd h
   of_init lanes config journal Budget h u = absurd h
 
-  of_verify : (journal : List ℕ) (status : Status) → IsVerified met sides before after status → IsUndisturbed met (verify journal) sides doors before after closed → IsEnd status
+  of_verify : (journal : List ℕ) (status : Status) → IsVerified met sides before after status → IsUndisturbed met desks (verify journal) sides doors before after closed → IsEnd status
   of_verify journal Done h u = inl refl
   of_verify journal NoMemory h u = inr refl
   of_verify journal WriteFault h u = absurd (u.calm.out h.0)
@@ -112,7 +112,7 @@ module _ {F L D : Type 0} (met : Ghosts D) (honest : met.honest) (sides : Sides)
   of_verify journal InputCut h u = absurd h
   of_verify journal Budget h u = absurd h
 
-  of_export : (path journal : List ℕ) (status : Status) → IsExported met path sides before after status → IsUndisturbed met (export path journal) sides doors before after closed → IsEnd status
+  of_export : (path journal : List ℕ) (status : Status) → IsExported met path sides before after status → IsUndisturbed met desks (export path journal) sides doors before after closed → IsEnd status
   of_export path journal Done h u = inl refl
   of_export path journal NoMemory h u = inr refl
   of_export path journal WriteFault h u = absurd (u.calm.out h.0)
@@ -128,7 +128,7 @@ module _ {F L D : Type 0} (met : Ghosts D) (honest : met.honest) (sides : Sides)
   of_export path journal InputCut h u = absurd h
   of_export path journal Budget h u = absurd h
 
-  of_import : (path journal owner : List ℕ) (status : Status) → IsImported met path owner sides before after status → IsUndisturbed met (import path journal owner) sides doors before after closed → IsEnd status
+  of_import : (path journal owner : List ℕ) (status : Status) → IsImported met path owner sides before after status → IsUndisturbed met desks (import path journal owner) sides doors before after closed → IsEnd status
   of_import path journal owner Done h u = inl refl
   of_import path journal owner NoMemory h u = inr refl
   of_import path journal owner ReadFault h u = absurd (u.calm.input h.0)
@@ -145,7 +145,7 @@ module _ {F L D : Type 0} (met : Ghosts D) (honest : met.honest) (sides : Sides)
   of_import path journal owner InputCut h u = absurd h
   of_import path journal owner Budget h u = absurd h
 
-  of_sample : (n : ℕ) (status : Status) → IsSampled n sides status → IsUndisturbed met (sample n) sides doors before after closed → IsEnd status
+  of_sample : (n : ℕ) (status : Status) → IsSampled n sides status → IsUndisturbed met desks (sample n) sides doors before after closed → IsEnd status
   of_sample n Done h u = inl refl
   of_sample n NoMemory h u = inr refl
   of_sample n WriteFault h u = absurd (u.calm.out h.0.3)
@@ -161,7 +161,7 @@ module _ {F L D : Type 0} (met : Ghosts D) (honest : met.honest) (sides : Sides)
   of_sample n UsedUp h u = absurd h.0
   of_sample n Budget h u = absurd h.0
 
-  of_session : (config journal : List ℕ) (status : Status) → IsSession met sides before after closed status → IsUndisturbed met (session config journal) sides doors before after closed → IsEnd status
+  of_session : (config journal : List ℕ) (status : Status) → IsSession met sides before after closed status → IsUndisturbed met desks (session config journal) sides doors before after closed → IsEnd status
   of_session config journal Done h u = inl refl
   of_session config journal NoMemory h u = inr refl
   of_session config journal Configuration h u = absurd (spelled sides.text u.finds.0 h.0)
@@ -179,8 +179,8 @@ module _ {F L D : Type 0} (met : Ghosts D) (honest : met.honest) (sides : Sides)
   of_session config journal JournalExists h u = absurd h
   of_session config journal DoorFault h u = absurd h
 
-  of_serve : (config journal listen : List ℕ) (workers links : ℕ) (status : Status) → IsServedBy met links sides doors before after closed status
-      → IsUndisturbed met (serve config journal listen workers links) sides doors before after closed → IsEnd status
+  of_serve : (config journal listen : List ℕ) (workers links : ℕ) (status : Status) → IsServedBy met desks links sides doors before after closed status
+      → IsUndisturbed met desks (serve config journal listen workers links) sides doors before after closed → IsEnd status
   of_serve config journal listen workers links Done h u = inl refl
   of_serve config journal listen workers links NoMemory h u = inr refl
   of_serve config journal listen workers links Configuration h u = absurd (spelled sides.text u.finds.0 h.0)
@@ -200,7 +200,7 @@ module _ {F L D : Type 0} (met : Ghosts D) (honest : met.honest) (sides : Sides)
   of_serve config journal listen workers links JournalExists h u = absurd h
   of_serve config journal listen workers links InputCut h u = absurd h
 
-  pub complete : (command : Command) (status : Status) → IsCommanded met (Some command) sides doors before after closed status → IsUndisturbed met command sides doors before after closed → IsEnd status
+  pub complete : (command : Command) (status : Status) → IsCommanded met desks (Some command) sides doors before after closed status → IsUndisturbed met desks command sides doors before after closed → IsEnd status
   complete (init config journal lanes) status h u = of_init lanes config journal status h.0 u
   complete (session config journal) status h u = of_session config journal status h u
   complete (serve config journal listen workers links) status h u = of_serve config journal listen workers links status h.1 u

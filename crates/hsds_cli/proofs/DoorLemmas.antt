@@ -1,11 +1,16 @@
 -- What reports tell of the doors at their places.
-use Rattle.std.proofs.Common.{◌≡◌, ◌⊎◌, ℕ, ◌+◌, List, [], ◌∷◌, ◌∙◌, ◌||◌, length, map, Bool, true, false, Option, Some, None, zero, suc, refl, sym, ap, subst, arith}
+use Rattle.std.proofs.Common.{◌≡◌, ◌⊎◌, ℕ, ◌+◌, List, [], ◌∷◌, ◌∙◌, ◌||◌, length, map, Bool, true, false, Option, Some, None, Result, zero, suc, refl, sym, ap, subst, arith}
 use Rattle.std.specs.List.{list_any, slice_get}
 use Rattle.std.proofs.lemmas.Map.Keys.{any_passes_from_place}
 use Rattle.access_lists.specs.Tokens.Bearer.{TokenTable}
 use Rattle.edge_traits.specs.Causes.{Rose}
+use Rattle.edge_traits.specs.declared.disk.Disk.{Ghosts}
+use Rattle.flush_journal.specs.declared.journal.Journal.{Journal}
+use Rattle.flush_journal.specs.declared.why.Why.{Why}
+use Rattle.hall.specs.declared.desk.AtDesk.{Ghosts as AtDesk}
 use Rattle.service_core.specs.Worlds.{State}
 use Rattle.rest_session.specs.Halls.Histories.{IsServed}
+use Rattle.rest_session.specs.Kept.Doors.{AreDoorsKept}
 use Rattle.rest_session.specs.Halls.Visits.{IsAllOf, IsAskedToTheEnd, IsFailedFor, Telling}
 use Rattle.rest_session.specs.declared.halls.hiring.Report.{Report}
 use Rattle.rest_session.specs.declared.kept.outcome.ClosedDoors.{ClosedDoors}
@@ -14,7 +19,7 @@ use Rattle.rest_session.specs.declared.links.end.LinkEnd.TheVariants as end
 use Rattle.hsds_cli.specs.declared.closed.Closed.{Closed}
 use Rattle.hsds_cli.specs.Closings.{HasFailedDoor, SomeBudget, SomeFailed, UsesUpBudget, ends_of, of_doors}
 use Rattle.hsds_cli.specs.Doors.{AreAskedOut, AreAskedUnlessFailed, Doors, IsAskedOut, SomeDoorFailed}
-use Rattle.hsds_cli.specs.Serves.{is_budget, some_budget, some_failed}
+use Rattle.hsds_cli.specs.Serves.{Desks, is_budget, some_budget, some_failed}
 
 -- ---- lists
 
@@ -106,16 +111,23 @@ asked_from : {F L : Type 0} (tells : Telling F L) (links : ℕ) (door : F) (give
 asked_from tells links door given true is h = absurd (let no : true ≡ false = is in cc)
 asked_from tells links door given false is h = h
 
-module _ {F L : Type 0} (links : ℕ) (doors : Doors F L) (tokens : TokenTable) (first closing : State) (front : ℕ) (reports : List Report)
-    (s : IsServed (Unit {0}) doors.tells tokens links first closing front doors.before doors.after reports) where
+-- doors that were kept were served so, by the reports that are told
+pub served_of : {F L D : Type 0} (met : Ghosts D) (desks : Desks met) (links : ℕ) (doors : Doors F L) (tokens : TokenTable) (journal : Journal D met) (first : State) (after : D) (closed : ClosedDoors)
+    (last : Result ℕ Why) (k : AreDoorsKept met desks doors.tells tokens links journal first after doors.before doors.after closed last)
+    → IsServed desks doors.tells tokens links first k.hall.world k.hall.front k.hall.desk doors.before doors.after closed.reports.items
+served_of met desks links doors tokens journal first after closed last k =
+    subst (λ (c : ClosedDoors). IsServed desks doors.tells tokens links first k.hall.world k.hall.front k.hall.desk doors.before doors.after c.reports.items) (sym k.closed_is) k.is_closed.served
+
+module _ {F L D K : Type 0} (desks : AtDesk D K) (links : ℕ) (doors : Doors F L) (tokens : TokenTable) (first closing : State) (front : ℕ) (desk : D) (reports : List Report)
+    (s : IsServed desks doors.tells tokens links first closing front desk doors.before doors.after reports) where
   -- a worker whose door didn't fail asked it to its end
   asked_at : (i : ℕ) (door after : F) (report : Report) → slice_get doors.before i ≡ Some door → slice_get doors.after i ≡ Some after → slice_get reports i ≡ Some report
       → report.door_failed ≡ false → IsAskedOut links doors.tells door after
   asked_at i door after report d n r none =
       let w = s.each i door after report d n r in record {
-        given = map (λ v. v.link) w.1.visits;
-        taken = w.1.attends.taken;
-        all = asked_from doors.tells links door (map (λ v. v.link) w.1.visits) report.door_failed none w.1.asked;
+        given = map (λ v. v.link) w.3.visits;
+        taken = w.3.attends.taken;
+        all = asked_from doors.tells links door (map (λ v. v.link) w.3.visits) report.door_failed none w.3.asked;
       }
 
   pub asked_out : some_failed reports ≡ false → AreAskedOut links doors
@@ -127,7 +139,7 @@ module _ {F L : Type 0} (links : ℕ) (doors : Doors F L) (tokens : TokenTable) 
   asked_unless_failed = λ i door after at calm.
       let r = there doors.before reports s.one_each i door at.0 in
       let w = s.each i door after r.0 at.0 at.1 r.1 in
-      asked_at i door after r.0 at.0 at.1 r.1 (calm_flag doors.tells door after r.0.door_failed w.1.cause calm) where
+      asked_at i door after r.0 at.0 at.1 r.1 (calm_flag doors.tells door after r.0.door_failed w.3.cause calm) where
         calm_flag : (tells : Telling F L) (door after : F) (b : Bool) → IsFailedFor tells door after b → (Rose (tells.faults door) (tells.faults after) → ⊥) → b ≡ false
         calm_flag tells door after true h calm = absurd (calm h)
         calm_flag tells door after false h calm = refl
@@ -139,4 +151,4 @@ module _ {F L : Type 0} (links : ℕ) (doors : Doors F L) (tokens : TokenTable) 
       let d = there reports doors.before (sym s.one_each) p.0 p.1 p.2 in
       let n = there reports doors.after (s.as_many ∙ sym s.one_each) p.0 p.1 p.2 in
       let w = s.each p.0 d.0 n.0 p.1 d.1 n.1 p.2 in
-      (p.0, d.0, n.0, (d.1, n.1), rose_from doors.tells d.0 n.0 p.1.door_failed p.3 w.1.cause)
+      (p.0, d.0, n.0, (d.1, n.1), rose_from doors.tells d.0 n.0 p.1.door_failed p.3 w.3.cause)

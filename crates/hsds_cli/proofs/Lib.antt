@@ -7,6 +7,7 @@ mod ExportLemmas
 mod ImportLemmas
 mod InitLemmas
 mod Printing
+mod RunLemmas
 mod ServeLemmas
 mod SessionLemmas
 mod VerifyLemmas

@@ -2,7 +2,7 @@
 --     Finds met command sides before      what the command needs stands there
 --     IsCalm met sides before after      no count of faults rose
 --     MeetsDoorFault command doors      a door had a fault
---     MeetsRoom met command sides doors before after closed      a keeping was refused for want of room
+--     MeetsRoom met desks command sides doors before after closed      a keeping was refused for want of room
 use Rattle.std.specs.Prelude.{◌≡◌, ◌≢◌, ◌⊎◌, ℕ, List, take, Option, Some, None, Err}
 use Rattle.json_import.specs.Adoption.Faults.{adopt_fault}
 use Rattle.edge_traits.specs.Causes.{Rose}
@@ -27,7 +27,7 @@ use Rattle.hsds_cli.specs.Exports.{IsWithheld}
 use Rattle.hsds_cli.specs.Imports.{IsStopped}
 use Rattle.hsds_cli.specs.Makings.{MakesNone}
 use Rattle.hsds_cli.specs.Openings.{HasNoRun, HasNoWorld, Serves}
-use Rattle.hsds_cli.specs.Serves.{ServesDoors}
+use Rattle.hsds_cli.specs.Serves.{Desks, ServesDoors}
 use Rattle.hsds_cli.specs.Sides.{ConfigFailed, InputFailed, OutFailed, Sides, configured}
 
 -- the text is told, and spells a configuration
@@ -79,26 +79,26 @@ abbrev pub MeetsDoorFault : {F L : Type 0} → Command → Doors F L → Type 0
 MeetsDoorFault (serve config journal listen workers links) doors = SomeDoorFailed doors
 MeetsDoorFault command doors = ⊥
 
-abbrev pub MeetsRoom : {F L D : Type 0} (met : Ghosts D) → Command → Sides → Doors F L → D → D → Option Closed → Type 0
-MeetsRoom met (init config journal lanes) sides doors before after closed =
+abbrev pub MeetsRoom : {F L D : Type 0} (met : Ghosts D) → Desks met → Command → Sides → Doors F L → D → D → Option Closed → Type 0
+MeetsRoom met desks (init config journal lanes) sides doors before after closed =
     (end : ℕ) × (need : ℕ) × (room : ℕ) × MakesNone met sides before after (why.JournalFull end need room)
-MeetsRoom met (session config journal) sides doors before after closed =
+MeetsRoom met desks (session config journal) sides doors before after closed =
     ((end : ℕ) × (need : ℕ) × (room : ℕ) × IsUnbegun met before after (why.JournalFull end need room))
     ⊎ ((s : Serves met sides before after closed UsedUp) × (end : ℕ) × (need : ℕ) × (room : ℕ) × (s.last ≡ Err (why.JournalFull end need room)))
-MeetsRoom met (serve config journal listen workers links) sides doors before after closed =
+MeetsRoom met desks (serve config journal listen workers links) sides doors before after closed =
     ((end : ℕ) × (need : ℕ) × (room : ℕ) × IsUnbegun met before after (why.JournalFull end need room))
-    ⊎ ((s : ServesDoors met links sides doors before after closed UsedUp)
+    ⊎ ((s : ServesDoors met desks links sides doors before after closed UsedUp)
     × (end : ℕ) × (need : ℕ) × (room : ℕ) × (s.last ≡ Err (why.JournalFull end need room)))
-MeetsRoom met (export path journal) sides doors before after closed = ⊥
-MeetsRoom met (import path journal owner) sides doors before after closed =
+MeetsRoom met desks (export path journal) sides doors before after closed = ⊥
+MeetsRoom met desks (import path journal owner) sides doors before after closed =
     (end : ℕ) × (need : ℕ) × (room : ℕ) × IsStopped met path owner sides before after (why.JournalFull end need room)
-MeetsRoom met (sample n) sides doors before after closed = ⊥
-MeetsRoom met (verify journal) sides doors before after closed = ⊥
+MeetsRoom met desks (sample n) sides doors before after closed = ⊥
+MeetsRoom met desks (verify journal) sides doors before after closed = ⊥
 
 -- the command finds what it needs, nothing fails, no link uses up its budget, and each keeping has room
-pub record IsUndisturbed {F L D : Type 0} (met : Ghosts D) (command : Command) (sides : Sides) (doors : Doors F L) (before after : D) (closed : Option Closed) : Type 0 where
+pub record IsUndisturbed {F L D : Type 0} (met : Ghosts D) (desks : Desks met) (command : Command) (sides : Sides) (doors : Doors F L) (before after : D) (closed : Option Closed) : Type 0 where
   pub finds : Finds met command sides before
   pub calm : IsCalm met sides before after
   pub no_door_fault : MeetsDoorFault command doors → ⊥
   pub no_budget : UsesUpBudget closed → ⊥
-  pub room : MeetsRoom met command sides doors before after closed → ⊥
+  pub room : MeetsRoom met desks command sides doors before after closed → ⊥

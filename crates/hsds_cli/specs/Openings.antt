@@ -9,7 +9,7 @@ use Rattle.flush_journal.specs.Unchanged.{SameBytes}
 use Rattle.flush_journal.specs.declared.report.Report.{Report}
 use Rattle.flush_journal.specs.declared.why.Why.{Why}
 use Rattle.flush_journal.specs.declared.why.Why.TheVariants as why
-use Rattle.service_core.specs.Journals.Opening.{IsOf}
+use Rattle.service_core.specs.Journals.Opening.{IsOf, IsToldFault}
 use Rattle.service_core.specs.declared.journals.faults.OpenFault.{OpenFault}
 use Rattle.service_core.specs.declared.journals.faults.OpenFault.TheVariants as fault
 use Rattle.rest_session.specs.Kept.Sessions.{HoldsHeld, IsLinkKept, IsServedFrom}
@@ -23,7 +23,7 @@ use Rattle.rest_session.specs.declared.links.end.LinkEnd.{LinkEnd}
 use Rattle.rest_session.specs.declared.links.end.LinkEnd.TheVariants as end
 use Rattle.register.specs.Kept.{IsUsedUp}
 use Rattle.rest_session.specs.Sessions.{Served}
-use Rattle.service_core.specs.Records.{DescribesWorld, IsWorldFault}
+use Rattle.service_core.specs.Records.{DescribesWorld}
 use Rattle.service_core.specs.Steps.{World}
 use Rattle.hsds_cli.specs.declared.closed.Closed.{Closed}
 use Rattle.hsds_cli.specs.declared.status.Status.{Status}
@@ -32,9 +32,9 @@ use Rattle.hsds_cli.specs.Closings.{of_link}
 use Rattle.hsds_cli.specs.Lines.{verify_line}
 use Rattle.hsds_cli.specs.Sides.{ConfigFailed, InputFailed, IsUntouched, OutFailed, Sides, Spells, SpellsNone}
 
--- the bytes are no journal, or a record of it is missing or can't stand
+-- the bytes are no journal, or a record of it is missing or can't stand; where the register's can, that no run is left is told before
 abbrev pub HasNoWorld : List ℕ → Type 0
-HasNoWorld file = ((at : ℕ) × (content file ≡ Err at)) ⊎ IsOf file (λ c. (key : List ℕ) × IsWorldFault c.lanes c.held key)
+HasNoWorld file = ((at : ℕ) × (content file ≡ Err at)) ⊎ IsOf file (λ c. (key : List ℕ) × IsToldFault c key)
 
 -- the last run is kept
 abbrev pub HasNoRun : List ℕ → Type 0
@@ -134,7 +134,7 @@ pub record Serves {D : Type 0} (met : Ghosts D) (sides : Sides) (before after : 
   pub is_closed : closed ≡ Some (of_link link_closed)
   pub last : Result ℕ Why
   pub served : IsLinkKept first after sides.left_before sides.left_after sides.held_before sides.held_after link_closed last
-  pub crash : met.honest → IsOf (met.reads before) (λ c. CrashLeavesSince met before after (HoldsHeld c.held first served.final served.taken))
+  pub crash : met.honest → IsOf (met.reads before) (λ c. CrashLeavesSince met before after (HoldsHeld c.held first served.final served.taken served.sent))
   pub causes : HasCauses sides.input_before sides.input_after sides.out_before sides.out_after link_closed.end
   pub ended : status_after (status_of link_closed.end) last ≡ status
 

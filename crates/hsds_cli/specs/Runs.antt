@@ -13,30 +13,27 @@ use Rattle.hsds_cli.specs.Imports.{IsImported}
 use Rattle.hsds_cli.specs.Makings.{IsAsBefore, IsInit}
 use Rattle.hsds_cli.specs.Openings.{IsSession, IsVerified}
 use Rattle.hsds_cli.specs.Sampled.{IsSampled}
-use Rattle.hsds_cli.specs.Serves.{IsServe}
-use Rattle.hsds_cli.specs.Sides.{Sides, SpellsNone}
+use Rattle.hsds_cli.specs.Serves.{AreUnasked, Desks, IsDropped, IsServe}
+use Rattle.hsds_cli.specs.Sides.{IsUntouched, Sides, SpellsNone}
 
 -- the words are none, or there was no memory to find one in them
 abbrev pub IsNoCommand : Status → Type 0
 IsNoCommand status = (status ≡ Words) ⊎ (status ≡ NoMemory)
 
 -- what a command does; `export` and `verify` write nothing to the disk, and `sample` doesn't touch it
-abbrev pub IsCommanded : {F L D : Type 0} (met : Ghosts D) → Option Command → Sides → Doors F L → D → D → Option Closed → Status → Type 0
-IsCommanded met None sides doors before after closed status = IsNoCommand status × IsAsBefore sides before after × (closed ≡ None)
-IsCommanded met (Some (init config journal lanes)) sides doors before after closed status = IsInit met lanes sides before after status × (closed ≡ None)
-IsCommanded met (Some (session config journal)) sides doors before after closed status = IsSession met sides before after closed status
-IsCommanded met (Some (serve config journal listen workers links)) sides doors before after closed status =
-    IsServe met links sides doors before after closed status
-IsCommanded met (Some (export path journal)) sides doors before after closed status =
+abbrev pub IsCommanded : {F L D : Type 0} (met : Ghosts D) → Desks met → Option Command → Sides → Doors F L → D → D → Option Closed → Status → Type 0
+IsCommanded met desks None sides doors before after closed status = IsNoCommand status × IsAsBefore sides before after × (closed ≡ None)
+IsCommanded met desks (Some (init config journal lanes)) sides doors before after closed status = IsInit met lanes sides before after status × (closed ≡ None)
+IsCommanded met desks (Some (session config journal)) sides doors before after closed status = IsSession met sides before after closed status
+IsCommanded met desks (Some (serve config journal listen workers links)) sides doors before after closed status =
+    IsServe met desks links sides doors before (Some after) closed status
+IsCommanded met desks (Some (export path journal)) sides doors before after closed status =
     IsExported met path sides before after status × (met.honest → SameBytes met before after) × (closed ≡ None)
-IsCommanded met (Some (import path journal owner)) sides doors before after closed status =
+IsCommanded met desks (Some (import path journal owner)) sides doors before after closed status =
     IsImported met path owner sides before after status × (closed ≡ None)
-IsCommanded met (Some (sample n)) sides doors before after closed status = IsSampled n sides status × (after ≡ before) × (closed ≡ None)
-IsCommanded met (Some (verify journal)) sides doors before after closed status =
+IsCommanded met desks (Some (sample n)) sides doors before after closed status = IsSampled n sides status × (after ≡ before) × (closed ≡ None)
+IsCommanded met desks (Some (verify journal)) sides doors before after closed status =
     IsVerified met sides before after status × (met.honest → SameBytes met before after) × (closed ≡ None)
-
-abbrev pub IsRun : {F L D : Type 0} (met : Ghosts D) → List (List ℕ) → Sides → Doors F L → D → D → Option Closed → Status → Type 0
-IsRun met words sides doors before after closed status = IsCommanded met (command_of words) sides doors before after closed status
 
 -- the numbers of the statuses at which the last keeping may have been refused
 abbrev pub MayBeUnkept : ℕ → Type 0
@@ -66,3 +63,11 @@ TakesNone command = ⊤
 abbrev pub OpensNone : Option Command → Type 0
 OpensNone (Some (serve config journal listen workers links)) = ⊥
 OpensNone command = ⊤
+
+-- ---- a run
+
+-- the disk is missing only where `serve` dropped it
+abbrev pub IsRun : {F L D : Type 0} (met : Ghosts D) → Desks met → List (List ℕ) → Sides → Doors F L → D → Option D → Option Closed → Status → Type 0
+IsRun met desks words sides doors before (Some after) closed status = IsCommanded met desks (command_of words) sides doors before after closed status
+IsRun met desks words sides doors before None closed status =
+    (OpensNone (command_of words) → ⊥) × IsUntouched sides × AreUnasked doors closed × IsDropped met before × (status ≡ NoMemory)

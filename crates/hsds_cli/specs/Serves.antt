@@ -1,22 +1,23 @@
 -- What `serve` does with its doors and the journal that stands on a disk.
 --     reports_status reports      the status of what workers tell, where all is kept
---     ServesDoors met links sides doors before after closed status      doors were served
---     IsServe met links sides doors before after closed status      what `serve` does, by its status
-use Rattle.std.specs.Prelude.{◌≡◌, ◌⊎◌, ℕ, List, Bool, true, false, Option, Some, None, Result, Ok, Err, if◌then◌else◌}
+--     ServesDoors met desks links sides doors before after closed status      doors were served
+--     IsServe met desks links sides doors before after closed status      what `serve` does, by its status
+use Rattle.std.specs.Prelude.{◌≡◌, ◌⊎◌, ℕ, List, Bool, true, false, Option, Some, None, Result, if◌then◌else◌}
 use Rattle.std.specs.List.{list_any}
+use Rattle.std.specs.declared.snapshot.Snapshot.{Snapshot}
 use Rattle.edge_traits.specs.Causes.{Rose}
 use Rattle.edge_traits.specs.declared.disk.Disk.{Ghosts}
 use Rattle.configuration.specs.declared.config.Config.{Config}
-use Rattle.flush_journal.specs.Moments.{CrashLeavesSince}
 use Rattle.flush_journal.specs.Standing.{disk_of}
 use Rattle.flush_journal.specs.Unchanged.{SameBytes}
 use Rattle.flush_journal.specs.declared.journal.Journal.{Journal}
 use Rattle.flush_journal.specs.declared.why.Why.{Why}
 use Rattle.flush_journal.specs.declared.why.Why.TheVariants as why
 use Rattle.service_core.specs.Journals.Begun.{IsUnbegun}
-use Rattle.service_core.specs.Journals.Opening.{IsOf}
 use Rattle.service_core.specs.Worlds.{State}
-use Rattle.rest_session.specs.Kept.Doors.{AreDoorsKept, BeginsRun, HoldsSince}
+use Rattle.hall.specs.declared.desk.AtDesk.{Ghosts as AtDesk}
+use Rattle.hall.specs.declared.journal.JournalDesk.{JournalDesk}
+use Rattle.rest_session.specs.Kept.Doors.{AreDoorsKept, BeginsRun}
 use Rattle.rest_session.specs.declared.halls.hiring.Report.{Report}
 use Rattle.rest_session.specs.declared.kept.outcome.ClosedDoors.{ClosedDoors}
 use Rattle.rest_session.specs.declared.kept.outcome.DoorsOutcome.{DoorsOutcome}
@@ -69,11 +70,14 @@ doors_closed (outcome.Served closed last) = Some (of_doors closed)
 
 -- ---- doors that were served
 
+-- what a journal's desk tells
+abbrev pub Desks : {D : Type 0} → Ghosts D → Type 1
+Desks {D} met = AtDesk (JournalDesk D met) (Snapshot (Journal D met))
+
 -- The links of the doors were served, by the configuration that the text spells, from the world on that the disk kept, in its next run, by one legal
--- history; and once all had ended the world was kept. That ended with a status. On a disk that keeps its rule, whatever a crash left since the begin
--- holds the world that the disk kept or the last one; a crash before anything was written might have left an image of before. Each door whose count
--- of faults stayed was asked until it had none left or had given so many links.
-pub record ServesDoors {F L D : Type 0} (met : Ghosts D) (links : ℕ) (sides : Sides) (doors : Doors F L) (before after : D) (closed : Option Closed) (status : Status) : Type 0 where
+-- history, of which was kept what was acknowledged; and once all had ended all was flushed. That ended with a status. Each door whose count of faults
+-- stayed was asked until it had none left or had given so many links.
+pub record ServesDoors {F L D : Type 0} (met : Ghosts D) (desks : Desks met) (links : ℕ) (sides : Sides) (doors : Doors F L) (before after : D) (closed : Option Closed) (status : Status) : Type 0 where
   pub config : Config
   pub spelled : Spells sides.text config
   pub journal : Journal D met
@@ -82,8 +86,7 @@ pub record ServesDoors {F L D : Type 0} (met : Ghosts D) (links : ℕ) (sides : 
   pub left : ClosedDoors
   pub is_closed : closed ≡ Some (of_doors left)
   pub last : Result ℕ Why
-  pub served : AreDoorsKept doors.tells config.tokens links journal first after doors.before doors.after left last
-  pub crash : met.honest → IsOf (met.reads before) (λ c. CrashLeavesSince met before after (HoldsSince c.held first served.closing))
+  pub served : AreDoorsKept met desks doors.tells config.tokens links journal first after doors.before doors.after left last
   pub asked : AreAskedUnlessFailed links doors
   pub ended : status_after (reports_status left.reports.items) last ≡ status
 
@@ -95,9 +98,13 @@ AreUnasked doors closed = (closed ≡ None) × (doors.after ≡ doors.before)
 abbrev pub IsBegunAlone : {D : Type 0} (met : Ghosts D) → D → D → Type 0
 IsBegunAlone {D} met before after = (journal : Journal D met) × (first : State) × BeginsRun met before journal first × (after ≡ disk_of journal)
 
-module _ {F L D : Type 0} (met : Ghosts D) (links : ℕ) (sides : Sides) (doors : Doors F L) (before after : D) (closed : Option Closed) where
+-- a run was begun, and the disk was dropped with its journal
+abbrev pub IsDropped : {D : Type 0} (met : Ghosts D) → D → Type 0
+IsDropped {D} met before = (journal : Journal D met) × (first : State) × BeginsRun met before journal first
+
+module _ {F L D : Type 0} (met : Ghosts D) (desks : Desks met) (links : ℕ) (sides : Sides) (doors : Doors F L) (before after : D) (closed : Option Closed) where
   abbrev pub Served : Status → Type 0
-  Served status = ServesDoors met links sides doors before after closed status
+  Served status = ServesDoors met desks links sides doors before after closed status
 
   -- no worker's door failed, so also a door whose count of faults rose was asked to its end
   abbrev pub AreWell : Type 0
@@ -128,6 +135,9 @@ module _ {F L D : Type 0} (met : Ghosts D) (links : ℕ) (sides : Sides) (doors 
   IsServedBy JournalExists = ⊥
   IsServedBy InputCut = ⊥
 
--- the input is not read, and nothing is printed
-abbrev pub IsServe : {F L D : Type 0} (met : Ghosts D) → ℕ → Sides → Doors F L → D → D → Option Closed → Status → Type 0
-IsServe met links sides doors before after closed status = IsUntouched sides × IsServedBy met links sides doors before after closed status
+-- The input is not read, and nothing is printed. The disk is missing only where memory ran out behind the begin of the run, before anything was asked of a
+-- door.
+abbrev pub IsServe : {F L D : Type 0} (met : Ghosts D) → Desks met → ℕ → Sides → Doors F L → D → Option D → Option Closed → Status → Type 0
+IsServe met desks links sides doors before (Some after) closed status = IsUntouched sides × IsServedBy met desks links sides doors before after closed status
+IsServe met desks links sides doors before None closed status =
+    IsUntouched sides × AreUnasked doors closed × IsDropped met before × (status ≡ NoMemory)

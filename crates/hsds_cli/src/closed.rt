@@ -15,7 +15,7 @@ pub enum Ends {
 pub struct Closed {
     /// How many requests the world had decided at the end.
     pub front: u64,
-    /// How many it had decided when it was last kept.
+    /// How many of these are kept.
     pub kept: u64,
     /// How the links ended.
     pub ends: Ends,

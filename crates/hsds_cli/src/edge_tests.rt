@@ -99,7 +99,7 @@ fn one_run_at_a_time_has_a_journal_or_many_read_it(rt: HostRuntime) -> Result<()
 }
 
 /// The status of a line on a disk, with an empty configuration and an empty input.
-fn status_on<D: Disk + Drop>(
+fn status_on<D: Disk + Drop + Send>(
     rt: &(impl Threads + Wait + Sync + AllocGlobal),
     line: &str,
     disk: D,

@@ -1,4 +1,4 @@
-ghost use Rattle.std.specs.Prelude.{◌≡◌, ◌⊎◌, ◌≤◌, ℕ, None, Some, map, string_bytes, vec_len};
+ghost use Rattle.std.specs.Prelude.{◌≡◌, ◌⊎◌, ◌≤◌, IfSome, Some, map, string_bytes, vec_len};
 ghost use Rattle.command_words.specs.Commands.{Command, command_of};
 ghost use Rattle.flush_journal.specs.Unchanged.{SameDisk};
 ghost use Rattle.hsds_cli.specs.declared.closed.Closed.{Closed};
@@ -19,6 +19,7 @@ use crate::session::session;
 use crate::status::Status;
 use command_words::{Wanted, WordsFault, wanted};
 use edge_traits::{Disk, Door, Sink, Source};
+use hall::{AtDesk, JournalDesk};
 use std::alloc::Global;
 use std::sync::Wait;
 use std::thread::Threads;
@@ -28,7 +29,7 @@ use std::thread::Threads;
 pub struct Finished<D, F> {
     /// The number with which the program exits.
     pub status: u8,
-    /// The disk. It is there at every status.
+    /// The disk. It is missing only at status 13, where `serve` found no memory for its hall.
     pub disk: Option<D>,
     /// The doors, in their order.
     pub doors: Vec<F>,
@@ -40,7 +41,14 @@ pub struct Finished<D, F> {
 /// `input` and `out` as one link, `serve` the links that come to the doors, by a worker at each, `export` prints the document
 /// of a domain, `import` makes a document of `input` a new domain, `sample` prints the sums of a sample world, and `verify`
 /// tells a journal's numbers. There are at most 16 doors; of another command than `serve` they come back as they were.
-pub fn run<R: Threads + Wait + Sync, C: Source, S: Source, K: Sink, D: Disk, F: Door + Send>(
+pub fn run<
+    R: Threads + Wait + Sync,
+    C: Source,
+    S: Source,
+    K: Sink,
+    D: Disk + Drop + Send,
+    F: Door + Send,
+>(
     rt: &R,
     alloc: Global,
     words: &[String],
@@ -54,12 +62,13 @@ where
     F::Link: Send,
     requires { vec_len doors ≤ 16 }
 
-    ensures run { (status : Status) × (after : D) × (result.status ≡ number_of status)
-        × (result.disk ≡ Some after) × SameDisk D.Disk disk after
-        × IsRun D.Disk (map string_bytes words.now) (sides_of C.Source S.Source K.Sink
+    ensures run { (status : Status) × (result.status ≡ number_of status)
+        × IfSome result.disk (SameDisk D.Disk disk)
+        × IsRun D.Disk ⟦<JournalDesk<D> as AtDesk>⟧ (map string_bytes words.now)
+        (sides_of C.Source S.Source K.Sink
         config.old config.new input.old input.new out.old out.new)
         (doors_of ⟦<F as Door>⟧ ⟦<F::Link as Source>⟧ ⟦<F::Link as Sink>⟧
-        doors.items result.doors.items) disk after result.closed status }
+        doors.items result.doors.items) disk result.disk result.closed status }
 
     // No count of faults falls.
     ensures config_later { C.faults config.old ≤ C.faults config.new }
@@ -81,7 +90,7 @@ where
     // A command that finds what it needs is done, but for want of memory, where nothing fails and each keeping has room.
     ensures complete { (command : Command) (after : D) → D.honest
         → command_of (map string_bytes words.now) ≡ Some command → result.disk ≡ Some after
-        → IsUndisturbed D.Disk command (sides_of C.Source S.Source K.Sink
+        → IsUndisturbed D.Disk ⟦<JournalDesk<D> as AtDesk>⟧ command (sides_of C.Source S.Source K.Sink
         config.old config.new input.old input.new out.old out.new)
         (doors_of ⟦<F as Door>⟧ ⟦<F::Link as Source>⟧ ⟦<F::Link as Sink>⟧
         doors.items result.doors.items) disk after result.closed
@@ -97,14 +106,21 @@ where
     } = obey(rt, alloc, words, config, input, out, disk, doors);
     Finished {
         status: status.number(),
-        disk: Some(disk),
+        disk,
         doors,
         closed,
     }
 }
 
 /// Does the command that the words are.
-fn obey<R: Threads + Wait + Sync, C: Source, S: Source, K: Sink, D: Disk, F: Door + Send>(
+fn obey<
+    R: Threads + Wait + Sync,
+    C: Source,
+    S: Source,
+    K: Sink,
+    D: Disk + Drop + Send,
+    F: Door + Send,
+>(
     rt: &R,
     alloc: Global,
     words: &[String],
@@ -117,11 +133,12 @@ fn obey<R: Threads + Wait + Sync, C: Source, S: Source, K: Sink, D: Disk, F: Doo
 where
     F::Link: Send,
     requires few { vec_len doors ≤ 16 }
-    ensures run { IsRun D.Disk (map string_bytes words.now) (sides_of C.Source S.Source K.Sink
+    ensures run { IsRun D.Disk ⟦<JournalDesk<D> as AtDesk>⟧ (map string_bytes words.now)
+        (sides_of C.Source S.Source K.Sink
         config.old config.new input.old input.new out.old out.new)
         (doors_of ⟦<F as Door>⟧ ⟦<F::Link as Source>⟧ ⟦<F::Link as Sink>⟧
         doors.items result.doors.items) disk result.end.disk result.end.closed result.end.status }
-    ensures same { SameDisk D.Disk disk result.end.disk }
+    ensures same { IfSome result.end.disk (SameDisk D.Disk disk) }
     ensures config_later { C.faults config.old ≤ C.faults config.new }
     ensures input_later { S.faults input.old ≤ S.faults input.new }
     ensures out_later { K.faults out.old ≤ K.faults out.new }
@@ -131,28 +148,15 @@ where
     ensures unopened { OpensNone (command_of (map string_bytes words.now)) → result.doors ≡ doors }
 {
     match wanted(alloc, words) {
-        Ok(Wanted::Init { lanes, .. }) => WithDoors {
-            end: init(alloc, lanes, config, out, disk),
-            doors,
-        },
-        Ok(Wanted::Session { .. }) => WithDoors {
-            end: session(alloc, config, input, out, disk),
-            doors,
-        },
+        Ok(Wanted::Init { lanes, .. }) => init(alloc, lanes, config, out, disk).beside(doors),
+        Ok(Wanted::Session { .. }) => session(alloc, config, input, out, disk).beside(doors),
         Ok(Wanted::Serve { links, .. }) => serve(rt, alloc, links, config, disk, doors),
-        Ok(Wanted::Export { path, .. }) => WithDoors {
-            end: export(alloc, &path, out, disk),
-            doors,
-        },
-        Ok(Wanted::Import { path, owner, .. }) => WithDoors {
-            end: import(alloc, &path, &owner, input, out, disk),
-            doors,
-        },
+        Ok(Wanted::Export { path, .. }) => export(alloc, &path, out, disk).beside(doors),
+        Ok(Wanted::Import { path, owner, .. }) => {
+            import(alloc, &path, &owner, input, out, disk).beside(doors)
+        }
         Ok(Wanted::Sample { n }) => unserved(sample(alloc, n, out), disk, doors),
-        Ok(Wanted::Verify { .. }) => WithDoors {
-            end: verify(alloc, out, disk),
-            doors,
-        },
+        Ok(Wanted::Verify { .. }) => verify(alloc, out, disk).beside(doors),
         Err(WordsFault::Refused) => unserved(Status::Words, disk, doors),
         Err(WordsFault::NoMemory) => unserved(Status::NoMemory, disk, doors),
     }

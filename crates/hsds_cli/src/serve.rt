@@ -1,6 +1,6 @@
 //! The command `serve`: the links of many doors, and a journal.
 
-ghost use Rattle.std.specs.Prelude.{◌≡◌, ◌≤◌, ℕ, List, None, Option, vec_len};
+ghost use Rattle.std.specs.Prelude.{◌≡◌, ◌≤◌, ℕ, IfSome, List, None, Option, Some, vec_len};
 ghost use Rattle.std.specs.List.{list_any};
 ghost use Rattle.flush_journal.specs.Unchanged.{SameDisk};
 ghost use Rattle.hsds_cli.specs.Doors.{doors_of};
@@ -14,6 +14,7 @@ use crate::operate::opening_status;
 use crate::session::refusal_status;
 use crate::status::Status;
 use edge_traits::{Disk, Door, Sink, Source};
+use hall::{AtDesk, JournalDesk};
 use rest_requests::Tokens;
 use rest_session::halls::Report;
 use rest_session::kept::{DoorsEnded, DoorsOutcome, serve_doors};
@@ -23,8 +24,8 @@ use std::sync::Wait;
 use std::thread::Threads;
 
 /// Serves the links of the doors, by a worker at each and at most so many links at each, from the world that a disk keeps, by
-/// the configuration, and keeps the world once all workers have ended.
-pub fn serve<R: Threads + Wait + Sync, C: Source, D: Disk, F: Door + Send>(
+/// the configuration. One more worker flushes beside them, and once all have ended all is flushed.
+pub fn serve<R: Threads + Wait + Sync, C: Source, D: Disk + Drop + Send, F: Door + Send>(
     rt: &R,
     alloc: Global,
     links: u32,
@@ -35,21 +36,22 @@ pub fn serve<R: Threads + Wait + Sync, C: Source, D: Disk, F: Door + Send>(
 where
     F::Link: Send,
     requires few { vec_len doors ≤ 16 }
-    ensures served { (left held : Option (List ℕ)) (input out : ℕ) → IsServe D.Disk links (record {
-      text = C.left config.old;
-      left_before = left;
-      left_after = left;
-      held_before = held;
-      held_after = held;
-      config_before = C.faults config.old;
-      config_after = C.faults config.new;
-      input_before = input;
-      input_after = input;
-      out_before = out;
-      out_after = out;
-    }) (doors_of ⟦<F as Door>⟧ ⟦<F::Link as Source>⟧ ⟦<F::Link as Sink>⟧
+    ensures served { (left held : Option (List ℕ)) (input out : ℕ) → IsServe D.Disk
+        ⟦<JournalDesk<D> as AtDesk>⟧ links (record {
+          text = C.left config.old;
+          left_before = left;
+          left_after = left;
+          held_before = held;
+          held_after = held;
+          config_before = C.faults config.old;
+          config_after = C.faults config.new;
+          input_before = input;
+          input_after = input;
+          out_before = out;
+          out_after = out;
+        }) (doors_of ⟦<F as Door>⟧ ⟦<F::Link as Source>⟧ ⟦<F::Link as Sink>⟧
         doors.items result.doors.items) disk result.end.disk result.end.closed result.end.status }
-    ensures same { SameDisk D.Disk disk result.end.disk }
+    ensures same { IfSome result.end.disk (SameDisk D.Disk disk) }
     ensures config_later { C.faults config.old ≤ C.faults config.new }
 {
     let config = match configured(alloc, config) {
@@ -78,16 +80,14 @@ where
 /// A status with the disk and the doors as they were.
 pub fn unserved<D, F>(status: Status, disk: D, doors: Vec<F>) -> WithDoors<D, F>
     ensures { result
-        ≡ record { end = record { status = status; disk = disk; closed = None }; doors = doors } }
+        ≡ record { end = record { status = status; disk = Some disk; closed = None }; doors = doors } }
 {
-    WithDoors {
-        end: CommandEnd {
-            status,
-            disk,
-            closed: None,
-        },
-        doors,
-    }
+    let end = CommandEnd {
+        status,
+        disk,
+        closed: None,
+    };
+    end.beside(doors)
 }
 
 // The status of what the doors came to.
@@ -119,7 +119,7 @@ fn closed_by(outcome: DoorsOutcome) -> Option<Closed>
     }
 }
 
-// The status of what the workers tell, where all was kept: a door's fault comes before a link's budget.
+// The status of what the workers tell, where all is kept: a door's fault comes before a link's budget.
 fn reports_status(reports: &[Report]) -> Status
     ensures { result ≡ reports_status reports.now }
 {

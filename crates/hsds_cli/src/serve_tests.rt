@@ -15,8 +15,8 @@ use std::thread::Threads;
 /// The dataset's value, once it was written.
 static VALUE: &str = r#"GET /datasets/d~0/value||200 OK|{"value":[1,2]}"#;
 
-/// A flush, which has no route while links are served side by side.
-static FLUSH: &str = r#"PUT /?flush=1||404 Not Found|{"reason":"no-route"}"#;
+/// A flush.
+static FLUSH: &str = "PUT /?flush=1||204 No Content|";
 
 /// A link that brings these bytes.
 fn link_of(alloc: Global, input: &str) -> Result<MemLink, AllocError> {
@@ -138,7 +138,7 @@ fn links_of_two_doors_are_served_and_kept(rt: HostRuntime) -> Result<(), Fail> {
     let answers = [first.answers.as_str(), second.answers.as_str()];
     assert!(rt; has_answers(done.doors.get(0), &answers));
     assert!(rt; has_answers(done.doors.get(1), &[flush.answers.as_str(), ""]));
-    assert!(rt; told(alloc, &done.closed)?.as_str() == "3 3 closed closed |closed cut |");
+    assert!(rt; told(alloc, &done.closed)?.as_str() == "5 5 closed closed |closed cut |");
     let disk = done.disk.ok_or("no disk")?;
     let read = exchange_of(alloc, VALUE)?;
     let again = run_line(&rt, "session", plain(LAB, read.sent.as_str()), disk)?;
@@ -151,8 +151,8 @@ fn a_door_that_fails_is_told(rt: HostRuntime) -> Result<(), Fail> {
     let alloc = rt.alloc();
     let flush = exchange_of(alloc, FLUSH)?;
     for (failing, ends) in [
-        (0u64, "0 0 failed|closed |"),
-        (1, "0 0 closed failed|closed |"),
+        (0u64, "1 1 failed|closed |"),
+        (1, "2 2 closed failed|closed |"),
     ] {
         let first = door_of(alloc, &[flush.sent.as_str()], &[failing])?;
         let second = door_of(alloc, &[flush.sent.as_str()], &[])?;

@@ -2,6 +2,7 @@ pub mod Notes
 pub mod Marks
 pub mod Cuts
 pub mod Tears
+pub mod ShortCuts
 pub mod Revoked
 pub mod Links
 pub mod Made

@@ -27,7 +27,7 @@ pub use refuted::{
     reached_turns_are_not_skipped, turns_come_in_no_other_order, worlds_are_kept_under_one_list,
 };
 pub use requests::{Request, Verdict};
-pub use tears::torn_lane_is_kept_in_no_way;
+pub use tears::{short_cut_keeps_the_register_alone, torn_lane_is_kept_in_no_way};
 pub use turns::{
     made_objects_are_fresh, outcome_of_the_make, ticket_of_the_make, two_turns_have_one_answer,
     undone_turns_leave_the_objects,

@@ -4,6 +4,7 @@ mod asks;
 mod crowds;
 mod doors;
 mod histories;
+mod patient_gate;
 mod rows;
-mod watched;
+mod stops;
 mod worlds;

@@ -3,7 +3,7 @@
 use crate::events::happen_first;
 use crate::kept::Past;
 use crate::openings::{installed, opening, recovered};
-use crate::pictures::picture_of;
+use crate::pictures::{Picture, picture_of};
 use crate::requests::column;
 use crate::services::{Entry, begun_service};
 use edge_traits::MemDisk;
@@ -61,10 +61,10 @@ a later append fails|4|put0 0 cut 0 1 reg app deny put1 1 cut 0 1 reg app! see1 
 the register alone fails, and again|5 8|put0 0 cut 0 1 reg app deny reg app! set! see1 set reg app|201 201 403 1 3"#;
 
 /// The calls of the disk until the run has begun.
-const FIRST_CALL: u64 = 7;
+pub(crate) const FIRST_CALL: u64 = 7;
 
 /// How many of the bytes that were written since the last sync stand after a crash.
-static CRASHES: [u64; 12] = [0, 1, 4, 9, 20, 40, 70, 100, 150, 200, 300, 1000];
+pub(crate) static CRASHES: [u64; 12] = [0, 1, 4, 9, 20, 40, 70, 100, 150, 200, 300, 1000];
 
 /// Where nothing is pending, every crash leaves the same.
 fn crashes(past: &Past) -> &'static [u64] {
@@ -92,10 +92,11 @@ fn failing(alloc: Global, words: &str) -> Result<Vec<u64>, Fail> {
     Ok(calls)
 }
 
-fn is_found_kept(alloc: Global, disk: &MemDisk, past: &Past, crash: u64) -> Result<bool, Fail> {
+/// What is found behind a crash of a disk.
+pub(crate) fn found_behind(alloc: Global, disk: &MemDisk, crash: u64) -> Result<Picture, Fail> {
     let (_, kept) = recovered(alloc, disk.crash(crash)?)?;
     let world = installed(alloc, kept)?;
-    Ok(past.is_kept(&picture_of(alloc, &world)?))
+    picture_of(alloc, &world)
 }
 
 /// So many events of a row are done, and then the disk stops.
@@ -110,8 +111,11 @@ fn try_front(
     happen_first(&mut service, column(row, 2), many)?;
     let (disk, past) = service.stop();
     for crash in crashes(&past) {
-        let kept = is_found_kept(alloc, &disk, &past, *crash)?;
-        assert!(rt; kept, "{row}: after {many} events, {crash} bytes");
+        let found = found_behind(alloc, &disk, *crash)?;
+        assert!(rt;
+            past.is_kept(&found),
+            "{row}: after {many} events, {crash} bytes"
+        );
     }
     Ok(past)
 }

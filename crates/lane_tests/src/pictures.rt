@@ -28,6 +28,24 @@ pub(crate) struct Picture {
     pub(crate) objects: Vec<Shown>,
 }
 
+/// Whether these are the same records in the same order.
+fn are_as(ones: &[Shown], others: &[Shown]) -> bool {
+    for (one, other) in ones.iter().zip(others) {
+        if one.id != other.id || one.text.as_str() != other.text.as_str() {
+            return false;
+        }
+    }
+    ones.len() == others.len()
+}
+
+impl Picture {
+    /// Whether the other world has the same.
+    pub(crate) fn is_as(&self, other: &Picture) -> bool {
+        self.catalogue.as_str() == other.catalogue.as_str()
+            && are_as(self.objects.as_slice(), other.objects.as_slice())
+    }
+}
+
 fn has_root(class: NodeClass) -> bool
     ensures { IsTrue result → HasRoot class }
 {

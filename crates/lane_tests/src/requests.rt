@@ -31,6 +31,7 @@ see1|bob|/lab|GET|/groups/g~01/attributes|
 deny|alice|/lab|PUT|/acls/bob|{"create":false,"read":false,"update":false,"delete":false,"readACL":false,"updateACL":false}
 allow|alice|/lab|PUT|/acls/bob|{"create":true,"read":true,"update":true,"delete":true,"readACL":true,"updateACL":true}
 lists|alice|/lab|GET|/acls|
+flush|alice|/lab|PUT|/?flush=1|
 end|alice|/lab|DELETE|/|
 lab|alice|/lab|PUT|/|
 far|alice|/far|PUT|/|
@@ -46,6 +47,16 @@ pub(crate) fn column(row: &str, at: usize) -> &str {
 pub(crate) fn row_of(name: &str) -> &'static str {
     for row in REQUESTS.split('\n') {
         if column(row, 0) == name {
+            return row;
+        }
+    }
+    ""
+}
+
+/// The row with this text; an empty one where there is none.
+pub(crate) fn row_as(text: &str) -> &'static str {
+    for row in REQUESTS.split('\n') {
+        if row == text {
             return row;
         }
     }

@@ -64,6 +64,8 @@ pub(crate) struct Service {
     entries: Vec<Entry>,
     pictures: Vec<Picture>,
     desk: Desk,
+    /// The lanes of all tickets so far, in the order in which these were given.
+    given: Vec<u32>,
 }
 
 /// Tickets of at most two turns, spent.
@@ -188,6 +190,7 @@ pub(crate) fn begun_service(
         entries: Vec::new(alloc),
         pictures,
         desk: Desk::new(),
+        given: Vec::new(alloc),
     })
 }
 
@@ -316,6 +319,7 @@ impl Service {
 
     fn hand(&mut self, turn: Turn, is_cut: bool) -> Result<(), Fail> {
         let place = self.entries.len();
+        self.given.push(turn.lane)?;
         match turn.lane {
             0 => self.first.give(turn, place, is_cut),
             _ => self.second.give(turn, place, is_cut),
@@ -357,6 +361,19 @@ impl Service {
         } else {
             self.take(number, task)
         }
+    }
+
+    /// All turns whose tickets are out, in the order in which these were given, as all before them were taken.
+    pub(crate) fn turn_all(&mut self) -> Result<(), Fail> {
+        let first = self.first.passed.len();
+        let passed = first.saturating_add(self.second.passed.len());
+        for at in passed..self.given.len() {
+            let Some(number) = self.given.as_slice().get(at).copied() else {
+                return Err(Fail::from("no ticket was given"));
+            };
+            self.turn(number)?;
+        }
+        Ok(())
     }
 
     fn next_task(&self, number: u32) -> Result<Task, Fail> {

@@ -10,8 +10,7 @@ use Rattle.object_ops.specs.declared.replies.Reply.TheVariants as outcome
 use Rattle.service_core.specs.AnswerTrees.Statuses.{HasDoneStatus, IsDoneStatus}
 use Rattle.service_core.specs.declared.answers.What.{What}
 use Rattle.service_core.specs.declared.answers.What.TheVariants.{Replied}
-use Rattle.rest_session.specs.Responses.{HasStatus, said}
-use Rattle.rest_session.specs.Sessions.{IsUnkept}
+use Rattle.rest_session.specs.Responses.{HasStatus, IsUnkept, said}
 
 -- the tenth byte, the first of the status
 abbrev pub first_digit : List ℕ → ℕ

@@ -1,5 +1,5 @@
 -- What an answer makes of the worlds that a crash may leave.
-use Rattle.std.proofs.Common.{◌≡◌, ◌⊎◌, inl, inr, ℕ, ◌+◌, ◌≤◌, Bool, true, false, List, [], ◌∷◌, ◌++◌, Option, Result, Ok, Err, refl, sym, ap, subst, ◌∙◌, append_assoc, append-nil, arith}
+use Rattle.std.proofs.Common.{◌≡◌, ◌⊎◌, inl, inr, ⊎_elim, ℕ, ◌+◌, ◌≤◌, Bool, true, false, List, [], ◌∷◌, ◌++◌, get_or, drop, Option, Result, Ok, Err, refl, sym, ap, subst, ◌∙◌, append_assoc, append-nil, arith}
 use Rattle.std.specs.List.{AllByRecursion}
 use Rattle.access_lists.specs.declared.people.Caller.{Caller}
 use Rattle.edge_traits.specs.declared.disk.Disk.{Ghosts}
@@ -15,7 +15,7 @@ use Rattle.flush_journal.proofs.Unchanged.{same_both, same_here}
 use Rattle.http_wire.specs.Messages.{RequestMessage, closes, spelling}
 use Rattle.flush_journal.specs.Keepings.Keepings.{HoldsOne, IsBacked, TellsOne, settled, owed}
 use Rattle.flush_journal.specs.declared.keepings.keeping.Keeping.{Keeping}
-use Rattle.rest_session.specs.Links.Links.{IsAnswer, IsFront, IsTranscript, Replays, spellings}
+use Rattle.rest_session.specs.Links.Links.{AreWritten, IsAnswer, IsFront, IsTranscript, Replays, spellings}
 use Rattle.rest_session.specs.declared.links.end.LinkEnd.{LinkEnd}
 use Rattle.object_ops.specs.Needs.{decided_at}
 use Rattle.object_ops.specs.declared.ops.Request.{Request}
@@ -69,8 +69,8 @@ module _ {D : Type 0} {met : Ghosts D} (next : PlacesGoOn) where
   keeps_all = related IsServed KeepsOn (λ s k. (omega arith, k))
       (λ s t u first then_ k. let a = first k in let b = then_ a.1 in (omega (arith, a.0, b.0), b.1)) keeps_on
 
-  pub never_less : (s t : Served met) (taken : List ℕ) (u v : Served met) → IsStretch s t taken u v → s.keeping.kept ≤ s.world.register.places → u.keeping.kept ≤ v.keeping.kept
-  never_less s t taken u v is k = (keeps_all u is.between is.answers v is.passes (keeps_all s is.before is.first_answers u is.reaches k).1).0
+  pub never_less : (s t : Served met) (taken sent : List ℕ) (u v : Served met) → IsStretch s t taken sent u v → s.keeping.kept ≤ s.world.register.places → u.keeping.kept ≤ v.keeping.kept
+  never_less s t taken sent u v is k = (keeps_all u is.between is.answers v is.passes (keeps_all s is.before is.first_answers u is.reaches k).1).0
 
 -- ---- what a state shows
 
@@ -91,15 +91,16 @@ module _ {D : Type 0} {met : Ghosts D} where
   of_before s t (x ∷ xs) vs same f = (inl (f x (inl refl), same), of_before s t xs vs same (λ w h. f w (inr h)))
 
   -- what stood after some first of these messages stood
-  pub stood_in : (backed : Served met → List World → Type 0) (s t : Served met) (taken : List ℕ) (ms : List RequestMessage) (least : ℕ) (w : World) → IsFront (spellings ms) taken
-      → Since IsServed backed shown kept_of places_of s ms t least w → StoodSince s t taken least w
-  stood_in backed s t taken ms least w read h = record {
+  pub stood_in : (backed : Served met → List World → Type 0) (s t : Served met) (taken sent : List ℕ) (ms : List RequestMessage) (bytes : List ℕ) (least : ℕ) (w : World)
+      → IsFront (spellings ms) taken → AreWritten bytes sent → Since IsServed backed shown kept_of places_of s ms bytes t least w → StoodSince s t taken sent least w
+  stood_in backed s t taken sent ms bytes least w read written h = record {
     at = h.u;
     before = h.before;
     after = h.after;
     read = subst (λ (ms : List RequestMessage). IsFront (spellings ms) taken) h.split read;
     answers = h.answers;
     later_answers = h.later_answers;
+    written = subst (λ (xs : List ℕ). AreWritten xs sent) h.said written;
     reaches = h.reaches;
     follows = h.follows;
     shown = h.shown;
@@ -107,14 +108,15 @@ module _ {D : Type 0} {met : Ghosts D} where
   }
 
   -- the world behind all messages stood
-  pub stands_now : (s t : Served met) (taken : List ℕ) → Answered IsServed s t taken → (kept : ℕ) → kept ≤ t.world.register.places → StoodSince s t taken kept (as_kept t.world)
-  stands_now s t taken a kept le = record {
+  pub stands_now : (s t : Served met) (taken sent : List ℕ) → Answered IsServed s t taken sent → (kept : ℕ) → kept ≤ t.world.register.places → StoodSince s t taken sent kept (as_kept t.world)
+  stands_now s t taken sent a kept le = record {
     at = t;
     before = a.messages;
     after = [];
     read = subst (λ (ms : List RequestMessage). IsFront (spellings ms) taken) (sym (append-nil a.messages)) a.read;
     answers = a.answers;
     later_answers = [];
+    written = subst (λ (xs : List ℕ). AreWritten xs sent) (sym (append-nil a.answers)) a.written;
     reaches = a.replays;
     follows = (refl, refl);
     shown = refl;
@@ -144,6 +146,20 @@ read_to front back after taken (others, e) = (
   spellings after ++ others,
   e ∙ ap (λ xs. xs ++ others) (spellings_both (front ++ back) after) ∙ append_assoc (spellings (front ++ back)) (spellings after) others,
 )
+
+-- of two lists that go on to the same one, one stands in front of the other
+one_in_front : (xs more ys others : List ℕ) → xs ++ more ≡ ys ++ others → IsFront xs ys ⊎ IsFront ys xs
+one_in_front [] more ys others e = inl (ys, refl)
+one_in_front (x ∷ xs) more [] others e = inr (x ∷ xs, refl)
+one_in_front (x ∷ xs) more (y ∷ ys) others e =
+    let head : x ≡ y = ap (λ l. get_or l 0 0) e in
+    let tail : xs ++ more ≡ ys ++ others = ap (λ l. drop 1 l) e in
+    ⊎_elim (λ f. inl (f.0, ap (λ l. y ∷ l) f.1 ∙ ap (λ n. n ∷ (xs ++ f.0)) (sym head))) (λ f. inr (f.0, ap (λ l. x ∷ l) f.1 ∙ ap (λ n. n ∷ (ys ++ f.0)) head)) (one_in_front xs more ys others tail)
+
+-- what is written in front of more
+written_to : (front back after sent : List ℕ) → AreWritten (front ++ back ++ after) sent → AreWritten (front ++ back) sent
+written_to front back after sent (inl (others, e)) = inl (after ++ others, e ∙ append_assoc (front ++ back) after others)
+written_to front back after sent (inr (others, e)) = one_in_front (front ++ back) after sent others e
 
 module _ {D : Type 0} {met : Ghosts D} where
   -- what is kept is what it was, where what is held still tells the world
@@ -223,27 +239,28 @@ module _ {D : Type 0} {met : Ghosts D} (honest : met.honest) (next : PlacesGoOn)
   advance s m bytes t ws is b = (goes s m bytes t ws is b).advances
 
   pub what_stood : (s t : Served met) (taken sent : List ℕ) (left : Option (List ℕ)) (end : LinkEnd) → IsTranscript IsServed s taken sent left t end
-      → IsBackedBy s (as_kept s.world ∷ []) → s.keeping.kept ≤ s.world.register.places → IsBackedByStood s t taken
+      → IsBackedBy s (as_kept s.world ∷ []) → s.keeping.kept ≤ s.world.register.places → IsBackedByStood s t taken sent
   what_stood s t taken sent left end transcript b k = record {
     worlds = f.left;
     backed = f.is_backed;
-    each = all_map (Since IsServed IsBackedBy shown kept_of places_of s a.messages t t.keeping.kept) (StoodSince s t taken t.keeping.kept) f.left
-        (λ w h. stood_in IsBackedBy s t taken a.messages t.keeping.kept w a.read h) (all_stood IsServed IsBackedBy shown kept_of places_of s a.messages a.answers t a.replays k f);
+    each = all_map (Since IsServed IsBackedBy shown kept_of places_of s a.messages a.answers t t.keeping.kept) (StoodSince s t taken sent t.keeping.kept) f.left
+        (λ w h. stood_in IsBackedBy s t taken sent a.messages a.answers t.keeping.kept w a.read a.written h) (all_stood IsServed IsBackedBy shown kept_of places_of s a.messages a.answers t a.replays k f);
     within = f.within;
-    now = λ kept le. stands_now s t taken a kept le;
+    now = λ kept le. stands_now s t taken sent a kept le;
   } where
-    a : Answered IsServed s t taken
+    a : Answered IsServed s t taken sent
     a = answered IsServed s taken sent left t end transcript
 
-    f : Follows IsServed IsBackedBy shown kept_of places_of s a.messages t (as_kept s.world ∷ [])
+    f : Follows IsServed IsBackedBy shown kept_of places_of s a.messages a.answers t (as_kept s.world ∷ [])
     f = follow IsServed IsBackedBy shown kept_of places_of advance (keeps_on next) s a.messages a.answers t (as_kept s.world ∷ []) a.replays b k
 
   -- at each moment of a stretch
-  pub what_is_left : (s t : Served met) (taken : List ℕ) (u v : Served met) → IsStretch s t taken u v → IsBackedBy s (as_kept s.world ∷ []) → s.keeping.kept ≤ s.world.register.places
-      → CrashLeaves met (disk_of u.keeping.journal) (disk_of v.keeping.journal) (HoldsStood s v taken u.keeping.kept)
-  what_is_left s t taken u v is b k =
-      wider u v (Since IsServed IsBackedBy shown kept_of places_of s (is.before ++ is.between) v u.keeping.kept) (StoodSince s v taken u.keeping.kept)
-      (λ w h. stood_in IsBackedBy s v taken (is.before ++ is.between) u.keeping.kept w (read_to is.before is.between is.after taken is.read) h)
+  pub what_is_left : (s t : Served met) (taken sent : List ℕ) (u v : Served met) → IsStretch s t taken sent u v → IsBackedBy s (as_kept s.world ∷ []) → s.keeping.kept ≤ s.world.register.places
+      → CrashLeaves met (disk_of u.keeping.journal) (disk_of v.keeping.journal) (HoldsStood s v taken sent u.keeping.kept)
+  what_is_left s t taken sent u v is b k =
+      wider u v (Since IsServed IsBackedBy shown kept_of places_of s (is.before ++ is.between) (is.first_answers ++ is.answers) v u.keeping.kept) (StoodSince s v taken sent u.keeping.kept)
+      (λ w h. stood_in IsBackedBy s v taken sent (is.before ++ is.between) (is.first_answers ++ is.answers) u.keeping.kept w (read_to is.before is.between is.after taken is.read)
+      (written_to is.first_answers is.answers is.later_answers sent is.written) h)
       (leaves_between IsServed IsBackedBy shown kept_of places_of advance (keeps_on next) LeftHolding (λ x ws backed. quiet x ws ws backed (λ w there. there))
       (λ x y z P. joined met (disk_of x.keeping.journal) (disk_of y.keeping.journal) (disk_of z.keeping.journal) (HoldsSome P)) wider
       (λ x m bytes y ws answer backed. (goes x m bytes y ws answer backed).crash) s u v is.before is.between is.first_answers is.answers is.reaches is.passes b k) where
@@ -272,7 +289,7 @@ module _ {D : Type 0} {met : Ghosts D} where
   on_served s t m bytes (inl (tokens, inr h)) = same_keeping s t h.1.keeping
   on_served s t m bytes (inr h) = same_keeping s t (ap (λ (x : Served met). x.keeping) h.1)
 
-  pub whole_stretch : (s t : Served met) (taken sent : List ℕ) (left : Option (List ℕ)) (end : LinkEnd) → IsTranscript IsServed s taken sent left t end → IsStretch s t taken s t
+  pub whole_stretch : (s t : Served met) (taken sent : List ℕ) (left : Option (List ℕ)) (end : LinkEnd) → IsTranscript IsServed s taken sent left t end → IsStretch s t taken sent s t
   whole_stretch s t taken sent left end transcript =
       let a = answered IsServed s taken sent left t end transcript in
       record {
@@ -283,6 +300,7 @@ module _ {D : Type 0} {met : Ghosts D} where
         first_answers = [];
         answers = a.answers;
         later_answers = [];
+        written = subst (λ (xs : List ℕ). AreWritten xs sent) (sym (append-nil a.answers)) a.written;
         reaches = (refl, refl);
         passes = a.replays;
         follows = (refl, refl);

@@ -6,4 +6,8 @@ pub mod Tellings
 pub mod Talks
 pub mod Lists
 pub mod Shares
+pub mod Keepings
+pub mod Flushes
+pub mod Staffs
 pub mod Served
+pub mod Ends

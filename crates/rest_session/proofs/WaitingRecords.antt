@@ -133,22 +133,22 @@ module _ {D : Type 0} {met : Ghosts D} where
   -- ---- the whole link
 
   pub what_waits : PlacesGoOn → (s t : Served met) (taken sent : List ℕ) (left : Option (List ℕ)) (end : LinkEnd) → IsTranscript IsServed s taken sent left t end
-      → pending_of s.keeping.journal ≡ None → records s.keeping.building ≡ [] → s.keeping.kept ≤ s.world.register.places → AreOfStood s t taken
+      → pending_of s.keeping.journal ≡ None → records s.keeping.building ≡ [] → s.keeping.kept ≤ s.world.register.places → AreOfStood s t taken sent
   what_waits next s t taken sent left end transcript none all k = record {
-    waiting = λ rs is. all_more (IsOfOne f.left) (IsOfStood s t taken t.keeping.kept) rs of_stood (f.is_backed.waiting rs is);
-    building = all_more (IsOfOne f.left) (IsOfStood s t taken t.keeping.kept) (records t.keeping.building) of_stood f.is_backed.building;
-    now = stands_now s t taken a t.keeping.kept f.within;
+    waiting = λ rs is. all_more (IsOfOne f.left) (IsOfStood s t taken sent t.keeping.kept) rs of_stood (f.is_backed.waiting rs is);
+    building = all_more (IsOfOne f.left) (IsOfStood s t taken sent t.keeping.kept) (records t.keeping.building) of_stood f.is_backed.building;
+    now = stands_now s t taken sent a t.keeping.kept f.within;
   } where
-    a : Answered IsServed s t taken
+    a : Answered IsServed s t taken sent
     a = answered IsServed s taken sent left t end transcript
 
-    f : Follows IsServed AreOfWorlds shown kept_of places_of s a.messages t (as_kept s.world ∷ [])
+    f : Follows IsServed AreOfWorlds shown kept_of places_of s a.messages a.answers t (as_kept s.world ∷ [])
     f = follow IsServed AreOfWorlds shown kept_of places_of advance (keeps_on next) s a.messages a.answers t (as_kept s.world ∷ []) a.replays
         (nothing_left s.keeping (as_kept s.world ∷ []) none all) k
 
-    stood : AllByRecursion (StoodSince s t taken t.keeping.kept) f.left
-    stood = all_map (Since IsServed AreOfWorlds shown kept_of places_of s a.messages t t.keeping.kept) (StoodSince s t taken t.keeping.kept) f.left
-        (λ w h. stood_in AreOfWorlds s t taken a.messages t.keeping.kept w a.read h) (all_stood IsServed AreOfWorlds shown kept_of places_of s a.messages a.answers t a.replays k f)
+    stood : AllByRecursion (StoodSince s t taken sent t.keeping.kept) f.left
+    stood = all_map (Since IsServed AreOfWorlds shown kept_of places_of s a.messages a.answers t t.keeping.kept) (StoodSince s t taken sent t.keeping.kept) f.left
+        (λ w h. stood_in AreOfWorlds s t taken sent a.messages a.answers t.keeping.kept w a.read a.written h) (all_stood IsServed AreOfWorlds shown kept_of places_of s a.messages a.answers t a.replays k f)
 
-    of_stood : (r : Record) → IsOfOne f.left r → IsOfStood s t taken t.keeping.kept r
-    of_stood r h = (h.0, of_among (StoodSince s t taken t.keeping.kept) f.left h.0 h.1 stood, h.2)
+    of_stood : (r : Record) → IsOfOne f.left r → IsOfStood s t taken sent t.keeping.kept r
+    of_stood r h = (h.0, of_among (StoodSince s t taken sent t.keeping.kept) f.left h.0 h.1 stood, h.2)

@@ -1,8 +1,10 @@
 -- The bytes of answers to requests.
-use Rattle.std.specs.Prelude.{◌≡◌, ◌⊎◌, ℕ, ◌≤◌, List, Bool, Some, codes}
+use Rattle.std.specs.Prelude.{◌≡◌, ◌⊎◌, ℕ, ◌≤◌, List, [], Bool, Some, Result, Ok, Err, codes}
 use Rattle.serde_json.specs.Data.{Data, depth, object}
 use Rattle.serde_json.specs.Read.{read, max_depth}
 use Rattle.serde_json.specs.Written.{compact_text}
+use Rattle.flush_journal.specs.declared.why.Why.{Why}
+use Rattle.flush_journal.specs.declared.why.Why.TheVariants as why
 use Rattle.http_wire.specs.Replies.{reply_text, no_memory_reply}
 use Rattle.http_wire.specs.declared.extra.Extra.{Extra}
 use Rattle.http_wire.specs.declared.extra.Extra.TheVariants as extra
@@ -11,7 +13,7 @@ use Rattle.http_wire.specs.declared.message_fault.MessageFault.{MessageFault}
 use Rattle.http_wire.specs.declared.message_fault.MessageFault.TheVariants as fault
 use Rattle.object_ops.specs.Refusals.{status_of, refusal_tree, reason_alone}
 use Rattle.object_ops.specs.declared.refusals.Refusal.{Refusal}
-use Rattle.object_ops.specs.declared.refusals.Refusal.TheVariants.{BadToken, Forbidden, Method, BadHead, HeadTooLong, BadLength, BodyTooLong, TransferCoding}
+use Rattle.object_ops.specs.declared.refusals.Refusal.TheVariants.{BadToken, Forbidden, Method, DiskFault, JournalFull, BadHead, HeadTooLong, BadLength, BodyTooLong, TransferCoding}
 use Rattle.object_ops.specs.declared.replies.Reply.TheVariants as outcome
 use Rattle.rest_requests.specs.Routes.Methods.{no_methods}
 use Rattle.rest_requests.specs.declared.routes.routes.Methods.{Methods}
@@ -80,6 +82,17 @@ IsSaid path what close bytes = (bytes ≡ said path what close) × IsJson (body_
 -- they say it, or that there was no memory for their text
 abbrev pub IsResponse : List ℕ → What → Bool → List ℕ → Type 0
 IsResponse path what close bytes = IsSaid path what close bytes ⊎ (bytes ≡ no_memory_reply close)
+
+-- the answer where a change stands that was not kept; or that there was no memory
+abbrev pub IsUnkept : Why → Bool → List ℕ → Type 0
+IsUnkept why.DiskFault close bytes = (bytes ≡ refused [] DiskFault no_methods close) ⊎ (bytes ≡ no_memory_reply close)
+IsUnkept (why.JournalFull end need room) close bytes = (bytes ≡ refused [] (JournalFull end need room) no_methods close) ⊎ (bytes ≡ no_memory_reply close)
+IsUnkept why close bytes = bytes ≡ no_memory_reply close
+
+-- an answer that acknowledges nothing that isn't kept
+abbrev pub IsKeptAnswer : {T : Type 0} → List ℕ → What → Bool → Result T Why → List ℕ → Type 0
+IsKeptAnswer path what close (Ok kept) bytes = IsResponse path what close bytes
+IsKeptAnswer path what close (Err why) bytes = IsUnkept why close bytes
 
 -- the refusal that bytes meet which are no message
 abbrev pub refusal_of : MessageFault → Refusal

@@ -11,17 +11,14 @@ use Rattle.access_lists.specs.declared.people.Caller.{Caller}
 use Rattle.access_lists.specs.Tokens.Bearer.{TokenTable}
 use Rattle.edge_traits.specs.declared.disk.Disk.{Ghosts}
 use Rattle.flush_journal.specs.declared.why.Why.{Why}
-use Rattle.flush_journal.specs.declared.why.Why.TheVariants as why
 use Rattle.flush_journal.specs.declared.keepings.keeping.Keeping.{Keeping}
 use Rattle.object_ops.specs.Needs.{decided_at}
 use Rattle.object_ops.specs.declared.ops.Op.{Op}
 use Rattle.object_ops.specs.declared.ops.Op.TheVariants as op
 use Rattle.object_ops.specs.declared.ops.Request.{Request}
 use Rattle.object_ops.specs.declared.refusals.Refusal.{Refusal}
-use Rattle.object_ops.specs.declared.refusals.Refusal.TheVariants.{DiskFault, JournalFull}
 use Rattle.object_ops.specs.declared.replies.Reply.TheVariants as outcome
 use Rattle.rest_requests.specs.Requests.{RequestText, allow_of, request_of}
-use Rattle.rest_requests.specs.Routes.Methods.{no_methods}
 use Rattle.service_core.specs.Records.{WorldStillSays}
 use Rattle.service_core.specs.KeptWorlds.{KeepsWorld}
 use Rattle.service_core.specs.Steps.{Steps}
@@ -29,7 +26,7 @@ use Rattle.service_core.specs.Worlds.{State, seen}
 use Rattle.service_core.specs.declared.answers.Answer.{Answer}
 use Rattle.service_core.specs.declared.answers.What.{What}
 use Rattle.service_core.specs.declared.answers.What.TheVariants.{Replied}
-use Rattle.rest_session.specs.Responses.{IsResponse, refused}
+use Rattle.rest_session.specs.Responses.{IsKeptAnswer, IsResponse, refused}
 
 -- the first field of a name
 abbrev pub field : List ℕ → RequestMessage → Option (List ℕ)
@@ -83,16 +80,6 @@ is_to_keep (op.GetPoints id points) = false
 abbrev pub acknowledges : Op → What → Bool
 acknowledges asked (Replied (outcome.Done status body)) = is_to_keep asked
 acknowledges asked what = false
-
--- the answer where a change stands that was not kept; or that there was no memory
-abbrev pub IsUnkept : Why → Bool → List ℕ → Type 0
-IsUnkept why.DiskFault close bytes = (bytes ≡ refused [] DiskFault no_methods close) ⊎ (bytes ≡ no_memory_reply close)
-IsUnkept (why.JournalFull end need room) close bytes = (bytes ≡ refused [] (JournalFull end need room) no_methods close) ⊎ (bytes ≡ no_memory_reply close)
-IsUnkept why close bytes = bytes ≡ no_memory_reply close
-
-abbrev pub IsKeptAnswer : List ℕ → What → Bool → Result ℕ Why → List ℕ → Type 0
-IsKeptAnswer path what close (Ok kept) bytes = IsResponse path what close bytes
-IsKeptAnswer path what close (Err why) bytes = IsUnkept why close bytes
 
 -- ---- a request
 

@@ -1,14 +1,15 @@
 //! Answers to requests, as a link writes them.
 
-ghost use Rattle.std.specs.Prelude.{◌≡◌, Bool, IfOk};
+ghost use Rattle.std.specs.Prelude.{◌≡◌, ◌⊎◌, Bool, [], IfOk};
 ghost use Rattle.rest_session.specs.Links.Replies.{reply_bytes};
 ghost use Rattle.http_wire.specs.Replies.{no_memory_reply};
 ghost use Rattle.service_core.specs.AnswerTrees.Exact.{IsExact};
-ghost use Rattle.rest_session.specs.Responses.{IsResponse, IsSaid, refused};
+ghost use Rattle.rest_session.specs.Responses.{IsKeptAnswer, IsResponse, IsSaid, IsUnkept, refused};
 ghost use Rattle.rest_session.specs.Responses.{extra_of, extra_said, listed, status_said};
 
 use crate::links::{Response, ResponseBody};
 use crate::texts::{answer_text, refusal_text};
+use flush_journal::Why;
 use http_wire::Extra;
 use object_ops::{Refusal, Reply};
 use rest_requests::routes::Methods;
@@ -48,6 +49,34 @@ pub fn refusal_reply(
     })
 }
 
+/// Answers what is no request.
+pub(crate) fn refuse(alloc: Global, refusal: &Refusal, allow: Methods) -> Response
+    ensures { (close : Bool) → (reply_bytes result close ≡ refused [] refusal.now allow close)
+        ⊎ (reply_bytes result close ≡ no_memory_reply close) }
+{
+    match refusal_reply(alloc, "", refusal, allow) {
+        Ok(reply) => reply,
+        Err(_) => no_memory(),
+    }
+}
+
+/// Says why a change that stands was not kept.
+pub(crate) fn unkept_reply(alloc: Global, why: Why) -> Response
+    ensures { (close : Bool) → IsUnkept why close (reply_bytes result close) }
+{
+    match why {
+        Why::DiskFault => refuse(alloc, &Refusal::DiskFault, Methods::NONE),
+        Why::JournalFull { end, need, room } => {
+            refuse(
+                alloc,
+                &Refusal::JournalFull { end, need, room },
+                Methods::NONE,
+            )
+        }
+        Why::NotAJournal { .. } | Why::Exists | Why::NoMemory => no_memory(),
+    }
+}
+
 // The header line that a refusal has beside.
 fn extra_of(refusal: &Refusal, allow: Methods) -> Extra
     ensures { result ≡ extra_of refusal.now allow }
@@ -80,6 +109,23 @@ pub fn answer_reply(alloc: Global, path: &str, answer: &Answer) -> Response
     match said(alloc, path, answer) {
         Ok(reply) => reply,
         Err(_) => no_memory(),
+    }
+}
+
+/// The answer to a request that was to be kept first. Where it wasn't, it acknowledges nothing.
+pub(crate) fn kept_reply(
+    alloc: Global,
+    path: &str,
+    answer: &Answer,
+    kept: Result<(), Why>,
+) -> Response
+    requires { IsExact answer.now.what }
+    ensures { (close : Bool)
+        → IsKeptAnswer path.now answer.now.what close kept (reply_bytes result close) }
+{
+    match kept {
+        Ok(()) => answer_reply(alloc, path, answer),
+        Err(why) => unkept_reply(alloc, why),
     }
 }
 

@@ -24,8 +24,8 @@ ghost use Rattle.service_core.specs.Steps.{Steps, World as Seen};
 ghost use Rattle.service_core.specs.declared.answers.Answer.{Answer};
 ghost use Rattle.object_ops.specs.declared.replies.Reply.TheVariants.{Done};
 ghost use Rattle.service_core.specs.declared.answers.What.TheVariants.{Denied, Replied};
-ghost use Rattle.rest_session.specs.Responses.{HasStatus, refusal_of, refused, said};
-ghost use Rattle.rest_session.specs.Sessions.{IsServed, IsUnkept, Served};
+ghost use Rattle.rest_session.specs.Responses.{HasStatus, IsUnkept, refusal_of, refused, said};
+ghost use Rattle.rest_session.specs.Sessions.{IsServed, Served};
 ghost use Rattle.rest_session.specs.Sessions.{is_to_keep};
 ghost use Rattle.rest_session.specs.Stood.{AreOfStood, HoldsStood, IsBackedBy, IsBackedByStood};
 ghost use Rattle.rest_session.specs.Stood.{IsStretch};
@@ -97,14 +97,14 @@ pub fn what_is_kept_stood<D: Disk>()
     ensures stood { (s t : Served D.Disk) (taken sent : List ℕ) (left : Option (List ℕ)) (end : LinkEnd)
         → IsTranscript IsServed s taken sent left t end → D.honest
         → IsBackedBy s (as_kept s.world ∷ []) → s.keeping.kept ≤ s.world.register.places
-        → IsBackedByStood s t taken }
+        → IsBackedByStood s t taken sent }
     ensures stretch { (s t : Served D.Disk) (taken sent : List ℕ) (left : Option (List ℕ)) (end : LinkEnd)
-        → IsTranscript IsServed s taken sent left t end → IsStretch s t taken s t }
-    ensures crash { (s t u v : Served D.Disk) (taken : List ℕ) → IsStretch s t taken u v
+        → IsTranscript IsServed s taken sent left t end → IsStretch s t taken sent s t }
+    ensures crash { (s t u v : Served D.Disk) (taken sent : List ℕ) → IsStretch s t taken sent u v
         → D.honest → IsBackedBy s (as_kept s.world ∷ []) → s.keeping.kept ≤ s.world.register.places
         → CrashLeaves D.Disk (disk_of u.keeping.journal) (disk_of v.keeping.journal)
-        (HoldsStood s v taken u.keeping.kept) }
-    ensures onward { (s t u v : Served D.Disk) (taken : List ℕ) → IsStretch s t taken u v
+        (HoldsStood s v taken sent u.keeping.kept) }
+    ensures onward { (s t u v : Served D.Disk) (taken sent : List ℕ) → IsStretch s t taken sent u v
         → s.keeping.kept ≤ s.world.register.places → u.keeping.kept ≤ v.keeping.kept }
 {
     images_are_kept::<D, World>();
@@ -118,7 +118,7 @@ pub fn what_waits_stood<D: Disk>()
     ensures { (s t : Served D.Disk) (taken sent : List ℕ) (left : Option (List ℕ)) (end : LinkEnd)
         → IsTranscript IsServed s taken sent left t end
         → pending_of s.keeping.journal ≡ None → records s.keeping.building ≡ []
-        → s.keeping.kept ≤ s.world.register.places → AreOfStood s t taken }
+        → s.keeping.kept ≤ s.world.register.places → AreOfStood s t taken sent }
 {
     places_in_order();
 }

@@ -1,6 +1,6 @@
 //! A world and its keeping, lent to a link.
 
-ghost use Rattle.std.specs.Prelude.{◌≡◌, ◌⊎◌, Bool, []};
+ghost use Rattle.std.specs.Prelude.{◌≡◌, ◌⊎◌, Bool};
 ghost use Rattle.http_wire.specs.Messages.{RequestMessage, IsSpelled};
 ghost use Rattle.http_wire.specs.Heard.{IsMessage};
 ghost use Rattle.http_wire.specs.Replies.{no_memory_reply};
@@ -9,19 +9,16 @@ ghost use Rattle.object_ops.specs.Conditions.{IsSoundOp};
 ghost use Rattle.object_ops.specs.Needs.{decided_at};
 ghost use Rattle.access_lists.specs.Tokens.Bearer.{TokenTable};
 ghost use Rattle.rest_requests.specs.Requests.{said};
-ghost use Rattle.rest_session.specs.Responses.{refused};
-ghost use Rattle.rest_session.specs.Sessions.{IsStepped, IsUnkept, Served, acknowledges, is_to_keep};
+ghost use Rattle.rest_session.specs.Sessions.{IsStepped, Served, acknowledges, is_to_keep};
 ghost use Rattle.rest_session.specs.Sessions.{said_by};
 
-use crate::answers::{answer_reply, no_memory, refusal_reply};
+use crate::answers::{answer_reply, no_memory, refuse, unkept_reply};
 use crate::links::{Response, Service};
 use access_lists::Caller;
 use edge_traits::Disk;
-use flush_journal::Why;
 use flush_journal::keepings::Keeping;
 use http_wire::Message;
-use object_ops::{Op, Refusal, Reply, Request, on_text};
-use rest_requests::routes::Methods;
+use object_ops::{Op, Reply, Request, on_text};
 use rest_requests::{RequestFault, RequestParts, Tokens, lent_request};
 use service_core::answer_trees::bodies_have_no_floats;
 use service_core::{What, World};
@@ -90,17 +87,6 @@ pub(crate) fn parts_of<'m>(message: &Message<'m>) -> RequestParts<'m>
     }
 }
 
-/// Answers what is no request.
-pub(crate) fn refuse(alloc: Global, refusal: &Refusal, allow: Methods) -> Response
-    ensures { (close : Bool) → (reply_bytes result close ≡ refused [] refusal.now allow close)
-        ⊎ (reply_bytes result close ≡ no_memory_reply close) }
-{
-    match refusal_reply(alloc, "", refusal, allow) {
-        Ok(reply) => reply,
-        Err(_) => no_memory(),
-    }
-}
-
 /// Answers a request by one step of the world, which is kept before its answer acknowledges a change. Where no place is
 /// left, it says that memory is wanting.
 fn step<D: Disk>(
@@ -143,7 +129,7 @@ fn acknowledges(op: &Op, what: &What) -> bool
     }
 }
 
-pub(crate) fn is_to_keep(op: &Op) -> bool
+fn is_to_keep(op: &Op) -> bool
     ensures { result ≡ is_to_keep op.now }
 {
     match op {
@@ -169,22 +155,5 @@ pub(crate) fn is_to_keep(op: &Op) -> bool
         | Op::GetValue { .. }
         | Op::PutValue { .. }
         | Op::GetPoints { .. } => false,
-    }
-}
-
-// Says why a change that stands was not kept.
-fn unkept_reply(alloc: Global, why: Why) -> Response
-    ensures { (close : Bool) → IsUnkept why close (reply_bytes result close) }
-{
-    match why {
-        Why::DiskFault => refuse(alloc, &Refusal::DiskFault, Methods::NONE),
-        Why::JournalFull { end, need, room } => {
-            refuse(
-                alloc,
-                &Refusal::JournalFull { end, need, room },
-                Methods::NONE,
-            )
-        }
-        Why::NotAJournal { .. } | Why::Exists | Why::NoMemory => no_memory(),
     }
 }

@@ -5,4 +5,4 @@ pub returns : goal.returns
 returns g c =
     let ran = c.run-finished.ensures.run in
     let doors = c.in-Ok-doors_for in
-    inr (_, c.journal_disk.result, ran.1, c.run-finished.result.closed, _, _, ran.0, ran.2, sym doors.doors.ok.0 ∙ doors.ensures.one_each, ran.5)
+    inr (_, c.journal_disk.result, c.run-finished.result.disk, c.run-finished.result.closed, _, _, ran.0, ran.1, sym doors.doors.ok.0 ∙ doors.ensures.one_each, ran.3)

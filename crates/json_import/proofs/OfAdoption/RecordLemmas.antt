@@ -11,7 +11,7 @@ use Rattle.serde_json.specs.Data.{Data, Items, Members}
 use Rattle.serde_json.specs.Data as trees
 use Rattle.serde_json.specs.Find.{get as find}
 use Rattle.serde_json.specs.Read.{read}
-use Rattle.json_trees.specs.Trees.{list_in, list_of, text_at}
+use Rattle.json_trees.specs.Trees.{list_in, list_of, text_at, AreItemTexts, AreTexts}
 use Rattle.json_trees.proofs.FaultLemmas.{bind_ok, test_ok}
 use Rattle.containers.specs.TextMaps.Keyed.{text_order, with_values}
 use Rattle.containers.proofs.TextMaps.ValueMaps.{get-values, len-values}
@@ -31,7 +31,6 @@ use Rattle.shapes.proofs.ShapeLemmas.{shape_sound, shape_told}
 use Rattle.hdf_values.specs.Attributes.{Content, IsSoundAttribute, attribute_of, content, most_bytes, shape_or, sized_at, typed_at, value_or, valued_at}
 use Rattle.hdf_values.specs.Nested.{AreEncoded}
 use Rattle.hdf_values.specs.Shaped.{IsValue}
-use Rattle.hdf_values.specs.Texts.{AreItemTexts, AreTexts}
 use Rattle.hdf_values.specs.declared.attributes.Attribute.{Attribute}
 use Rattle.hdf_values.specs.declared.attributes.AttributeFault.{AttributeFault}
 use Rattle.hdf_values.proofs.ExactlyLemmas.{exactly_value}

@@ -145,6 +145,8 @@ module _ (ok : Bool) (core : Notes) (place : ℕ) (up : core.crashed ≡ false) 
           cut = cut_to registered place are_then drawn_then zeroth first;
           register = last;
           whole = whole;
+          end = 0;
+          owed = 0;
           new_is = refl;
         },
       ),
@@ -229,7 +231,7 @@ runs_on (e ∷ front) back old mid new first runs = (first.0, first.1, runs_on f
 pub settled_runs : Runs settling (after_late false) after_settled
 settled_runs =
     let reach : Reach = record { c = 9; p = 9 } in
-    (with_desk (after_late false) true (built_late.desk.built, reach) 0 0 0, (refl, record { batch = (built_late.desk.built, reach); pending = refl; new_is = refl }), (after_settled, (refl, refl), refl))
+    (with_desk (after_late false) true (built_late.desk.built, reach) 0 0 0 0 0, (refl, record { batch = (built_late.desk.built, reach); pending = refl; end = 0; owed = 0; new_is = refl }), (after_settled, (refl, refl), refl))
 
 pub settled_from_opened : Runs (cut_late false ++ settling) opened after_settled
 settled_from_opened = runs_on (cut_late false) settling opened (after_late false) after_settled (late_runs false) settled_runs

@@ -53,7 +53,7 @@ abbrev pub register_cut_at : ℕ → Notes → Notes
 register_cut_at p core = with_built (with_item core (RegisterCut p true) core.register) (record core.desk.built { right = core.register })
 
 abbrev pub batch_appended : Bool → ℕ → ℕ → Notes → Notes
-batch_appended ok c p core = with_desk core ok (core.desk.built, record { c = c; p = p }) 0 0 0
+batch_appended ok c p core = with_desk core ok (core.desk.built, record { c = c; p = p }) 0 0 0 0 0
 
 -- requests before, which take the first places
 abbrev pub looks_times : ℕ → List (Event notes)
@@ -95,7 +95,7 @@ abbrev pub settling : List (Event notes)
 settling = settles true 0 0 0 ∷ crashes ∷ []
 
 abbrev pub after_settled : Notes
-after_settled = record (with_desk (after_late false) true (built_late.desk.built, record { c = 9; p = 9 }) 0 0 0) { crashed = true }
+after_settled = record (with_desk (after_late false) true (built_late.desk.built, record { c = 9; p = 9 }) 0 0 0 0 0) { crashed = true }
 
 -- ---- the cut is drawn at 7 places: its tickets come first, and the note's turn waits
 

@@ -3,26 +3,28 @@
 ghost use Rattle.std.specs.Prelude.{◌≡◌};
 ghost use Rattle.hall.specs.Passes.{IsPassOf, who};
 
+use crate::halls::worlds::MemDesk;
 use crate::requests::{answer_text, known, read_ask};
-use hall::{Hall, OpenGate, Pass};
+use hall::{DeskWork, Hall, KeptAnswer, OpenGate, Pass, work_for};
 use object_ops::on_text;
 use rest_requests::Tokens;
 use std::alloc::Global;
 use std::sync::Wait;
 
-/// What a row was answered, and at which place.
+/// What a row was answered, at which place, and what was kept before that.
 #[derive(Drop)]
 pub(crate) struct Told {
     pub(crate) place: u64,
     pub(crate) text: String,
+    pub(crate) kept: Option<DeskWork>,
 }
 
 /// Asks one row; nothing where it is no request, or memory ran out.
 fn ask_row<W: Wait>(
     rt: &W,
     alloc: Global,
-    hall: &Hall<()>,
-    pass: &mut Pass<()>,
+    hall: &Hall<MemDesk>,
+    pass: &mut Pass<MemDesk>,
     tokens: &Tokens,
     row: &str,
 ) -> Option<Told>
@@ -32,20 +34,22 @@ fn ask_row<W: Wait>(
 {
     let (caller, request) = read_ask(alloc, tokens, row)?;
     let mut gate = OpenGate;
-    let answer = hall.ask(rt, pass, &mut gate, &caller, &request);
+    let KeptAnswer { answer, kept } = hall.ask_kept(rt, pass, &mut gate, &caller, &request);
     let text = answer_text(alloc, on_text(&request), &answer.what)?;
-    Some(Told {
-        place: answer.place,
-        text,
-    })
+    let place = answer.place;
+    let kept = match kept {
+        Ok(()) => work_for(&request.op, place, &answer.what),
+        Err(_) => None,
+    };
+    Some(Told { place, text, kept })
 }
 
 /// Asks the rows, one behind the other; nothing where one of them is no request, or memory ran out.
 pub(crate) fn ask_rows<W: Wait>(
     rt: &W,
     alloc: Global,
-    hall: &Hall<()>,
-    pass: &mut Pass<()>,
+    hall: &Hall<MemDesk>,
+    pass: &mut Pass<MemDesk>,
     rows: &[String],
 ) -> Option<Vec<Told>>
     requires of_this_hall { IsPassOf hall.now pass.old }

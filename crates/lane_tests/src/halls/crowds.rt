@@ -2,15 +2,18 @@
 
 ghost use Rattle.std.specs.Prelude.{◌≡◌, ℕ, ◌+◌, ◌≤◌, [], All, Some, slice_get};
 ghost use Rattle.std.specs.Prelude.{length, vec_capacity, vec_len};
-ghost use Rattle.hall.specs.Passes.{HasBegun, IsNewWorld, IsPassOf, names_of};
+ghost use Rattle.hall.specs.Passes.{HasBegun, IsPassOf, names_of};
 ghost use Rattle.lane_tests.specs.Crowds.{IsGiver, IsMember};
 ghost use Rattle.service_core.specs.Worlds.{State};
 
 use crate::halls::asks::{Told, ask_rows};
+use crate::halls::worlds::{MemDesk, hall_on};
+use edge_traits::MemDisk;
 use hall::{Hall, Pass};
 use service_core::World;
-use std::alloc::{AllocError, Global};
+use std::alloc::Global;
 use std::sync::Wait;
+use std::test::Fail;
 use std::thread;
 use std::thread::Threads;
 
@@ -23,14 +26,38 @@ pub(crate) struct Heard {
     pub(crate) told: Option<Vec<Told>>,
 }
 
+impl Heard {
+    /// The row that was answered at a place, and the answer.
+    fn at(&self, place: u64) -> Option<(&str, &Told)> {
+        let told = self.told.as_ref()?;
+        for (row, answer) in self.rows.iter().zip(told) {
+            if answer.place == place {
+                return Some((row.as_str(), answer));
+            }
+        }
+        None
+    }
+}
+
+/// The row that was answered at a place to one of these, and the answer.
+pub(crate) fn heard_at(heard: &[Heard], place: u64) -> Option<(&str, &Told)> {
+    for one in heard {
+        let found = one.at(place);
+        if found.is_some() {
+            return found;
+        }
+    }
+    None
+}
+
 /// One of many callers: its pass, and its rows.
 pub(crate) struct Member {
-    pass: Pass<()>,
+    pass: Pass<MemDesk>,
     heard: Heard,
 }
 
 /// A caller with the next number of the first pass.
-fn admit(hall: &Hall<()>, pass: &mut Pass<()>, rows: Vec<String>) -> Member
+fn admit(hall: &Hall<MemDesk>, pass: &mut Pass<MemDesk>, rows: Vec<String>) -> Member
     requires giver { (n : ℕ) × IsGiver hall.now (n + 1) pass.old }
     ensures giver { (n : ℕ) → IsGiver hall.now (n + 1) pass.old
         → IsGiver hall.now n pass.new × IsMember hall.now result.pass }
@@ -44,8 +71,8 @@ fn admit(hall: &Hall<()>, pass: &mut Pass<()>, rows: Vec<String>) -> Member
 
 /// A caller for each list of rows.
 fn admit_all(
-    hall: &Hall<()>,
-    pass: &mut Pass<()>,
+    hall: &Hall<MemDesk>,
+    pass: &mut Pass<MemDesk>,
     scripts: &mut Vec<Vec<String>>,
     members: &mut Vec<Member>,
 )
@@ -62,7 +89,7 @@ fn admit_all(
     }
 }
 
-fn speak<W: Wait>(rt: &W, alloc: Global, hall: &Hall<()>, member: &mut Member)
+fn speak<W: Wait>(rt: &W, alloc: Global, hall: &Hall<MemDesk>, member: &mut Member)
     requires { IsMember hall.now member.old.pass }
     ensures { IsMember hall.now member.new.pass }
 {
@@ -75,7 +102,7 @@ fn speak<W: Wait>(rt: &W, alloc: Global, hall: &Hall<()>, member: &mut Member)
 fn speak_each<R: Threads + Wait + Sync>(
     rt: &R,
     alloc: Global,
-    hall: &Hall<()>,
+    hall: &Hall<MemDesk>,
     members: &mut [Member],
 )
     requires { All (λ m. IsMember hall.now m.pass) members.old }
@@ -93,7 +120,7 @@ fn speak_each<R: Threads + Wait + Sync>(
 fn speak_all<R: Threads + Wait + Sync>(
     rt: &R,
     alloc: Global,
-    hall: &Hall<()>,
+    hall: &Hall<MemDesk>,
     members: &mut Vec<Member>,
 )
     requires { All (λ m. IsMember hall.now m.pass) members.old.items }
@@ -104,7 +131,12 @@ fn speak_all<R: Threads + Wait + Sync>(
 }
 
 /// Joins all callers' passes into this one.
-fn take_in(hall: &Hall<()>, pass: &mut Pass<()>, mut members: Vec<Member>, heard: &mut Vec<Heard>)
+fn take_in(
+    hall: &Hall<MemDesk>,
+    pass: &mut Pass<MemDesk>,
+    mut members: Vec<Member>,
+    heard: &mut Vec<Heard>,
+)
     requires of_this_hall { IsPassOf hall.now pass.old }
     requires members { All (λ m. IsMember hall.now m.pass) members.items }
     ensures of_this_hall { IsPassOf hall.now pass.new }
@@ -121,15 +153,23 @@ fn take_in(hall: &Hall<()>, pass: &mut Pass<()>, mut members: Vec<Member>, heard
     members.destroy_empty();
 }
 
+/// What callers were answered, and the world and the disk that they left.
+#[derive(Drop)]
+pub(crate) struct Left {
+    pub(crate) world: World,
+    pub(crate) disk: MemDisk,
+    pub(crate) heard: Vec<Heard>,
+}
+
 /// From a hall with its first pass to its end.
 fn over_hall<R: Threads + Wait + Sync>(
     rt: &R,
     alloc: Global,
-    hall: Hall<()>,
-    mut pass: Pass<()>,
+    hall: Hall<MemDesk>,
+    mut pass: Pass<MemDesk>,
     mut scripts: Vec<Vec<String>>,
     mut members: Vec<Member>,
-) -> (World, Vec<Heard>)
+) -> Left
     requires begun { (s : State) × HasBegun hall pass s (vec_len scripts + 1) }
     requires room { (members.items ≡ []) × (vec_len scripts ≤ vec_capacity members) }
 {
@@ -137,25 +177,27 @@ fn over_hall<R: Threads + Wait + Sync>(
     admit_all(&hall, &mut pass, &mut scripts, &mut members);
     speak_all(rt, alloc, &hall, &mut members);
     take_in(&hall, &mut pass, members, &mut heard);
-    let (world, _desk) = hall.close(pass);
-    (world, heard)
+    let (world, desk) = hall.close(pass);
+    let disk = desk.into_disk();
+    Left { world, disk, heard }
 }
 
-/// What callers were answered who asked one hall over a world at the same time, each its own rows, and the world that
-/// they left.
-pub(crate) fn over_world<R: Threads + Wait + Sync>(
+/// Callers ask one hall over the world of a journal at the same time, each its own rows. Some calls of the journal's disk fail.
+pub(crate) fn over_journal<R: Threads + Wait + Sync>(
     rt: &R,
     alloc: Global,
-    world: World,
+    bytes: &[u8],
+    failing: Vec<u64>,
     scripts: Vec<Vec<String>>,
-) -> Result<(World, Vec<Heard>), AllocError>
-    requires few { vec_len scripts ≤ 16 }
-    requires new { IsNewWorld world }
+) -> Result<Left, Fail>
+    requires { vec_len scripts ≤ 16 }
 {
     let members = Vec::with_capacity(alloc, scripts.len())?;
-    let Ok((hall, pass)) = Hall::begin(alloc, world, (), scripts.len() as u32 + 1) else {
-        members.destroy_empty();
-        return Err(AllocError);
-    };
-    Ok(over_hall(rt, alloc, hall, pass, scripts, members))
+    match hall_on(alloc, bytes, failing, scripts.len() as u32 + 1) {
+        Ok((hall, pass)) => Ok(over_hall(rt, alloc, hall, pass, scripts, members)),
+        Err(fail) => {
+            members.destroy_empty();
+            Err(fail)
+        }
+    }
 }

@@ -2,36 +2,36 @@
 
 ghost use Rattle.std.specs.Prelude.{◌≡◌, ℕ, ◌+◌, ◌≤◌, [], All, IfOk, false, length};
 ghost use Rattle.std.specs.Prelude.{vec_capacity, vec_len};
-ghost use Rattle.hall.specs.Passes.{HasBegun, IsNewWorld, IsPassOf, names_of};
+ghost use Rattle.hall.specs.Passes.{HasBegun, IsPassOf, names_of};
 ghost use Rattle.lane_tests.specs.Crowds.{IsGiver, IsMember};
 ghost use Rattle.rest_session.specs.Halls.Accounts.{IsReady};
 ghost use Rattle.service_core.specs.Worlds.{State};
 
-use crate::halls::watched::{PatientGate, WatchedDoor, WatchedLink};
-use crate::halls::worlds::{new_world, workshop};
-use crate::requests::{spelled, tokens};
+use crate::halls::patient_gate::PatientGate;
+use crate::halls::worlds::{MemDesk, hall_on, workshop};
+use crate::requests::known;
+use edge_traits::{MemDoor, MemLink, MemSink, MemSource};
 use hall::{Hall, Pass};
 use rest_requests::Tokens;
 use rest_session::halls::{LinkEnds, Worker, work};
-use service_core::World;
 use std::alloc::{AllocError, Global};
 use std::sync::atomic::AtomicU64;
 use std::sync::{Arc, Wait};
 use std::test::Fail;
 use std::thread::Threads;
 
-type Clerk = Worker<(), WatchedDoor, PatientGate>;
+type Clerk = Worker<MemDesk, MemDoor, PatientGate>;
 
-/// A door, the gate of who serves it, and room for how its link ends.
+/// A door as its worker has it, the gate of that worker, and room for how the link ends.
 #[derive(Drop)]
 struct Post {
-    door: WatchedDoor,
+    door: Option<MemDoor>,
     gate: PatientGate,
     ends: LinkEnds,
 }
 
 /// A worker at a door, with the next number of the first pass.
-fn hire(hall: &Hall<()>, pass: &mut Pass<()>, post: Post) -> Clerk
+fn hire(hall: &Hall<MemDesk>, pass: &mut Pass<MemDesk>, post: Post) -> Clerk
     requires giver { (n : ℕ) × IsGiver hall.now (n + 1) pass.old }
     requires ends { (post.ends.items ≡ []) × (1 ≤ vec_capacity post.ends) }
     ensures giver { (n : ℕ) → IsGiver hall.now (n + 1) pass.old → IsGiver hall.now n pass.new }
@@ -52,8 +52,8 @@ fn hire(hall: &Hall<()>, pass: &mut Pass<()>, post: Post) -> Clerk
 }
 
 fn hire_both(
-    hall: &Hall<()>,
-    pass: &mut Pass<()>,
+    hall: &Hall<MemDesk>,
+    pass: &mut Pass<MemDesk>,
     first: Post,
     second: Post,
     clerks: &mut Vec<Clerk>,
@@ -78,7 +78,7 @@ fn hire_both(
 fn work_all<R: Threads + Wait + Sync>(
     rt: &R,
     alloc: Global,
-    hall: &Hall<()>,
+    hall: &Hall<MemDesk>,
     tokens: &Tokens,
     clerks: &mut Vec<Clerk>,
 )
@@ -93,7 +93,12 @@ fn work_all<R: Threads + Wait + Sync>(
 }
 
 /// Joins the workers' passes into this one. The last post comes first.
-fn dismiss(hall: &Hall<()>, pass: &mut Pass<()>, mut clerks: Vec<Clerk>, posts: &mut Vec<Post>)
+fn dismiss(
+    hall: &Hall<MemDesk>,
+    pass: &mut Pass<MemDesk>,
+    mut clerks: Vec<Clerk>,
+    posts: &mut Vec<Post>,
+)
     requires of_this_hall { IsPassOf hall.now pass.old }
     requires members { All (λ w. IsMember hall.now w.pass) clerks.items }
     ensures of_this_hall { IsPassOf hall.now pass.new }
@@ -117,8 +122,8 @@ fn dismiss(hall: &Hall<()>, pass: &mut Pass<()>, mut clerks: Vec<Clerk>, posts: 
 fn over_hall<R: Threads + Wait + Sync>(
     rt: &R,
     alloc: Global,
-    hall: Hall<()>,
-    mut pass: Pass<()>,
+    hall: Hall<MemDesk>,
+    mut pass: Pass<MemDesk>,
     tokens: &Tokens,
     first: Post,
     second: Post,
@@ -137,94 +142,90 @@ fn over_hall<R: Threads + Wait + Sync>(
     posts
 }
 
-/// Both doors as they were left, the second first.
-fn over_world<R: Threads + Wait + Sync>(
+/// Both doors as they were left, behind a hall that was begun for them; the second first.
+fn served<R: Threads + Wait + Sync>(
     rt: &R,
     alloc: Global,
-    world: World,
     tokens: &Tokens,
     first: Post,
     second: Post,
-) -> Result<Vec<Post>, AllocError>
-    requires new { IsNewWorld world }
+) -> Result<Vec<Post>, Fail>
     requires first { (first.ends.items ≡ []) × (1 ≤ vec_capacity first.ends) }
     requires second { (second.ends.items ≡ []) × (1 ≤ vec_capacity second.ends) }
 {
+    let bytes = workshop(alloc)?;
     let clerks = Vec::with_capacity(alloc, 2)?;
-    let Ok((hall, pass)) = Hall::begin(alloc, world, (), 3) else {
-        clerks.destroy_empty();
-        return Err(AllocError);
-    };
-    Ok(over_hall(rt, alloc, hall, pass, tokens, first, second, clerks))
+    match hall_on(alloc, bytes.as_slice(), Vec::new(alloc), 3) {
+        Ok((hall, pass)) => Ok(over_hall(rt, alloc, hall, pass, tokens, first, second, clerks)),
+        Err(fail) => {
+            clerks.destroy_empty();
+            Err(fail)
+        }
+    }
 }
 
-/// A link that asks for an object, behind what others count.
-fn link_of(
-    alloc: Global,
-    object: &str,
-    begins_behind: &Arc<AtomicU64>,
-    writes: &Arc<AtomicU64>,
-) -> Result<WatchedLink, AllocError> {
-    let object = spelled(alloc, object)?;
-    let input = format!(in alloc;
-        "GET {object}?domain=/home/lab HTTP/1.1\r\nAuthorization: Bearer alice\r\n\r\n"
-    )?;
-    WatchedLink::new(
-        alloc,
-        input.as_str(),
-        Arc::try_clone(begins_behind)?,
-        Arc::try_clone(writes)?,
-    )
+/// A gate that opens once another was gone through twice, and that other one, which opens once somebody stands before the first.
+fn gates(alloc: Global) -> Result<(PatientGate, PatientGate), AllocError> {
+    let ones = Arc::new(alloc, AtomicU64::new(0))?;
+    let twos = Arc::new(alloc, AtomicU64::new(0))?;
+    let first = PatientGate::new(Arc::try_clone(&ones)?, Arc::try_clone(&twos)?, 2);
+    Ok((first, PatientGate::new(twos, ones, 1)))
 }
 
-/// A post at which there is one link.
-fn post_of(alloc: Global, link: WatchedLink, gate: PatientGate) -> Result<Post, AllocError>
+/// A door to a link with these bytes.
+fn door_to(alloc: Global, input: &str) -> Result<MemDoor, AllocError> {
+    let source = MemSource::new(input.as_bytes().to_vec(alloc)?, 4096, Vec::new(alloc));
+    let mut links = Vec::with_capacity(alloc, 1)?;
+    links.push_reserved(MemLink::new(source, MemSink::new(alloc, Vec::new(alloc))));
+    MemDoor::new(alloc, links, Vec::new(alloc))
+}
+
+/// A post behind a gate, with a link that has these bytes.
+fn post_at(alloc: Global, gate: PatientGate, input: &str) -> Result<Post, AllocError>
     ensures { IfOk result (λ post. (post.ends.items ≡ []) × (1 ≤ vec_capacity post.ends)) }
 {
+    let door = Some(door_to(alloc, input)?);
     let ends = Vec::with_capacity(alloc, 1)?;
-    Ok(Post {
-        door: WatchedDoor::new(link),
-        gate,
-        ends,
-    })
+    Ok(Post { door, gate, ends })
 }
 
-/// The bytes of an answer.
-fn answer_bytes(alloc: Global, body: &str) -> Result<String, AllocError> {
-    let body = spelled(alloc, body)?;
-    let length = body.len();
-    format!(in alloc;
-        "HTTP/1.1 200 OK\r\nContent-Type: application/json\r\nContent-Length: {length}\r\n\r\n{body}"
-    )
+impl Post {
+    /// Whether its link was answered so, and its gate opened no sooner than it should.
+    fn has_answer(&self, answer: &str) -> bool {
+        let Some(door) = &self.door else {
+            return false;
+        };
+        let Some(link) = door.ended().first() else {
+            return false;
+        };
+        link.bytes() == answer.as_bytes() && !self.gate.gave_up
+    }
 }
 
-const NO_LANE: u32 = u32::MAX;
+/// A read of an object of lane 1, and two of one of lane 0.
+static ASKED: [&str; 2] = [
+    "GET /datasets/d-00000000-0001-8000-8000-010000000001/value?domain=/home/lab HTTP/1.1\r\nAuthorization: Bearer alice\r\n\r\n",
+    "GET /datasets/d-00000000-0001-8000-8000-010000000002/value?domain=/home/lab HTTP/1.1\r\nAuthorization: Bearer alice\r\n\r\nGET /datasets/d-00000000-0001-8000-8000-010000000002/value?domain=/home/lab HTTP/1.1\r\nAuthorization: Bearer alice\r\n\r\n",
+];
 
-/// The first link reads an object of lane 1, behind a gate that stays shut until the second link's read of an object of lane 0 was
-/// answered. The second link asks only once the first stands before that gate.
+static ANSWERED: [&str; 2] = [
+    "HTTP/1.1 200 OK\r\nContent-Type: application/json\r\nContent-Length: 19\r\n\r\n{\"value\":[0,0,0,0]}",
+    "HTTP/1.1 200 OK\r\nContent-Type: application/json\r\nContent-Length: 35\r\n\r\n{\"value\":[[0,0],[0,0],[0,0],[0,0]]}HTTP/1.1 200 OK\r\nContent-Type: application/json\r\nContent-Length: 35\r\n\r\n{\"value\":[[0,0],[0,0],[0,0],[0,0]]}",
+];
+
+/// The first link reads an object of lane 1, behind a gate that stays shut until the second link asks again, so until its read of an
+/// object of lane 0 was answered. And that is answered only once the first stands before its gate.
 #[test]
 fn a_lane_that_waits_holds_up_no_other(rt: HostRuntime) -> Result<(), Fail> {
     let alloc = rt.alloc();
-    let bytes = workshop(alloc)?;
-    let (world, _journal) = new_world(alloc, bytes.as_slice())?;
-    let tokens = tokens(alloc)?;
-    let at_once = Arc::new(alloc, AtomicU64::new(1))?;
-    let inside = Arc::new(alloc, AtomicU64::new(0))?;
-    let mine = Arc::new(alloc, AtomicU64::new(0))?;
-    let theirs = Arc::new(alloc, AtomicU64::new(0))?;
-    let first = link_of(alloc, "/datasets/d~01/value", &at_once, &mine)?;
-    let second = link_of(alloc, "/datasets/d~02/value", &inside, &theirs)?;
-    let shut = PatientGate::new(1, Arc::try_clone(&theirs)?, Arc::try_clone(&inside)?);
-    let open = PatientGate::new(NO_LANE, Arc::try_clone(&mine)?, Arc::try_clone(&inside)?);
-    let first = post_of(alloc, first, shut)?;
-    let second = post_of(alloc, second, open)?;
-    let posts = over_world(&rt, alloc, world, &tokens, first, second)?;
-    let ones = answer_bytes(alloc, r#"{"value":[0,0,0,0]}"#)?;
-    let twos = answer_bytes(alloc, r#"{"value":[[0,0],[0,0],[0,0],[0,0]]}"#)?;
+    let tokens = known(alloc).expect(&rt, "tokens");
+    let (shut, open) = gates(alloc)?;
+    let first = post_at(alloc, shut, ASKED[0])?;
+    let second = post_at(alloc, open, ASKED[1])?;
+    let posts = served(&rt, alloc, &tokens, first, second)?;
     assert!(rt; posts.len() == 2);
-    for (post, answer) in posts.iter().zip([twos.as_str(), ones.as_str()]) {
-        assert!(rt; post.gate.turns == 1 && !post.gate.gave_up);
-        assert!(rt; post.door.has_answer(answer));
+    for (post, answer) in posts.iter().zip([ANSWERED[1], ANSWERED[0]]) {
+        assert!(rt; post.has_answer(answer));
     }
     Ok(())
 }

@@ -1,10 +1,12 @@
 //! Many callers of a hall, beside one world that is asked the same in the order of the places.
 
-use crate::halls::crowds::{Heard, over_world};
-use crate::halls::worlds::{new_world, workshop};
-use crate::openings::kept_bytes;
+use crate::halls::crowds::{Heard, Left, heard_at, over_journal};
+use crate::halls::worlds::workshop;
+use crate::openings::{begun_on, kept_bytes, recovered, world_on};
+use crate::pictures::{Picture, picture_of};
 use crate::requests::{read_row, tokens};
 use crate::services::what_text;
+use edge_traits::MemDisk;
 use object_ops::on_text;
 use rest_requests::Tokens;
 use service_core::World;
@@ -16,7 +18,7 @@ use std::thread::Threads;
 
 /// What callers ask: `%` stands for the two digits of a number below 40, and `#` for one below 4, so that callers meet in
 /// many objects.
-static ASKS: [&str; 23] = [
+static ASKS: [&str; 24] = [
     r#"|alice|/home/lab|POST|/groups|{"link":{"id":"g~00","name":"x#"}}"#,
     r#"|bob|/home/lab|GET|/groups/g~00/links|"#,
     r#"|alice|/home/lab|DELETE|/groups/g~00/links/x#|"#,
@@ -40,12 +42,13 @@ static ASKS: [&str; 23] = [
     r#"|alice|/home/y#|POST|/groups|{}"#,
     r#"|alice|/home/y#|DELETE|/|"#,
     r#"|alice|/home|GET|/domains|"#,
+    r#"|alice|/home/lab|PUT|/?flush=1|"#,
 ];
 
 /// The row of a caller.
 fn row_of(alloc: Global, caller: usize, at: usize) -> Result<String, AllocError> {
     let number = caller.wrapping_mul(5).wrapping_add(at.wrapping_mul(3));
-    let ask = ASKS[caller.wrapping_mul(7).wrapping_add(at.wrapping_mul(10)) % ASKS.len()];
+    let ask = ASKS[caller.wrapping_mul(7).wrapping_add(at.wrapping_mul(11)) % ASKS.len()];
     let two = format!(in alloc; "{}{}", number / 10 % 4, number % 10)?;
     let one = format!(in alloc; "{}", number % 4)?;
     let row = ask.replace(alloc, "%", two.as_str())?;
@@ -69,29 +72,6 @@ fn scripts_of(alloc: Global, callers: usize, rows: usize) -> Result<Vec<Vec<Stri
     Ok(scripts)
 }
 
-impl Heard {
-    /// The row that was answered at a place, and the answer.
-    fn at(&self, place: u64) -> Option<(&str, &str)> {
-        let told = self.told.as_ref()?;
-        for (row, answer) in self.rows.iter().zip(told) {
-            if answer.place == place {
-                return Some((row.as_str(), answer.text.as_str()));
-            }
-        }
-        None
-    }
-}
-
-fn heard_at(heard: &[Heard], place: u64) -> Option<(&str, &str)> {
-    for one in heard {
-        let found = one.at(place);
-        if found.is_some() {
-            return found;
-        }
-    }
-    None
-}
-
 /// What a world answers to a row.
 fn answer_of(alloc: Global, tokens: &Tokens, world: &mut World, row: &str) -> Result<String, Fail> {
     let (caller, request) = read_row(alloc, tokens, row)?;
@@ -112,10 +92,11 @@ fn assert_replayed(
     let alloc = rt.alloc();
     let tokens = tokens(alloc)?;
     for place in 0..places {
-        let Some((row, got)) = heard_at(heard, place as u64) else {
+        let Some((row, told)) = heard_at(heard, place as u64) else {
             return Err(Fail::from("nothing was answered at a place"));
         };
         let wanted = answer_of(alloc, &tokens, world, row)?;
+        let got = told.text.as_str();
         assert!(rt;
             got == wanted.as_str(),
             "{place}: {row}: {got} for {wanted}"
@@ -124,32 +105,55 @@ fn assert_replayed(
     Ok(())
 }
 
+/// What so many callers with so many rows each leave of the workshop.
+fn left_by(
+    rt: &(impl Threads + Wait + Sync + AllocGlobal),
+    bytes: &[u8],
+    callers: usize,
+    rows: usize,
+) -> Result<Left, Fail> {
+    let alloc = rt.alloc();
+    let scripts = scripts_of(alloc, callers, rows)?;
+    if scripts.len() > 16 {
+        return Err(Fail::from("too many callers"));
+    }
+    over_journal(rt, alloc, bytes, Vec::new(alloc), scripts)
+}
+
+/// What a journal tells once it has all that changed of a world.
+fn kept_picture(alloc: Global, world: World, disk: MemDisk) -> Result<Picture, Fail> {
+    let (journal, _) = recovered(alloc, disk)?;
+    let bytes = kept_bytes(alloc, world, journal)?;
+    picture_of(alloc, &world_on(alloc, bytes.as_slice())?)
+}
+
+/// All that was answered at so many places is answered alike by one world, and the journal tells that world.
+fn assert_left(
+    rt: &(impl Abort + AllocGlobal),
+    bytes: &[u8],
+    left: Left,
+    places: usize,
+) -> Result<(), Fail> {
+    let alloc = rt.alloc();
+    let Left { world, disk, heard } = left;
+    let (mut one, _journal) = begun_on(alloc, bytes, Vec::new(alloc))?;
+    assert_replayed(rt, &mut one, heard.as_slice(), places)?;
+    let wanted = picture_of(alloc, &one)?;
+    let found = kept_picture(alloc, world, disk)?;
+    assert!(rt; found.is_as(&wanted));
+    Ok(())
+}
+
 /// Callers ask a hall at the same time. All of it in the order of the answers' places is answered alike by one world,
-/// and a journal that keeps the one world has the bytes of a journal that keeps the other.
+/// and the journal tells that one.
 fn assert_one_history(
     rt: &(impl Abort + Threads + Wait + Sync + AllocGlobal),
     callers: usize,
     rows: usize,
 ) -> Result<(), Fail> {
-    let alloc = rt.alloc();
-    let bytes = workshop(alloc)?;
-    let scripts = scripts_of(alloc, callers, rows)?;
-    if scripts.len() > 16 {
-        return Err(Fail::from("too many callers"));
-    }
-    let (world, journal) = new_world(alloc, bytes.as_slice())?;
-    let (world, heard) = over_world(rt, alloc, world, scripts)?;
-    let left = kept_bytes(alloc, world, journal)?;
-    let (mut world, journal) = new_world(alloc, bytes.as_slice())?;
-    assert_replayed(
-        rt,
-        &mut world,
-        heard.as_slice(),
-        callers.saturating_mul(rows),
-    )?;
-    let wanted = kept_bytes(alloc, world, journal)?;
-    assert!(rt; left.as_slice() == wanted.as_slice());
-    Ok(())
+    let bytes = workshop(rt.alloc())?;
+    let left = left_by(rt, bytes.as_slice(), callers, rows)?;
+    assert_left(rt, bytes.as_slice(), left, callers.saturating_mul(rows))
 }
 
 #[test]

@@ -1,12 +1,8 @@
 //! One caller of a hall.
 
-ghost use Rattle.hall.specs.Passes.{IsNewWorld};
-
 use crate::halls::asks::{Told, ask_rows};
-use crate::halls::worlds::{laboratory, new_world};
+use crate::halls::worlds::{hall_on, laboratory};
 use crate::requests::{column, spelled};
-use hall::Hall;
-use service_core::World;
 use std::alloc::{AllocError, Global};
 use std::process::Abort;
 use std::sync::Wait;
@@ -56,18 +52,10 @@ fn rows_of(alloc: Global, table: &str) -> Result<Vec<String>, AllocError> {
     Ok(rows)
 }
 
-/// What a hall with one pass over a world answers to the rows.
-fn told_over<W: Wait>(
-    rt: &W,
-    alloc: Global,
-    world: World,
-    rows: &[String],
-) -> Result<Vec<Told>, Fail>
-    requires { IsNewWorld world }
-{
-    let Ok((hall, mut pass)) = Hall::begin(alloc, world, (), 1) else {
-        return Err(Fail::from("no memory"));
-    };
+/// What a hall with one pass over the laboratory answers to the rows.
+fn told_over<W: Wait>(rt: &W, alloc: Global, rows: &[String]) -> Result<Vec<Told>, Fail> {
+    let bytes = laboratory(alloc)?;
+    let (hall, mut pass) = hall_on(alloc, bytes.as_slice(), Vec::new(alloc), 1)?;
     let told = ask_rows(rt, alloc, &hall, &mut pass, rows);
     let (_world, _desk) = hall.close(pass);
     match told {
@@ -76,21 +64,21 @@ fn told_over<W: Wait>(
     }
 }
 
+/// Whether a row is answered as it says, at this place.
+fn is_told(alloc: Global, row: &str, told: &Told, place: usize) -> Result<bool, AllocError> {
+    let wanted = spelled(alloc, column(row, 6))?;
+    Ok(told.text.as_str() == wanted.as_str() && told.place == place as u64)
+}
+
 /// Asks a hall over the laboratory the rows of a table: each is answered as it says, at the next place.
 fn assert_answered(rt: &(impl Abort + Wait + AllocGlobal), table: &str) -> Result<(), Fail> {
     let alloc = rt.alloc();
     let rows = rows_of(alloc, table)?;
-    let bytes = laboratory(alloc)?;
-    let (world, _journal) = new_world(alloc, bytes.as_slice())?;
-    let told = told_over(rt, alloc, world, rows.as_slice())?;
+    let told = told_over(rt, alloc, rows.as_slice())?;
     assert!(rt; told.len() == rows.len());
     for (place, (row, told)) in rows.iter().zip(&told).enumerate() {
         let got = told.text.as_str();
-        let wanted = spelled(alloc, column(row.as_str(), 6))?;
-        assert!(rt;
-            got == wanted.as_str() && told.place == place as u64,
-            "{row}: {got}"
-        );
+        assert!(rt; is_told(alloc, row.as_str(), told, place)?, "{row}: {got}");
     }
     Ok(())
 }

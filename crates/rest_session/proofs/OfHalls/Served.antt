@@ -1,13 +1,13 @@
 -- From lists of workers to what the call says of each door.
-use Rattle.std.proofs.Common.{◌≡◌, ⊎_elim, Bool, ℕ, ◌+◌, ◌-◌, ◌<◌, List, [], length, map, Option, Some, sym, ap, ◌∙◌, subst, arith}
-use Rattle.std.specs.Prelude.{All}
+use Rattle.std.proofs.Common.{◌≡◌, ⊎_elim, Bool, ℕ, ◌+◌, ◌-◌, ◌<◌, List, [], ◌∷◌, length, map, Option, Some, None, refl, sym, ap, ◌∙◌, subst, arith}
+use Rattle.std.specs.Prelude.{All, is_some}
 use Rattle.std.specs.List.{slice_get}
 use Rattle.std.proofs.lemmas.List.{length-map}
 use Rattle.std.proofs.lemmas.Option.{slice_get_within}
 use Rattle.atomic_table.specs.Seated.{TableId}
 use Rattle.access_lists.specs.Tokens.Bearer.{TokenTable}
 use Rattle.service_core.specs.Worlds.{State}
-use Rattle.lane_histories.specs.Histories.{own, places}
+use Rattle.lane_histories.specs.Histories.{StartsWith, own, places}
 use Rattle.lane_histories.specs.Laws.{RepliesStay}
 use Rattle.hall_rule.specs.Rule.{names}
 use Rattle.hall_rule.specs.Seen.{GrowsFrom, nothing}
@@ -23,11 +23,18 @@ use Rattle.hall.specs.declared.hall.Hall.{Hall}
 use Rattle.hall.specs.declared.pass.Pass.{Pass}
 use Rattle.rest_session.specs.declared.halls.workers.Worker.{Worker}
 use Rattle.rest_session.specs.Halls.Accounts.{Account, AllAnswered, IsReady, Lists, account, told_by, told_of, unasked}
-use Rattle.rest_session.specs.Halls.Staff.{IsAlone, IsGiver, IsHired}
+use Rattle.rest_session.specs.Halls.Staff.{IsAlone, IsGiver, IsHired, IsStaff}
 use Rattle.rest_session.specs.Halls.Visits.{Telling, Works}
+use Rattle.rest_session.specs.Halls.Workers.{WorksAt}
+use Rattle.rest_session.specs.declared.links.end.LinkEnd.{LinkEnd}
 use Rattle.rest_session.proofs.OfHalls.Accounts.{told_still}
-use Rattle.rest_session.proofs.OfHalls.Lists.{all_at, all_images, all_map, all_on, get_map, length_upward, some_same, upward_at}
+use Rattle.rest_session.proofs.OfHalls.Lists.{all_at, all_images, all_map, all_on, get_map, length_upward, map_of, map_same, some_same, upward_at}
 use Rattle.rest_session.proofs.OfHalls.Shares.{grows_on, number_named}
+use Rattle.rest_session.proofs.OfHalls.Staffs.{staffed}
+
+map_empty : {X Y : Type 0} (f : X → Y) (xs : List X) → map f xs ≡ [] → xs ≡ []
+map_empty f [] e = refl
+map_empty f (x ∷ xs) e = absurd (let no : f x ∷ map f xs ≡ [] = e in cc)
 
 -- ---- the beginning
 
@@ -44,7 +51,7 @@ first_giver h p s n begun = record {
 pub hired_account : {D K : Type 0} {g : Ghosts D K} (tokens : TokenTable) (h : Hall D K) (x : ℕ) (p : Pass D K g) → IsHired h x p → account tokens h p ≡ unasked tokens
 hired_account tokens h x p hired =
     let none : own (view_of p).number (view_of p).seen.register ≡ [] = ap (λ m. own m (view_of p).seen.register) hired.number ∙ hired.unasked in
-    (λ i. record { tokens = tokens; told = map (told_of (lanes_in (opening h)) (view_of p).seen) (none i); front = hired.front i })
+    (λ i. record { tokens = tokens; told = map (told_of (lanes_in (opening h)) (view_of p).seen) (none i); front = hired.front i; keepings = hired.keepings i })
 
 pub hired_ready : {D K : Type 0} {g : Ghosts D K} (h : Hall D K) (x : ℕ) (p : Pass D K g) → IsHired h x p → IsReady h p
 hired_ready h x p hired =
@@ -75,40 +82,90 @@ module _ {D K F G : Type 0} {g : Ghosts D K} (ws now : List (Worker D F G K g)) 
 
 -- ---- the end
 
-module _ {D K F L : Type 0} {g : Ghosts D K} (tells : Telling F L) (tokens : TokenTable) (links : ℕ) (h : Hall D K) (stay : RepliesStay (array_service (lanes_in (opening h))))
-    (ws now : List (Worker D F OpenGate K g)) (count : ℕ) (last : ArrayView K) (seen : Lists) where
+module _ {D K F L : Type 0} {g : Ghosts D K} (tells : Telling F L) (tokens : TokenTable) (links : ℕ) (h : Hall D K) (ws now : List (Worker D F OpenGate K g)) where
   abbrev pub Worked : Type 0
   Worked = (i : ℕ) (x y : Worker D F OpenGate K g) → slice_get ws i ≡ Some x → slice_get now i ≡ Some y
-      → Works tells links x.door y.door y.ends.items (account tokens h x.pass) (account tokens h y.pass) y.door_failed
+      → WorksAt tells links x.door y.door y.ends.items (account tokens h x.pass) (account tokens h y.pass) y.door_failed
 
-  -- what a worker was told is what the history tells of its number
-  pub each_served : map (λ w. (view_of w.pass).number) ws ≡ upward 1 count → map (λ w. who w.pass) now ≡ map (λ w. who w.pass) ws
-      → All (λ w. (x : ℕ) × IsHired h x w.pass) ws → All (λ w. IsReady h w.pass) now → Worked → All (λ w. TookIn last (view_of w.pass)) now
-      → GrowsFrom seen last.seen → ((x : ℕ) → 0 < times x (names last) → own x seen.register ≡ own x last.seen.register)
-      → (i : ℕ) (x y : Worker D F OpenGate K g) → slice_get ws i ≡ Some x → slice_get now i ≡ Some y
-      → Works tells links x.door y.door y.ends.items (unasked tokens) (record { tokens = tokens; told = told_by (lanes_in (opening h)) (i + 1) seen; front = y.pass.front }) y.door_failed
-  each_served numbers same hired ready worked took grows owns i x y gx gy =
-      let n = lanes_in (opening h) in
-      let number = λ (w : Worker D F OpenGate K g). (view_of w.pass).number in
-      let named = λ (w : Worker D F OpenGate K g). who w.pass in
-      let some = slice_get_within ws i x gx in
-      let many : length ws ≡ count = sym (length-map ws number) ∙ ap length numbers ∙ length_upward 1 count in
-      let at_i : Some (number x) ≡ Some (1 + i) = sym (get_map number ws i x gx) ∙ ap (λ l. slice_get l i) numbers ∙ upward_at 1 count i (omega (arith, some, many)) in
-      let first : number x ≡ 1 + i = some_same (number x) (1 + i) at_i in
-      let kept_i : Some (named y) ≡ Some (named x) = sym (get_map named now i y gy) ∙ ap (λ l. slice_get l i) same ∙ get_map named ws i x gx in
-      let kept : named y ≡ named x = some_same (named y) (named x) kept_i in
-      let next : number y ≡ i + 1 = ap (λ t. t.2) kept ∙ first ∙ (let e : 1 + i ≡ i + 1 = omega arith in e) in
-      let had = all_at (λ (w : Worker D F OpenGate K g). TookIn last (view_of w.pass)) now i y took gy in
-      let is = all_at (λ (w : Worker D F OpenGate K g). IsReady h w.pass) now i y ready gy in
-      let fresh = all_at (λ (w : Worker D F OpenGate K g). (m : ℕ) × IsHired h m w.pass) ws i x hired gx in
-      let named_y = number_named (view_of y.pass) y.pass.live in
-      let told : told_by n (number y) seen ≡ told_by n (number y) (view_of y.pass).seen =
-      told_still n stay seen (view_of y.pass).seen (grows_on seen last.seen (view_of y.pass).seen grows had.longer) (number y)
-      (owns (number y) (had.has_names (number y) named_y) ∙ had.no_more (number y) named_y) is.answered in
-      let before = hired_account tokens h fresh.0 x.pass fresh.1 in
-      let after : account tokens h y.pass ≡ record { tokens = tokens; told = told_by n (i + 1) seen; front = y.pass.front } =
-      (λ j. record { tokens = tokens; told = (sym told ∙ ap (λ m. told_by n m seen) next) j; front = y.pass.front }) in
-      subst (λ (t : Account × Account). Works tells links x.door y.door y.ends.items t.0 t.1 y.door_failed) (λ j. (before j, after j)) (worked i x y gx gy)
+  -- a worker where another one stood has a door exactly where that had one
+  door_kept : (o p : Option F) (ends : List LinkEnd) (s t : Account) (failed : Bool) → WorksAt tells links o p ends s t failed → is_some p ≡ is_some o
+  door_kept (Some d) (Some e) ends s t failed h = refl
+  door_kept (Some d) None ends s t failed h = absurd h
+  door_kept None (Some e) ends s t failed h = absurd h
+  door_kept None None ends s t failed h = refl
+
+  pub staff_kept : (doors : List F) → IsStaff doors ws → length now ≡ length ws → Worked → (after : List F) × IsStaff after now × (length after ≡ length doors)
+  staff_kept doors staff many worked =
+      let door = λ (w : Worker D F OpenGate K g). w.door in
+      let here = λ (w : Worker D F OpenGate K g). is_some w.door in
+      let same : map here now ≡ map here ws = map_same here ws now many
+      (λ i x y gx gy. door_kept x.door y.door y.ends.items (account tokens h x.pass) (account tokens h y.pass) y.door_failed (worked i x y gx gy)) in
+      staffed (map door now) doors (map_of is_some door now ∙ same ∙ sym (map_of is_some door ws) ∙ ap (map is_some) staff)
+
+module _ {D K F L : Type 0} {g : Ghosts D K} (tells : Telling F L) (tokens : TokenTable) (links : ℕ) (h : Hall D K) (stay : RepliesStay (array_service (lanes_in (opening h))))
+    (ws now : List (Worker D F OpenGate K g)) (count : ℕ) (last : ArrayView K) (seen : Lists) where
+  module _ (numbers : map (λ w. (view_of w.pass).number) ws ≡ upward 1 count) (same : map (λ w. who w.pass) now ≡ map (λ w. who w.pass) ws)
+      (hired : All (λ w. (x : ℕ) × IsHired h x w.pass) ws) (ready : All (λ w. IsReady h w.pass) now) (worked : Worked tells tokens links h ws now)
+      (took : All (λ w. TookIn last (view_of w.pass)) now) (grows : GrowsFrom seen last.seen)
+      (owns : (x : ℕ) → 0 < times x (names last) → own x seen.register ≡ own x last.seen.register)
+      (i : ℕ) (x y : Worker D F OpenGate K g) (gx : slice_get ws i ≡ Some x) (gy : slice_get now i ≡ Some y) where
+    -- each has the number behind its place
+    number_is : (view_of y.pass).number ≡ i + 1
+    number_is =
+        let number = λ (w : Worker D F OpenGate K g). (view_of w.pass).number in
+        let named = λ (w : Worker D F OpenGate K g). who w.pass in
+        let some = slice_get_within ws i x gx in
+        let many : length ws ≡ count = sym (length-map ws number) ∙ ap length numbers ∙ length_upward 1 count in
+        let at_i : Some (number x) ≡ Some (1 + i) = sym (get_map number ws i x gx) ∙ ap (λ l. slice_get l i) numbers ∙ upward_at 1 count i (omega (arith, some, many)) in
+        let first : number x ≡ 1 + i = some_same (number x) (1 + i) at_i in
+        let kept_i : Some (named y) ≡ Some (named x) = sym (get_map named now i y gy) ∙ ap (λ l. slice_get l i) same ∙ get_map named ws i x gx in
+        let kept : named y ≡ named x = some_same (named y) (named x) kept_i in
+        ap (λ t. t.2) kept ∙ first ∙ (let e : 1 + i ≡ i + 1 = omega arith in e)
+
+    had : TookIn last (view_of y.pass)
+    had = all_at (λ (w : Worker D F OpenGate K g). TookIn last (view_of w.pass)) now i y took gy
+
+    -- no entry of its number was asked by another
+    own_only : own (view_of y.pass).number seen.register ≡ own (view_of y.pass).number (view_of y.pass).seen.register
+    own_only =
+        let named = number_named (view_of y.pass) y.pass.live in
+        owns (view_of y.pass).number (had.has_names (view_of y.pass).number named) ∙ had.no_more (view_of y.pass).number named
+
+    unasked_before : account tokens h x.pass ≡ unasked tokens
+    unasked_before =
+        let fresh = all_at (λ (w : Worker D F OpenGate K g). (m : ℕ) × IsHired h m w.pass) ws i x hired gx in
+        hired_account tokens h fresh.0 x.pass fresh.1
+
+    -- it has seen the first of the keepings
+    pub keepings_seen : StartsWith seen.keepings (view_of y.pass).seen.keepings
+    keepings_seen = (grows_on seen last.seen (view_of y.pass).seen grows had.longer).keepings
+
+    -- what a worker at a door was told is what the history tells of its number
+    pub each_served : (d e : F) → x.door ≡ Some d → y.door ≡ Some e
+        → Works tells links d e y.ends.items (unasked tokens)
+        (record { tokens = tokens; told = told_by (lanes_in (opening h)) (i + 1) seen; front = y.pass.front; keepings = (view_of y.pass).seen.keepings }) y.door_failed
+    each_served d e at_x at_y =
+        let n = lanes_in (opening h) in
+        let is = all_at (λ (w : Worker D F OpenGate K g). IsReady h w.pass) now i y ready gy in
+        let told : told_by n (view_of y.pass).number seen ≡ told_by n (view_of y.pass).number (view_of y.pass).seen =
+        told_still n stay seen (view_of y.pass).seen (grows_on seen last.seen (view_of y.pass).seen grows had.longer) (view_of y.pass).number own_only is.answered in
+        let after : account tokens h y.pass ≡ record { tokens = tokens; told = told_by n (i + 1) seen; front = y.pass.front; keepings = (view_of y.pass).seen.keepings } =
+        (λ j. record { tokens = tokens; told = (sym told ∙ ap (λ m. told_by n m seen) number_is) j; front = y.pass.front; keepings = (view_of y.pass).seen.keepings }) in
+        let works : WorksAt tells links (Some d) (Some e) y.ends.items (account tokens h x.pass) (account tokens h y.pass) y.door_failed =
+        subst (λ (p : Option F × Option F). WorksAt tells links p.0 p.1 y.ends.items (account tokens h x.pass) (account tokens h y.pass) y.door_failed)
+        (λ j. (at_x j, at_y j)) (worked i x y gx gy) in
+        subst (λ (t : Account × Account). Works tells links d e y.ends.items t.0 t.1 y.door_failed) (λ j. (unasked_before j, after j)) works
+
+    -- one without a door has no entry
+    pub none_served : x.door ≡ None → y.door ≡ None → own (i + 1) seen.register ≡ []
+    none_served at_x at_y =
+        let n = lanes_in (opening h) in
+        let works : WorksAt tells links None None y.ends.items (account tokens h x.pass) (account tokens h y.pass) y.door_failed =
+        subst (λ (p : Option F × Option F). WorksAt tells links p.0 p.1 y.ends.items (account tokens h x.pass) (account tokens h y.pass) y.door_failed)
+        (λ j. (at_x j, at_y j)) (worked i x y gx gy) in
+        let nothing_told : told_by n (view_of y.pass).number (view_of y.pass).seen ≡ [] = works.2.told ∙ ap (λ (s : Account). s.told) unasked_before in
+        let none = map_empty (told_of n (view_of y.pass).seen) (own (view_of y.pass).number (view_of y.pass).seen.register) nothing_told in
+        subst (λ (m : ℕ). own m seen.register ≡ []) number_is (own_only ∙ none)
 
 module _ {K : Type 0} (start : ArrayStart K) (last : ArrayView K) (closing : State) (opened : IsOpened start) (ended : HasEnded start last closing) where
   -- the world has decided as many requests as the history has entries

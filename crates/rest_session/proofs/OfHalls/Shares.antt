@@ -11,7 +11,7 @@ use Rattle.rest_session.specs.Halls.Staff.{IsAlone}
 
 -- ---- lists
 
-starts_on : {X : Type 0} (a b c : List X) → StartsWith a b → StartsWith b c → StartsWith a c
+pub starts_on : {X : Type 0} (a b c : List X) → StartsWith a b → StartsWith b c → StartsWith a c
 starts_on a b c p q = (q.0 ++ p.0, p.1 ∙ ap (λ l. l ++ p.0) q.1 ∙ append_assoc c q.0 p.0)
 
 grows_itself : (h : Lists) → GrowsFrom h h

@@ -20,7 +20,7 @@ use Rattle.service_core.specs.Records.{WorldSays, as_kept, run_record}
 use Rattle.service_core.specs.Worlds.{State}
 use Rattle.service_core.specs.declared.journals.beginning.BeginFault.{BeginFault}
 use Rattle.service_core.specs.declared.journals.beginning.BeginFault.TheVariants as begin
-use Rattle.rest_session.specs.Links.Links.{IsFront, spellings}
+use Rattle.rest_session.specs.Links.Links.{AreWritten, IsFront, spellings}
 use Rattle.rest_session.specs.Sessions.{IsServed, Served}
 use Rattle.rest_session.specs.Stood.{HoldsStood, IsStretch, StoodSince}
 use Rattle.rest_session.specs.Kept.Sessions.{HasCausesOf, HoldsHeld, IsEnded, IsLinkKept, IsSessionDiskFault, of_begin}
@@ -29,14 +29,15 @@ use Rattle.rest_session.specs.declared.kept.outcome.Outcome.TheVariants as outco
 use Rattle.rest_session.proofs.OfLinks.Progress.{replays_joined}
 
 -- the first world stood while a link was served
-stood_first : {D : Type 0} {met : Ghosts D} (first final : Served met) (taken : List ℕ) → IsStretch first final taken first final → StoodSince first final taken 0 (as_kept first.world)
-stood_first first final taken whole = record {
+stood_first : {D : Type 0} {met : Ghosts D} (first final : Served met) (taken sent : List ℕ) → IsStretch first final taken sent first final → StoodSince first final taken sent 0 (as_kept first.world)
+stood_first first final taken sent whole = record {
   at = first;
   before = whole.before;
   after = whole.between ++ whole.after;
   read = subst (λ (ms : List RequestMessage). IsFront (spellings ms) taken) (append_assoc whole.before whole.between whole.after) whole.read;
   answers = whole.first_answers;
   later_answers = whole.answers ++ whole.later_answers;
+  written = subst (λ (xs : List ℕ). AreWritten xs sent) (append_assoc whole.first_answers whole.answers whole.later_answers) whole.written;
   reaches = whole.reaches;
   follows = replays_joined IsServed first final final whole.between whole.after whole.answers whole.later_answers whole.passes whole.follows;
   shown = refl;
@@ -61,22 +62,22 @@ module _ {D : Type 0} (met : Ghosts D) (before : D) (j : Journal D met) (v : Sta
     abbrev pub first : Served met
     first = record { tokens = tokens; world = v; keeping = k }
 
-    module _ (final : Served met) (taken : List ℕ) (whole : IsStretch first final taken first final) (c : Content) (b : IsBegunSince met before j v c) where
+    module _ (final : Served met) (taken sent : List ℕ) (whole : IsStretch first final taken sent first final) (c : Content) (b : IsBegunSince met before j v c) where
       abbrev IsLeft : List ℕ → Type 0
-      IsLeft file = met.images before file ⊎ HoldsHeld c.held first final taken file
+      IsLeft file = met.images before file ⊎ HoldsHeld c.held first final taken sent file
 
       of_begun : (file : List ℕ) → met.images before file ⊎ HoldsEither c.held (put_record (run_record v.register) c.held) file → IsLeft file
       of_begun file (inl old) = inl old
       of_begun file (inr (inl was)) = inr (inl was)
-      of_begun file (inr (inr now)) = inr (inr (as_kept v, (put_record (run_record v.register) c.held, now, told_first j v c b.begun), stood_first first final taken whole))
+      of_begun file (inr (inr now)) = inr (inr (as_kept v, (put_record (run_record v.register) c.held, now, told_first j v c b.begun), stood_first first final taken sent whole))
 
       -- since the disk as it was, up to the end of the link that was served
-      left_since : (after : D) → k.kept ≡ 0 → CrashLeaves met (disk_of k.journal) after (HoldsStood first final taken k.kept) → CrashLeavesSince met before after (HoldsHeld c.held first final taken)
+      left_since : (after : D) → k.kept ≡ 0 → CrashLeaves met (disk_of k.journal) after (HoldsStood first final taken sent k.kept) → CrashLeavesSince met before after (HoldsHeld c.held first final taken sent)
       left_since after none later = joined met before (disk_of j) after IsLeft
           (weaker met before (disk_of j) (λ file. met.images before file ⊎ HoldsEither c.held (put_record (run_record v.register) c.held) file) IsLeft of_begun b.crash)
           (subst (λ (x : Journal D met). CrashLeaves met (disk_of x) after IsLeft) same
-          (weaker met (disk_of k.journal) after (HoldsStood first final taken k.kept) IsLeft
-          (λ file holds. inr (inr (subst (λ (n : ℕ). HoldsStood first final taken n file) none holds))) later))
+          (weaker met (disk_of k.journal) after (HoldsStood first final taken sent k.kept) IsLeft
+          (λ file holds. inr (inr (subst (λ (n : ℕ). HoldsStood first final taken sent n file) none holds))) later))
 
     pub served_since : (after : D) (lb la hb ha : Option (List ℕ)) (closed : Closed) (last : Result ℕ Why) → (met.honest → IsOf (met.reads before) (IsBegunSince met before j v)) → k.kept ≡ 0
         → IsLinkKept first after lb la hb ha closed last → IsEnded met before after tokens lb la hb ha (outcome.Served closed last)
@@ -85,7 +86,7 @@ module _ {D : Type 0} (met : Ghosts D) (before : D) (j : Journal D met) (v : Sta
       refl,
       (λ honest. let o = on honest in (o.0, o.1, subst (λ (x : Journal D met). IsBegun x v o.0) (sym same) o.2.begun)),
       link,
-      λ honest. let o = on honest in (o.0, o.1, left_since link.final link.taken link.stretch o.0 o.2 after none (link.last_crash honest first link.stretch)),
+      λ honest. let o = on honest in (o.0, o.1, left_since link.final link.taken link.sent link.stretch o.0 o.2 after none (link.last_crash honest first link.stretch)),
     )
 
 -- a session of which no run was begun

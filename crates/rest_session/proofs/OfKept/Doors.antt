@@ -1,121 +1,132 @@
--- Doors that are served over a disk, from the begin of a run to the keeping at its end.
-use Rattle.std.proofs.Common.{◌≡◌, ◌⊎◌, inl, inr, ℕ, List, [], ◌∷◌, Some, Result, Ok, Err, OnErr, OnOk, refl, subst, ◌∙◌}
+-- Doors that are served over a disk, from the begin of a run to its end.
+use Rattle.std.proofs.Common.{◌≡◌, ℕ, zero, suc, List, [], ◌∷◌, length, Option, Some, None, refl, sym, ap, ◌∙◌, subst}
+use Rattle.std.specs.Prelude.{IfSome}
+use Rattle.std.specs.declared.snapshot.Snapshot.{Snapshot}
 use Rattle.access_lists.specs.Tokens.Bearer.{TokenTable}
-use Rattle.edge_traits.specs.declared.disk.Disk.{Ghosts}
-use Rattle.flush_journal.specs.Batches.{records}
-use Rattle.flush_journal.specs.Files.{Content, held}
-use Rattle.flush_journal.specs.Keepings.Keepings.{HoldsOne, IsBacked}
-use Rattle.flush_journal.specs.Moments.{CrashLeaves, CrashLeavesSince}
-use Rattle.flush_journal.specs.Records.{Held, put_record}
-use Rattle.flush_journal.specs.Standing.{HoldsEither, disk_of}
+use Rattle.chunk_owner.specs.Lanes.{Lane}
+use Rattle.edge_traits.specs.declared.disk.Disk.{Ghosts as Disks}
 use Rattle.flush_journal.specs.declared.journal.Journal.{Journal}
-use Rattle.flush_journal.specs.declared.keepings.keeping.Keeping.{Keeping}
-use Rattle.flush_journal.specs.declared.why.Why.{Why}
-use Rattle.flush_journal.proofs.Moments.{joined, weaker}
-use Rattle.service_core.specs.Journals.Begun.{IsBegunSince, IsOfDisk, IsUnstarted}
-use Rattle.service_core.specs.KeptWorlds.{HoldsWorld, KeepsWorld, TellsWorld}
-use Rattle.service_core.specs.Records.{WorldSays, WorldStillSays, as_kept, run_record}
-use Rattle.service_core.specs.Steps.{World}
+use Rattle.journal_desk.specs.Desks.{HoldsAsFar}
+use Rattle.journal_desk.specs.Keepings.{lists}
+use Rattle.journal_desk.specs.Standing.{Standing}
+use Rattle.lane_histories.specs.Histories.{History}
+use Rattle.lane_histories.specs.Laws.{StaysKept}
+use Rattle.lane_histories.specs.Legal.{IsLegal, IsLegalLane, IsPrefix}
+use Rattle.lane_histories.specs.Services.{World}
+use Rattle.lane_histories.specs.declared.items.Reach.{Reach}
+use Rattle.hall_rule.specs.Machines.{objects_in as rule_objects}
+use Rattle.hall_rule.specs.Seen.{GrowsFrom, GrowsUncut, history_of}
+use Rattle.object_acts.specs.Objects.{Objects}
+use Rattle.service_core.specs.Journals.Begun.{IsBegun, IsOfDisk, IsUnstarted}
 use Rattle.service_core.specs.Worlds.{State}
 use Rattle.service_core.specs.declared.journals.beginning.BeginFault.{BeginFault}
 use Rattle.service_core.specs.declared.journals.beginning.BeginFault.TheVariants as begin
-use Rattle.hall.specs.Passes.{EndedWorldsAreSaid, IsNewWorld}
-use Rattle.rest_session.specs.Halls.Histories.{IsServed}
+use Rattle.service_histories.specs.ArrayServices.{array_service}
+use Rattle.service_histories.specs.KeptArrays.{array_kept}
+use Rattle.service_histories.specs.Tellings.{objects_in, opening}
+use Rattle.flush_journal.specs.Files.{Content}
+use Rattle.hall.specs.Answers.{ArrayLists, ArrayStart, ArrayView}
+use Rattle.hall.specs.ArrayMachines.{lanes_in, machines}
+use Rattle.hall.specs.JournalDesks.{HoldsWorld, IsJournalSince}
+use Rattle.hall.specs.Notes.{hall_notes, of_lanes, seen_in}
+use Rattle.hall.specs.Passes.{HasEnded}
+use Rattle.hall.specs.declared.desk.AtDesk.{Ghosts}
+use Rattle.hall.specs.declared.journal.JournalDesk.{JournalDesk}
+use Rattle.hall.specs.declared.note.HallNote.{HallNote}
 use Rattle.rest_session.specs.Halls.Visits.{Telling}
-use Rattle.rest_session.specs.Kept.Doors.{BeginsRun, HaveEnded, HaveEndedInRun, HoldsEitherWorld, HoldsSince, IsDoorsDiskFault, LeavesWorlds, outcome_of}
-use Rattle.rest_session.specs.declared.halls.hiring.Report.{Report}
+use Rattle.rest_session.specs.Kept.Doors.{BeginsRun, HaveEnded, HaveEndedInRun, IsDoorsDiskFault, IsKeptFrom, outcome_of}
 use Rattle.rest_session.specs.declared.kept.outcome.DoorsOutcome.{DoorsOutcome}
 use Rattle.rest_session.specs.declared.kept.outcome.DoorsOutcome.TheVariants.{Unopened, Unbegun, Unserved, Served}
-use Rattle.rest_session.proofs.OfKept.Beginning.{told_first}
+use Rattle.rest_session.proofs.OfHalls.Accounts.{prefix_of}
+
+pub if_some_on : {D : Type 0} (P Q : D → Type 0) (o : Option D) → ((d : D) → P d → Q d) → IfSome o P → IfSome o Q
+if_some_on P Q None on h = tt
+if_some_on P Q (Some d) on h = on d h
 
 -- ---- no run was begun
 
-pub doors_unserved : {F L D : Type 0} (met : Ghosts D) (tells : Telling F L) (tokens : TokenTable) (links : ℕ) (before after : D) (doors : List F) (why : BeginFault)
-    → IsUnstarted met before after why → HaveEnded met tells tokens links before after doors doors (outcome_of why)
-doors_unserved met tells tokens links before after doors (begin.Unopened refusal) h = (h.0, h.1, refl)
-doors_unserved met tells tokens links before after doors (begin.Unbegun refusal) h = (h, refl)
+module _ {F L D : Type 0} (met : Disks D) (desks : Ghosts (JournalDesk D met) (Snapshot (Journal D met))) (tells : Telling F L) (tokens : TokenTable) (links : ℕ) (before : D)
+    (doors : List F) where
+  pub doors_unserved : (after : D) (why : BeginFault) → IsUnstarted met before after why
+      → HaveEnded met desks tells tokens links before (Some after) doors doors (outcome_of why)
+  doors_unserved after (begin.Unopened refusal) h = (h, refl)
+  doors_unserved after (begin.Unbegun refusal) h = (h, refl)
+
+  -- ---- a run was begun
+
+  pub ended_since : (j : Journal D met) (first : State) → BeginsRun met before j first → (after : Option D) (now : List F) (o : DoorsOutcome)
+      → HaveEndedInRun met desks tells tokens links j first after doors now o → HaveEnded met desks tells tokens links before after doors now o
+  ended_since j first run after now (Unopened why) h = absurd h
+  ended_since j first run after now (Unbegun why) h = absurd h
+  ended_since j first run after now Unserved h = (j, first, run, h)
+  ended_since j first run after now (Served closed last) h = (j, first, run, h)
 
 pub doors_fault_unserved : (why : BeginFault) → IsDoorsDiskFault (outcome_of why) → IsOfDisk why
 doors_fault_unserved (begin.Unopened refusal) h = h
 doors_fault_unserved (begin.Unbegun refusal) h = h
 
--- ---- a run was begun
-
-module _ {F L D : Type 0} (met : Ghosts D) (tells : Telling F L) (tokens : TokenTable) (links : ℕ) (before : D) (j : Journal D met) (first : State) (run : BeginsRun met before j first)
-    (after : D) (doors now : List F) where
-  abbrev IsLeft : Held → State → List ℕ → Type 0
-  IsLeft m closing file = met.images before file ⊎ HoldsSince m first closing file
-
-  of_begun : (c : Content) → IsBegunSince met before j first c → (closing : State) (file : List ℕ)
-      → met.images before file ⊎ HoldsEither c.held (put_record (run_record first.register) c.held) file → IsLeft c.held closing file
-  of_begun c b closing file (inl old) = inl old
-  of_begun c b closing file (inr (inl was)) = inr (inl was)
-  of_begun c b closing file (inr (inr new)) = inr (inr (inl (put_record (run_record first.register) c.held, new, told_first j first c b.begun)))
-
-  -- since the disk as it was, up to the keeping
-  left_since : (c : Content) → IsBegunSince met before j first c → (closing : State) → CrashLeaves met (disk_of j) after (HoldsEitherWorld first closing)
-      → CrashLeavesSince met before after (HoldsSince c.held first closing)
-  left_since c b closing later = joined met before (disk_of j) after (IsLeft c.held closing)
-      (weaker met before (disk_of j) (λ file. met.images before file ⊎ HoldsEither c.held (put_record (run_record first.register) c.held) file) (IsLeft c.held closing)
-      (of_begun c b closing) b.crash)
-      (weaker met (disk_of j) after (HoldsEitherWorld first closing) (IsLeft c.held closing) (λ file holds. inr (inr holds)) later)
-
-  pub ended_since : (o : DoorsOutcome) → HaveEndedInRun tells tokens links j first after doors now o → HaveEnded met tells tokens links before after doors now o
-  ended_since (Unopened why) h = absurd h
-  ended_since (Unbegun why) h = absurd h
-  ended_since Unserved h = (j, first, run, h.0, h.1)
-  ended_since (Served closed last) h = (
-    j,
-    first,
-    run,
-    h,
-    λ honest. let o = run.since honest in (o.0, o.1, left_since o.0 o.2 h.closing (h.leaves honest).crash),
-  )
-
--- ---- the keeping
-
-module _ {D : Type 0} {met : Ghosts D} (k l : Keeping D met) (closing t : State) (last : Result ℕ Why) (keeps : KeepsWorld k closing l t last) where
-  -- after a refusal nothing of the run is kept
-  pub none_kept : k.kept ≡ 0 → OnErr last (l.kept ≡ 0)
-  none_kept none = by last keeps where
-    by : (r : Result ℕ Why) → KeepsWorld k closing l t r → OnErr r (l.kept ≡ 0)
-    by (Ok n) h = tt
-    by (Err why) h = h.refused ∙ none
-
-  module _ (honest : met.honest) (first : State) (backed : IsBacked TellsWorld k.journal (records k.building) (WorldSays closing) (as_kept first ∷ []))
-      (holds : (worlds : List World) → IsBacked TellsWorld l.journal (records l.building) (WorldSays t) worlds → (image : List ℕ) → met.images (disk_of l.journal) image
-      → HoldsOne TellsWorld worlds image) where
-    is_closing : (image : List ℕ) (m : Held) → held image ≡ Some m → TellsWorld m (as_kept t) → HoldsWorld (as_kept closing) image
-    is_closing image m e told = (m, e, subst (TellsWorld m) keeps.same told)
-
-    of_two : (image : List ℕ) → HoldsOne TellsWorld (as_kept t ∷ as_kept first ∷ []) image → HoldsEitherWorld first closing image
-    of_two image (m, e, inl told) = inr (is_closing image m e told)
-    of_two image (m, e, inr (inl told)) = inl (m, e, told)
-    of_two image (m, e, inr (inr none)) = absurd none
-
-    of_one : (image : List ℕ) → HoldsOne TellsWorld (as_kept t ∷ []) image → HoldsWorld (as_kept closing) image
-    of_one image (m, e, inl told) = is_closing image m e told
-    of_one image (m, e, inr none) = absurd none
-
-    left_images : (r : Result ℕ Why) → KeepsWorld k closing l t r → (image : List ℕ) → met.images (disk_of l.journal) image → HoldsEitherWorld first closing image
-    left_images (Ok n) h image left = inr (of_one image (holds (as_kept t ∷ []) (h.keeps.backed honest (as_kept first ∷ []) backed) image left))
-    left_images (Err why) h image left = of_two image (holds (as_kept t ∷ as_kept first ∷ []) (h.keeps.backed honest (as_kept first ∷ []) backed) image left)
-
-    left_whole : (r : Result ℕ Why) → KeepsWorld k closing l t r → OnOk r ((image : List ℕ) → met.images (disk_of l.journal) image → HoldsWorld (as_kept closing) image)
-    left_whole (Ok n) h = λ image left. of_one image (holds (as_kept t ∷ []) (h.keeps.backed honest (as_kept first ∷ []) backed) image left)
-    left_whole (Err why) h = tt
-
-    pub leaves_worlds : LeavesWorlds met (disk_of k.journal) (disk_of l.journal) first closing last
-    leaves_worlds = record {
-      crash = weaker met (disk_of k.journal) (disk_of l.journal) (HoldsOne TellsWorld (as_kept t ∷ as_kept first ∷ [])) (HoldsEitherWorld first closing) of_two
-          (keeps.keeps.crash honest (as_kept first ∷ []) backed);
-      images = left_images last keeps;
-      whole = left_whole last keeps;
-    }
+-- the journal of a run holds the world with which it began
+pub begun_holds : {D : Type 0} {met : Disks D} (j : Journal D met) (first : State) (c : Content) → IsBegun j first c → HoldsWorld met j first
+begun_holds j first c b = record { content = _; settled = b.settled; says = b.says }
 
 -- ---- what a hall leaves
 
--- what was held of the world with which a hall began says that in which it ended, since nobody cut
-pub still_said : {F L : Type 0} (tells : Telling F L) (tokens : TokenTable) (links : ℕ) (opening closing : State) (front : ℕ) (doors now : List F) (reports : List Report)
-    → EndedWorldsAreSaid (Unit {0}) → IsNewWorld opening → IsServed (Unit {0}) tells tokens links opening closing front doors now reports → WorldStillSays opening closing
-still_said tells tokens links opening closing front doors now reports said new served = said served.start served.last opening closing served.register served.owners new served.ended served.uncut
+-- the history is legal from the world with which the hall began
+module _ {K : Type 0} (start : ArrayStart K) (v : ArrayView K) (closing : State) (ended : HasEnded start v closing) where
+  begun_objects : (os : List Lane) (l : ℕ) → rule_objects (machines {K = K} (lanes_in start)) os l ≡ objects_in os l
+  unfolding machines
+  begun_objects [] l = refl
+  begun_objects (o ∷ os) zero = refl
+  begun_objects (o ∷ os) (suc l) = begun_objects os l
+
+  legal_begun : IsLegal (array_service (lanes_in start)) (opening (lanes_in start) (record { register = start.register; lanes = start.owners }))
+      (history_of (array_service (lanes_in start)) ended.seen)
+  unfolding machines
+  legal_begun =
+      let n = lanes_in start in
+      let legal = ended.grown.legal in record {
+        register = legal.register;
+        lanes = λ l. subst (λ (o : Objects). IsLegalLane (array_service n) o ((history_of (array_service n) ended.seen).lane l)) (begun_objects start.owners l) (legal.lanes l);
+        in_order = legal.in_order;
+        pairs = legal.pairs;
+      }
+
+  pub legal_first : (first : State) → start.register ≡ first.register → start.owners ≡ first.lanes
+      → IsLegal (array_service (length first.lanes)) (opening (length first.lanes) first) (history_of (array_service (length first.lanes)) ended.seen)
+  legal_first first register owners =
+      subst (λ (s : State). IsLegal (array_service (length s.lanes)) (opening (length s.lanes) s) (history_of (array_service (length s.lanes)) ended.seen))
+      (λ i. record { register = register i; lanes = owners i }) legal_begun
+
+module _ (n : ℕ) (stays : StaysKept (array_service n)) (start : World (array_service n)) (h g : History (array_service n)) (legal : IsLegal (array_service n) start g)
+    (longer : IsPrefix h g) where
+  -- what is kept from a history is kept from a longer one
+  holds_later : (own : Reach) (image : List ℕ) → HoldsAsFar (array_kept n) start h own image → HoldsAsFar (array_kept n) start g own image
+  holds_later own image x =
+      let k = x.at.kept in record {
+        reach = x.reach;
+        at = record { bodies = x.at.bodies; holds = x.at.holds; kept = record { world = k.world; told = k.told; kept = stays start h g k.world x.reach k.kept legal longer } };
+        far = x.far;
+      }
+
+module _ {D : Type 0} (met : Disks D) (first : State) (start : ArrayStart (Snapshot (Journal D met))) (seen : ArrayLists)
+    (d : Standing D (HallNote (Snapshot (Journal D met)))) (since : IsJournalSince met d start)
+    (uncut : GrowsUncut seen (of_lanes (length start.owners) (seen_in d.note))) (register : start.register ≡ first.register) (owners : start.owners ≡ first.lanes)
+    (legal : IsLegal (array_service (length first.lanes)) (opening (length first.lanes) first) (history_of (array_service (length first.lanes)) seen))
+    (stays : (lanes : ℕ) → StaysKept (array_service lanes)) where
+  lanes_are : d.lanes ≡ length first.lanes
+  lanes_are = since.lanes ∙ ap length owners
+
+  longer_now : IsPrefix (lists met (hall_notes d.lanes) d) (history_of (array_service d.lanes) seen)
+  longer_now =
+      subst (λ (h : History (array_service d.lanes)). IsPrefix h (history_of (array_service d.lanes) seen)) since.lists.lists
+      (prefix_of d.lanes seen (of_lanes d.lanes (seen_in d.note)) (subst (λ (m : ℕ). GrowsFrom seen (of_lanes m (seen_in d.note))) (sym since.lanes) uncut.longer))
+
+  -- what is kept from the lists of the desk's note is kept from the history
+  pub kept_later : (own : Reach) (image : List ℕ) → HoldsAsFar (array_kept d.lanes) ((hall_notes d.lanes).start d.note) (lists met (hall_notes d.lanes) d) own image
+      → IsKeptFrom first seen own image
+  kept_later own image holds =
+      let world_is : (hall_notes d.lanes).start d.note ≡ opening d.lanes first = since.world ∙ (λ i. opening d.lanes (record { register = register i; lanes = owners i })) in
+      let here = subst (λ (w : World (array_service d.lanes)). HoldsAsFar (array_kept d.lanes) w (lists met (hall_notes d.lanes) d) own image) world_is holds in
+      let legal_here = subst (λ (m : ℕ). IsLegal (array_service m) (opening m first) (history_of (array_service m) seen)) (sym lanes_are) legal in
+      subst (λ (m : ℕ). HoldsAsFar (array_kept m) (opening m first) (history_of (array_service m) seen) own image) lanes_are
+      (holds_later d.lanes (stays d.lanes) (opening d.lanes first) (lists met (hall_notes d.lanes) d) (history_of (array_service d.lanes) seen) legal_here longer_now own image here)

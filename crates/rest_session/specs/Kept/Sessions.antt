@@ -41,8 +41,8 @@ IsServedFrom c first = IsBegun first.keeping.journal first.world c
 -- ---- what a crash leaves
 
 -- a file holds what was held, or a world that stood while a link was served
-abbrev pub HoldsHeld : {D : Type 0} {met : Ghosts D} → Held → Served met → Served met → List ℕ → List ℕ → Type 0
-HoldsHeld m first final taken file = (held file ≡ Some m) ⊎ HoldsStood first final taken 0 file
+abbrev pub HoldsHeld : {D : Type 0} {met : Ghosts D} → Held → Served met → Served met → List ℕ → List ℕ → List ℕ → Type 0
+HoldsHeld m first final taken sent file = (held file ≡ Some m) ⊎ HoldsStood first final taken sent 0 file
 
 -- ---- a link that was served
 
@@ -66,11 +66,11 @@ pub record IsLinkKept {D : Type 0} {met : Ghosts D} (first : Served met) (after 
   pub front : closed.front ≡ final.world.register.places
   pub kept : closed.kept ≡ keeping.kept
   pub all : OnOk last (closed.kept ≡ closed.front)
-  pub waits : (rs : List Record) → pending_of keeping.journal ≡ Some rs → AllByRecursion (IsOfStood first final taken closed.kept) rs
-  pub stretch : IsStretch first final taken first final
-  pub crash : met.honest → (u v : Served met) → IsStretch first final taken u v → CrashLeaves met (disk_of u.keeping.journal) (disk_of v.keeping.journal) (HoldsStood first v taken u.keeping.kept)
-  pub last_crash : met.honest → (u : Served met) → IsStretch first final taken u final → CrashLeaves met (disk_of u.keeping.journal) after (HoldsStood first final taken u.keeping.kept)
-  pub images : met.honest → (image : List ℕ) → met.images after image → HoldsStood first final taken closed.kept image
+  pub waits : (rs : List Record) → pending_of keeping.journal ≡ Some rs → AllByRecursion (IsOfStood first final taken sent closed.kept) rs
+  pub stretch : IsStretch first final taken sent first final
+  pub crash : met.honest → (u v : Served met) → IsStretch first final taken sent u v → CrashLeaves met (disk_of u.keeping.journal) (disk_of v.keeping.journal) (HoldsStood first v taken sent u.keeping.kept)
+  pub last_crash : met.honest → (u : Served met) → IsStretch first final taken sent u final → CrashLeaves met (disk_of u.keeping.journal) after (HoldsStood first final taken sent u.keeping.kept)
+  pub images : met.honest → (image : List ℕ) → met.images after image → HoldsStood first final taken sent closed.kept image
   pub whole : met.honest → OnOk last ((image : List ℕ) → met.images after image → HoldsWorld (as_kept final.world) image)
 
 -- ---- what a session came to
@@ -83,7 +83,7 @@ IsEnded met before after tokens lb la hb ha (Unopened why) =
 IsEnded met before after tokens lb la hb ha (Unbegun why) = IsUnbegun met before after why × (la ≡ lb) × (ha ≡ hb)
 IsEnded met before after tokens lb la hb ha (outcome.Served closed last) =
     (first : Served met) × (first.tokens ≡ tokens) × (met.honest → IsOf (met.reads before) (λ c. IsServedFrom c first))
-    × (kept : IsLinkKept first after lb la hb ha closed last) × (met.honest → IsOf (met.reads before) (λ c. CrashLeavesSince met before after (HoldsHeld c.held first kept.final kept.taken)))
+    × (kept : IsLinkKept first after lb la hb ha closed last) × (met.honest → IsOf (met.reads before) (λ c. CrashLeavesSince met before after (HoldsHeld c.held first kept.final kept.taken kept.sent)))
 
 -- no count of the link fell, and each fault was counted
 abbrev pub HasCausesOf : ℕ → ℕ → ℕ → ℕ → Outcome → Type 0

@@ -51,6 +51,11 @@ Replays {W} step w (m ∷ ms) bytes v =
 abbrev pub IsFront : List ℕ → List ℕ → Type 0
 IsFront front whole = (others : List ℕ) × (whole ≡ front ++ others)
 
+-- The bytes of answers are those that were written, as far as both go: behind them a link may have the refusal of what is no message, and
+-- where a write failed fewer were written.
+abbrev pub AreWritten : List ℕ → List ℕ → Type 0
+AreWritten answers sent = IsFront answers sent ⊎ IsFront sent answers
+
 -- a message stands at the front of the tail, and the bytes answer it; no more was read ahead than a head may have
 pub record IsLastAnswer {W : Type 0} (step : Step W) (w : W) (tail answer : List ℕ) (v : W) : Type 0 where
   pub message : RequestMessage

@@ -15,19 +15,19 @@ ghost use Rattle.rest_session.specs.declared.links.end.LinkEnd.TheVariants as en
 use crate::halls::session::HallSession;
 use crate::halls::workers::LinkEnds;
 use crate::links::{LinkEnd, serve_link as serve};
-use edge_traits::{Door, Failed, Link, Sink, Source};
-use hall::{AtDesk, Gate, Hall, Pass};
+use edge_traits::{Disk, Door, Failed, Link, Sink, Source};
+use hall::{Gate, Hall, JournalDesk, Pass};
 use rest_requests::Tokens;
 use std::alloc::Global;
 use std::sync::Wait;
 
-/// Serves a link, one message after another, until it ends: each request is asked of the hall. What would have to be kept
-/// before it is answered, a flush and a change of folders, domains or lists, has no route here.
-pub fn serve_link<D: AtDesk, G: Gate, L: Link, R: Wait>(
+/// Serves a link, one message after another, until it ends: each request is asked of the hall. A flush, and a change of
+/// folders, domains or lists, is acknowledged only once it is kept.
+pub fn serve_link<D: Disk + Drop, G: Gate, L: Link, R: Wait>(
     rt: &R,
     alloc: Global,
-    hall: &Hall<D>,
-    pass: &mut Pass<D>,
+    hall: &Hall<JournalDesk<D>>,
+    pass: &mut Pass<JournalDesk<D>>,
     gate: &mut G,
     tokens: &Tokens,
     link: &mut L,
@@ -67,11 +67,11 @@ pub fn serve_link<D: AtDesk, G: Gate, L: Link, R: Wait>(
 }
 
 // Serves the door's next link, and gives it back. `Ok(false)` where the door has none left.
-fn attend_link<D: AtDesk, G: Gate, F: Door, R: Wait>(
+fn attend_link<D: Disk + Drop, G: Gate, F: Door, R: Wait>(
     rt: &R,
     alloc: Global,
-    hall: &Hall<D>,
-    pass: &mut Pass<D>,
+    hall: &Hall<JournalDesk<D>>,
+    pass: &mut Pass<JournalDesk<D>>,
     gate: &mut G,
     tokens: &Tokens,
     door: &mut F,
@@ -103,11 +103,11 @@ fn attend_link<D: AtDesk, G: Gate, F: Door, R: Wait>(
 }
 
 /// Serves link after link of the door, until it has none left, it fails, or `links` were given. Says whether it failed.
-pub fn attend_door<D: AtDesk, G: Gate, F: Door, R: Wait>(
+pub fn attend_door<D: Disk + Drop, G: Gate, F: Door, R: Wait>(
     rt: &R,
     alloc: Global,
-    hall: &Hall<D>,
-    pass: &mut Pass<D>,
+    hall: &Hall<JournalDesk<D>>,
+    pass: &mut Pass<JournalDesk<D>>,
     gate: &mut G,
     tokens: &Tokens,
     links: u32,

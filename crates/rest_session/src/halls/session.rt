@@ -1,23 +1,21 @@
 //! A hall that is asked over one link.
-ghost use Rattle.std.specs.Prelude.{◌≡◌, ◌⊎◌, Bool};
+ghost use Rattle.std.specs.Prelude.{◌≡◌, Bool};
 ghost use Rattle.access_lists.specs.Tokens.Bearer.{TokenTable};
 ghost use Rattle.hall.specs.Passes.{who};
-ghost use Rattle.http_wire.specs.Replies.{no_memory_reply};
 ghost use Rattle.object_ops.specs.Conditions.{IsSoundOp};
 ghost use Rattle.rest_session.specs.Halls.Accounts.{IsReady, account};
-ghost use Rattle.rest_session.specs.Halls.Asking.{Asks, IsTaken};
+ghost use Rattle.rest_session.specs.Halls.Asking.{Asks};
 ghost use Rattle.rest_session.specs.Halls.Gates.{HasGoneThroughAll};
 ghost use Rattle.rest_session.specs.Links.Replies.{reply_bytes};
-ghost use Rattle.rest_session.specs.Sessions.{is_to_keep};
 
-use crate::answers::{answer_reply, no_memory};
+use crate::answers::{kept_reply, no_memory, refuse};
 use crate::links::{Response, Service};
-use crate::world_session::{is_to_keep, parts_of, refuse};
+use crate::world_session::parts_of;
 use access_lists::Caller;
-use hall::{AtDesk, Gate, Hall, Pass};
+use edge_traits::Disk;
+use hall::{AtDesk, Gate, Hall, JournalDesk, KeptAnswer, Pass};
 use http_wire::Message;
-use object_ops::{Refusal, Request, on_text};
-use rest_requests::routes::Methods;
+use object_ops::{Request, on_text};
 use rest_requests::{RequestFault, Tokens, lent_request};
 use service_core::answer_trees::replies_have_no_floats;
 use service_histories::{histories_are_legal, replies_are_replays};
@@ -36,16 +34,19 @@ pub struct HallSession<'a, D: AtDesk, G, R> {
     pub tokens: &'a Tokens,
 }
 
-impl<'a, D: AtDesk, G: Gate, R: Wait> Service for HallSession<'a, D, G, R> {
+impl<'a, D: Disk + Drop, G: Gate, R: Wait> Service for HallSession<'a, JournalDesk<D>, G, R> {
     ghost use base.Fml.{GName};
     ghost use Rattle.std.specs.Prelude.{ℕ, Bool, List, Option};
     ghost use Rattle.atomic_table.specs.Seated.{TableId};
     ghost use Rattle.access_lists.specs.Tokens.Bearer.{TokenTable};
+    ghost use Rattle.flush_journal.specs.declared.journal.Journal.{Journal};
     ghost use Rattle.hall.specs.Answers.{ArrayStart};
     ghost use Rattle.hall.specs.Passes.{who};
     ghost use Rattle.hall.specs.declared.hall.Hall.{Hall};
+    ghost use Rattle.hall.specs.declared.journal.JournalDesk.{JournalDesk};
     ghost use Rattle.rest_session.specs.Halls.Accounts.{IsReady, account};
     ghost use Rattle.rest_session.specs.Halls.Gates.{Gated, IsAskedThrough};
+    ghost use Rattle.std.specs.declared.snapshot.Snapshot.{Snapshot};
 
     type End = Infallible;
 
@@ -62,8 +63,9 @@ impl<'a, D: AtDesk, G: Gate, R: Wait> Service for HallSession<'a, D, G, R> {
 
     ghost ready = { λ s. IsReady s.hall.now s.pass.now };
 
-    ghost Fixed = { GName × GName × TokenTable × Hall D D.KnownBy
-        × (TableId × Bool × ℕ × List ℕ × List ℕ × Option (ArrayStart D.KnownBy)) };
+    ghost Fixed = { GName × GName × TokenTable
+        × Hall (JournalDesk D D.Disk) (Snapshot (Journal D D.Disk))
+        × (TableId × Bool × ℕ × List ℕ × List ℕ × Option (ArrayStart (Snapshot (Journal D D.Disk)))) };
 
     ghost fixed = { λ s. (s.pass.ghost_name, s.gate.ghost_name, s.tokens.now, s.hall.now, who s.pass.now) };
 
@@ -71,7 +73,7 @@ impl<'a, D: AtDesk, G: Gate, R: Wait> Service for HallSession<'a, D, G, R> {
     fn answer(&mut self, message: &Message<'_>) -> Result<Response, Infallible> {
         match lent_request(self.alloc, &parts_of(message), self.tokens) {
             Ok((caller, request)) => {
-                Ok(take(
+                Ok(ask(
                     self.rt, self.alloc, self.hall, self.pass, self.gate, caller, &request,
                 ))
             }
@@ -83,40 +85,12 @@ impl<'a, D: AtDesk, G: Gate, R: Wait> Service for HallSession<'a, D, G, R> {
     }
 }
 
-/// Answers a request. What would have to be kept before it is answered has no route.
-fn take<D: AtDesk, G: Gate, R: Wait>(
+/// Asks the hall, and says its answer once it is kept.
+fn ask<D: Disk + Drop, G: Gate, R: Wait>(
     rt: &R,
     alloc: Global,
-    hall: &Hall<D>,
-    pass: &mut Pass<D>,
-    gate: &mut G,
-    caller: &Caller,
-    request: &Request,
-) -> Response
-    requires ready { IsReady hall.now pass.old }
-    requires op { IsSoundOp request.now.op }
-    ensures ready { IsReady hall.now pass.new }
-    ensures same { who pass.new ≡ who pass.old }
-    ensures taken { (tokens : TokenTable) (close : Bool)
-        → IsTaken (is_to_keep request.now.op) (account tokens hall.now pass.old)
-        caller.now request.now close (reply_bytes result close) (account tokens hall.now pass.new)
-        ⊎ ((reply_bytes result close ≡ no_memory_reply close)
-        × (account tokens hall.now pass.new ≡ account tokens hall.now pass.old)) }
-    ensures gates { (tokens : TokenTable) → HasGoneThroughAll G.goes
-        (account tokens hall.now pass.old) (account tokens hall.now pass.new) gate.old gate.new }
-{
-    if is_to_keep(&request.op) {
-        return refuse(alloc, &Refusal::NoRoute, Methods::NONE);
-    }
-    ask(rt, alloc, hall, pass, gate, caller, request)
-}
-
-/// Asks the hall, and says its answer.
-fn ask<D: AtDesk, G: Gate, R: Wait>(
-    rt: &R,
-    alloc: Global,
-    hall: &Hall<D>,
-    pass: &mut Pass<D>,
+    hall: &Hall<JournalDesk<D>>,
+    pass: &mut Pass<JournalDesk<D>>,
     gate: &mut G,
     caller: &Caller,
     request: &Request,
@@ -133,6 +107,6 @@ fn ask<D: AtDesk, G: Gate, R: Wait>(
     replies_have_no_floats();
     histories_are_legal();
     replies_are_replays();
-    let answer = hall.ask(rt, pass, gate, caller, request);
-    answer_reply(alloc, on_text(request), &answer)
+    let KeptAnswer { answer, kept } = hall.ask_kept(rt, pass, gate, caller, request);
+    kept_reply(alloc, on_text(request), &answer, kept)
 }

@@ -59,7 +59,7 @@ impl From<BeginFault> for Outcome {
 pub struct ClosedDoors {
     /// How many requests the world had decided when the hall was closed.
     pub front: u64,
-    /// How many it had decided when it was last kept: all of them, or none in this run.
+    /// How many of these are kept.
     pub kept: u64,
     /// What the worker at each door tells, in order.
     pub reports: Vec<Report>,
@@ -73,24 +73,24 @@ pub enum DoorsOutcome {
     /// The record of the run was refused. Nothing was asked of a door.
     Unbegun(Why),
     /// There was no memory for the hall or its workers. Nothing was asked of a door, and nothing was written but the record of
-    /// the run.
+    /// the run. Where there was none for the hall the disk is dropped.
     Unserved,
     /// The doors were served.
     Served {
         /// How they left the world.
         closed: ClosedDoors,
-        /// What the keeping after the last worker's end was answered.
+        /// What the flush after the last worker's end was answered.
         last: Result<u64, Why>,
     },
 }
 
-/// What the doors came to, with the doors, in order, and the disk.
+/// What the doors came to, with the doors, in order, and the disk, which is missing only where there was no memory for the hall.
 #[derive(Drop)]
 pub struct DoorsEnded<F, D> {
     /// The doors.
     pub doors: Vec<F>,
     /// The disk.
-    pub disk: D,
+    pub disk: Option<D>,
     /// What they came to.
     pub outcome: DoorsOutcome,
 }

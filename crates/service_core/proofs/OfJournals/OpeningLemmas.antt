@@ -1,24 +1,28 @@
 -- Why no world is opened, by why none is made of what the journal holds.
-use Rattle.std.proofs.Common.{◌≡◌, ℕ, List, Result, Ok, sym, ap, subst, ◌∙◌}
+use Rattle.std.proofs.Common.{◌≡◌, ℕ, List, Result, Ok, Err, sym, ap, subst, ◌∙◌}
 use Rattle.flush_journal.specs.Files.{Content, content}
 use Rattle.flush_journal.specs.Records.{Held, IsRecordMap}
 use Rattle.register.specs.declared.installs.InstallFault.{InstallFault}
 use Rattle.register.specs.declared.installs.InstallFault.TheVariants.{BadRecord, RunsUsed, NoMemory}
-use Rattle.register.specs.Kept.{IsUsedUp, MatchFault, MatchUsed}
+use Rattle.register.specs.Kept.{IsUsedUp, MatchFault, MatchUsed, TellsUsed}
 use Rattle.service_core.specs.Records.{IsKeyTold, IsWorldFault}
+use Rattle.service_core.specs.Worlds.{State}
 use Rattle.service_core.specs.Journals.Opening.{IsBadKeyTold, MayRefuseOpening, of_install}
 
 pub install_refused : (told : Type 0) (file : List ℕ) (before now lanes : ℕ) (held : Held) (fault : InstallFault)
     → (told → (c : Content) × (content file ≡ Ok c) × (lanes ≡ c.lanes) × (held ≡ c.held))
-    → MatchFault fault (IsWorldFault lanes held) → MatchUsed fault (IsUsedUp held)
+    → MatchFault fault (IsWorldFault lanes held) → MatchUsed fault (IsUsedUp held) → (IsUsedUp held → TellsUsed {A = State} (Err fault))
     → MayRefuseOpening told file before now (of_install fault)
-install_refused told file before now lanes held (BadRecord key) read fault used = λ honest.
-    let got = read honest in
-    (got.0, got.1, subst (λ (m : Held). IsWorldFault got.0.lanes m key.items) got.3 (subst (λ (n : ℕ). IsWorldFault n held key.items) got.2 fault))
-install_refused told file before now lanes held RunsUsed read fault used = λ honest.
+install_refused told file before now lanes held (BadRecord key) read fault used left = λ honest.
+    let got = read honest in (
+      got.0,
+      got.1,
+      (subst (λ (m : Held). IsWorldFault got.0.lanes m key.items) got.3 (subst (λ (n : ℕ). IsWorldFault n held key.items) got.2 fault), λ last. left (subst IsUsedUp (sym got.3) last)),
+    )
+install_refused told file before now lanes held RunsUsed read fault used left = λ honest.
     let got = read honest in
     (got.0, got.1, subst IsUsedUp got.3 used)
-install_refused told file before now lanes held NoMemory read fault used = tt
+install_refused told file before now lanes held NoMemory read fault used left = tt
 
 -- ---- a key at fault is told
 

@@ -16,13 +16,17 @@ use Rattle.service_core.specs.declared.journals.faults.OpenRefused.{OpenRefused}
 abbrev pub IsOf : List ℕ → (Content → Type 0) → Type 0
 IsOf file P = (c : Content) × (content file ≡ Ok c) × P c
 
+-- the key is the one at fault, and a run is left: that none is left is told before any key but the register's
+abbrev pub IsToldFault : Content → List ℕ → Type 0
+IsToldFault c key = IsWorldFault c.lanes c.held key × (IsUsedUp c.held → ⊥)
+
 -- An opening may be refused by a fault only where the disk's count rose from `before` to `now`; with a place only where the file is
--- no journal for what stands there; with a key only where the file is a journal and the key is the one at fault; and for want of
--- a run only where the kept run is the last.
+-- no journal for what stands there; with a key only where the file is a journal, the key is the one at fault and a run is left; and
+-- for want of a run only where the kept run is the last.
 abbrev pub MayRefuseOpening : Type 0 → List ℕ → (before now : ℕ) → OpenFault → Type 0
 MayRefuseOpening told file before now DiskFault = Rose before now
 MayRefuseOpening told file before now (NotAJournal at) = told → content file ≡ Err at
-MayRefuseOpening told file before now (BadRecord key) = told → IsOf file (λ c. IsWorldFault c.lanes c.held key.items)
+MayRefuseOpening told file before now (BadRecord key) = told → IsOf file (λ c. IsToldFault c key.items)
 MayRefuseOpening told file before now RunsUsed = told → IsOf file (λ c. IsUsedUp c.held)
 MayRefuseOpening told file before now NoMemory = Unit {0}
 

@@ -9,12 +9,10 @@ use Rattle.hsds_cli.specs.Doors.{Doors, doors_of}
 use Rattle.hsds_cli.specs.Runs.{IsCommanded, IsRun}
 use Rattle.hsds_cli.specs.Sides.{Sides}
 use Rattle.hsds_cli.specs.declared.command_end.WithDoors.{WithDoors}
+use Rattle.hsds_cli.proofs.RunLemmas.{run_beside}
+use Rattle.hsds_cli.proofs.ServeLemmas.{run_of_serve}
 use Rattle.hsds_cli.proofs.SessionLemmas.{keeps}
 use Rattle.hsds_cli.proofs.run.obey.Goals as goal
-
--- doors that come back as they were
-abbrev kept_doors : {F L : Type 0} → door.Ghosts F L → source.Ghosts L → sink.Ghosts L → List F → Doors F L
-kept_doors d r w doors = doors_of d r w doors doors
 
 pub returns-in-Ok-Init-clause-run : goal.returns-in-Ok-Init-clause-run
 returns-in-Ok-Init-clause-run g c =
@@ -31,8 +29,32 @@ returns-in-Ok-Init-clause-run g c =
       out_before = g.K.Sink.faults c.args.out.now;
       out_after = g.K.Sink.faults c.init.new.out;
     } in
-    subst (λ (o : Option Command). IsCommanded g.D.Disk o sides (kept_doors g.F.Door g.F.Link.Source g.F.Link.Sink c.args.doors.items) c.args.disk c.init.result.disk c.init.result.closed c.init.result.status) (sym (c.in-Ok-Init.ensures.ok ∙ ap (λ (w : Wanted). Some (as_command w)) c.in-Ok-Init.field-0-is))
+    run_beside g.D.Disk _ (map (string_bytes {Z = Global}) c.args.words.now) sides g.F.Door g.F.Link.Source g.F.Link.Sink c.args.doors.items c.args.disk c.beside.result
+    c.init.result _ (ap (λ (x : WithDoors g.row.D.Denot g.row.F.Denot). x.end) c.beside.ensures)
+    (ap (λ (x : WithDoors g.row.D.Denot g.row.F.Denot). x.doors.items) c.beside.ensures)
+    (c.in-Ok-Init.ensures.ok ∙ ap (λ (w : Wanted). Some (as_command w)) c.in-Ok-Init.field-0-is)
     (c.init.ensures.init (g.S.Source.left c.args.input.now) (g.S.Source.faults c.args.input.now), c.init.ensures.closed)
+
+pub returns-in-Ok-Session-clause-run : goal.returns-in-Ok-Session-clause-run
+returns-in-Ok-Session-clause-run g c =
+    let sides : Sides = record {
+      text = g.C.Source.left c.args.config.now;
+      left_before = g.S.Source.left c.args.input.now;
+      left_after = g.S.Source.left c.session.new.input;
+      held_before = g.K.Sink.held c.args.out.now;
+      held_after = g.K.Sink.held c.session.new.out;
+      config_before = g.C.Source.faults c.args.config.now;
+      config_after = g.C.Source.faults c.session.new.config;
+      input_before = g.S.Source.faults c.args.input.now;
+      input_after = g.S.Source.faults c.session.new.input;
+      out_before = g.K.Sink.faults c.args.out.now;
+      out_after = g.K.Sink.faults c.session.new.out;
+    } in
+    run_beside g.D.Disk _ (map (string_bytes {Z = Global}) c.args.words.now) sides g.F.Door g.F.Link.Source g.F.Link.Sink c.args.doors.items c.args.disk c.beside-in-Ok-Session.result
+    c.session.result _ (ap (λ (x : WithDoors g.row.D.Denot g.row.F.Denot). x.end) c.beside-in-Ok-Session.ensures)
+    (ap (λ (x : WithDoors g.row.D.Denot g.row.F.Denot). x.doors.items) c.beside-in-Ok-Session.ensures)
+    (c.in-Ok-Session.ensures.ok ∙ ap (λ (w : Wanted). Some (as_command w)) c.in-Ok-Session.field-0-is)
+    c.session.ensures.session
 
 pub returns-in-Ok-Serve-clause-run : goal.returns-in-Ok-Serve-clause-run
 returns-in-Ok-Serve-clause-run g c =
@@ -50,7 +72,8 @@ returns-in-Ok-Serve-clause-run g c =
       out_after = g.K.Sink.faults c.args.out.now;
     } in
     let doors = doors_of g.F.Door g.F.Link.Source g.F.Link.Sink c.args.doors.items c.serve.result.doors.items in
-    subst (λ (o : Option Command). IsCommanded g.D.Disk o sides doors c.args.disk c.serve.result.end.disk c.serve.result.end.closed c.serve.result.end.status) (sym (c.in-Ok-Serve.ensures.ok ∙ ap (λ (w : Wanted). Some (as_command w)) c.in-Ok-Serve.field-0-is))
+    run_of_serve g.D.Disk _ (map (string_bytes {Z = Global}) c.args.words.now) sides doors c.args.disk c.serve.result.end.disk c.serve.result.end.closed c.serve.result.end.status _ _ _ _ _
+    (c.in-Ok-Serve.ensures.ok ∙ ap (λ (w : Wanted). Some (as_command w)) c.in-Ok-Serve.field-0-is)
     (c.serve.ensures.served (g.S.Source.left c.args.input.now) (g.K.Sink.held c.args.out.now) (g.S.Source.faults c.args.input.now) (g.K.Sink.faults c.args.out.now))
 
 pub returns-in-Ok-Export-clause-run : goal.returns-in-Ok-Export-clause-run
@@ -68,7 +91,10 @@ returns-in-Ok-Export-clause-run g c =
       out_before = g.K.Sink.faults c.args.out.now;
       out_after = g.K.Sink.faults c.export.new.out;
     } in
-    subst (λ (o : Option Command). IsCommanded g.D.Disk o sides (kept_doors g.F.Door g.F.Link.Source g.F.Link.Sink c.args.doors.items) c.args.disk c.export.result.disk c.export.result.closed c.export.result.status) (sym (c.in-Ok-Export.ensures.ok ∙ ap (λ (w : Wanted). Some (as_command w)) c.in-Ok-Export.field-0-is)) (
+    run_beside g.D.Disk _ (map (string_bytes {Z = Global}) c.args.words.now) sides g.F.Door g.F.Link.Source g.F.Link.Sink c.args.doors.items c.args.disk c.beside-in-Ok-Export.result
+    c.export.result _ (ap (λ (x : WithDoors g.row.D.Denot g.row.F.Denot). x.end) c.beside-in-Ok-Export.ensures)
+    (ap (λ (x : WithDoors g.row.D.Denot g.row.F.Denot). x.doors.items) c.beside-in-Ok-Export.ensures)
+    (c.in-Ok-Export.ensures.ok ∙ ap (λ (w : Wanted). Some (as_command w)) c.in-Ok-Export.field-0-is) (
       c.export.ensures.exported (g.C.Source.left c.args.config.now) (g.S.Source.left c.args.input.now) (g.C.Source.faults c.args.config.now) (g.S.Source.faults c.args.input.now),
       c.export.ensures.bytes,
       c.export.ensures.closed,
@@ -89,7 +115,10 @@ returns-in-Ok-Import-clause-run g c =
       out_before = g.K.Sink.faults c.args.out.now;
       out_after = g.K.Sink.faults c.import.new.out;
     } in
-    subst (λ (o : Option Command). IsCommanded g.D.Disk o sides (kept_doors g.F.Door g.F.Link.Source g.F.Link.Sink c.args.doors.items) c.args.disk c.import.result.disk c.import.result.closed c.import.result.status) (sym (c.in-Ok-Import.ensures.ok ∙ ap (λ (w : Wanted). Some (as_command w)) c.in-Ok-Import.field-0-is))
+    run_beside g.D.Disk _ (map (string_bytes {Z = Global}) c.args.words.now) sides g.F.Door g.F.Link.Source g.F.Link.Sink c.args.doors.items c.args.disk c.beside-in-Ok-Import.result
+    c.import.result _ (ap (λ (x : WithDoors g.row.D.Denot g.row.F.Denot). x.end) c.beside-in-Ok-Import.ensures)
+    (ap (λ (x : WithDoors g.row.D.Denot g.row.F.Denot). x.doors.items) c.beside-in-Ok-Import.ensures)
+    (c.in-Ok-Import.ensures.ok ∙ ap (λ (w : Wanted). Some (as_command w)) c.in-Ok-Import.field-0-is)
     (c.import.ensures.imported (g.C.Source.left c.args.config.now) (g.C.Source.faults c.args.config.now), c.import.ensures.closed)
 
 pub returns-in-Ok-Sample-clause-run : goal.returns-in-Ok-Sample-clause-run
@@ -107,11 +136,11 @@ returns-in-Ok-Sample-clause-run g c =
       out_before = g.K.Sink.faults c.args.out.now;
       out_after = g.K.Sink.faults c.sample.new.out;
     } in
-    let kept = kept_doors g.F.Door g.F.Link.Source g.F.Link.Sink c.args.doors.items in
-    subst (λ (r : WithDoors g.row.D.Denot g.row.F.Denot). IsRun g.D.Disk (map (string_bytes {Z = Global}) c.args.words.now) sides (doors_of g.F.Door g.F.Link.Source g.F.Link.Sink c.args.doors.items r.doors.items) c.args.disk r.end.disk r.end.closed r.end.status)
-    (sym c.unserved.ensures)
-    (subst (λ (o : Option Command). IsCommanded g.D.Disk o sides kept c.args.disk c.args.disk None c.sample.result) (sym (c.in-Ok-Sample.ensures.ok ∙ ap (λ (w : Wanted). Some (as_command w)) c.in-Ok-Sample.field-0-is))
-    ((c.sample.ensures.told, keeps _ _ refl), refl, refl))
+    run_beside g.D.Disk _ (map (string_bytes {Z = Global}) c.args.words.now) sides g.F.Door g.F.Link.Source g.F.Link.Sink c.args.doors.items c.args.disk c.unserved.result
+    (record { status = c.sample.result; disk = c.args.disk; closed = None }) _ (ap (λ (x : WithDoors g.row.D.Denot g.row.F.Denot). x.end) c.unserved.ensures)
+    (ap (λ (x : WithDoors g.row.D.Denot g.row.F.Denot). x.doors.items) c.unserved.ensures)
+    (c.in-Ok-Sample.ensures.ok ∙ ap (λ (w : Wanted). Some (as_command w)) c.in-Ok-Sample.field-0-is)
+    ((c.sample.ensures.told, keeps _ _ refl), refl, refl)
 
 pub returns-in-Ok-Verify-clause-run : goal.returns-in-Ok-Verify-clause-run
 returns-in-Ok-Verify-clause-run g c =
@@ -128,7 +157,10 @@ returns-in-Ok-Verify-clause-run g c =
       out_before = g.K.Sink.faults c.args.out.now;
       out_after = g.K.Sink.faults c.verify.new.out;
     } in
-    subst (λ (o : Option Command). IsCommanded g.D.Disk o sides (kept_doors g.F.Door g.F.Link.Source g.F.Link.Sink c.args.doors.items) c.args.disk c.verify.result.disk c.verify.result.closed c.verify.result.status) (sym (c.in-Ok-Verify.ensures.ok ∙ ap (λ (w : Wanted). Some (as_command w)) c.in-Ok-Verify.field-0-is)) (
+    run_beside g.D.Disk _ (map (string_bytes {Z = Global}) c.args.words.now) sides g.F.Door g.F.Link.Source g.F.Link.Sink c.args.doors.items c.args.disk c.beside-in-Ok-Verify.result
+    c.verify.result _ (ap (λ (x : WithDoors g.row.D.Denot g.row.F.Denot). x.end) c.beside-in-Ok-Verify.ensures)
+    (ap (λ (x : WithDoors g.row.D.Denot g.row.F.Denot). x.doors.items) c.beside-in-Ok-Verify.ensures)
+    (c.in-Ok-Verify.ensures.ok ∙ ap (λ (w : Wanted). Some (as_command w)) c.in-Ok-Verify.field-0-is) (
       c.verify.ensures.verified (g.C.Source.left c.args.config.now) (g.S.Source.left c.args.input.now) (g.C.Source.faults c.args.config.now) (g.S.Source.faults c.args.input.now),
       c.verify.ensures.bytes,
       c.verify.ensures.closed,

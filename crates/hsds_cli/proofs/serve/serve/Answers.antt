@@ -5,8 +5,8 @@ use Rattle.rest_session.specs.Kept.Doors.{HaveEnded}
 use Rattle.hsds_cli.specs.declared.closed.Closed.{Closed}
 use Rattle.hsds_cli.specs.declared.status.Status.{Status}
 use Rattle.hsds_cli.specs.Doors.{doors_of}
-use Rattle.hsds_cli.specs.Serves.{IsServedBy, doors_closed}
-use Rattle.hsds_cli.specs.Sides.{Sides}
+use Rattle.hsds_cli.specs.Serves.{IsServe, doors_closed}
+use Rattle.hsds_cli.specs.Sides.{IsUntouched, Sides}
 use Rattle.hsds_cli.proofs.ServeLemmas.{doors_ended}
 use Rattle.hsds_cli.proofs.SessionLemmas.{keeps}
 use Rattle.hsds_cli.proofs.serve.serve.Goals as goal
@@ -28,10 +28,9 @@ returns-clause-served g c = λ left held input out.
     } in
     let served = c.serve_doors-doors.result in
     let doors = doors_of g.F.Door g.F.Link.Source g.F.Link.Sink c.args.doors.items served.doors.items in
-    let ended = subst (λ (t : TokenTable). HaveEnded g.D.Disk (telling g.F.Door g.F.Link.Source g.F.Link.Sink) t c.args.links c.args.disk served.disk c.args.doors.items served.doors.items served.outcome)
-    c.in-Ok-of_table.ensures c.serve_doors-doors.ensures.ended in (
-      record { left = keeps left left refl; held = keeps held held refl },
-      subst (λ (o : Option Closed). IsServedBy g.D.Disk c.args.links sides doors c.args.disk served.disk o c.status_by-status.result) (sym c.closed_by.ensures)
-          (subst (λ (s : Status). IsServedBy g.D.Disk c.args.links sides doors c.args.disk served.disk (doors_closed served.outcome) s) (sym c.status_by-status.ensures)
-          (doors_ended g.D.Disk c.args.links sides doors c.args.disk served.disk c.in-Ok.config c.in-Ok.ensures.ok served.outcome ended c.serve_doors-doors.ensures.disk_fault)),
-    )
+    let ended = subst (λ (t : TokenTable). HaveEnded g.D.Disk _ (telling g.F.Door g.F.Link.Source g.F.Link.Sink) t c.args.links c.args.disk served.disk c.args.doors.items served.doors.items served.outcome)
+    c.in-Ok-of_table.ensures c.serve_doors-doors.ensures.ended in
+    let untouched : IsUntouched sides = record { left = keeps left left refl; held = keeps held held refl } in
+    subst (λ (o : Option Closed). IsServe g.D.Disk _ c.args.links sides doors c.args.disk served.disk o c.status_by-status.result) (sym c.closed_by.ensures)
+    (subst (λ (s : Status). IsServe g.D.Disk _ c.args.links sides doors c.args.disk served.disk (doors_closed served.outcome) s) (sym c.status_by-status.ensures)
+    (doors_ended g.D.Disk _ c.args.links sides doors c.args.disk untouched c.in-Ok.config c.in-Ok.ensures.ok served.disk served.outcome ended c.serve_doors-doors.ensures.disk_fault))

@@ -13,8 +13,8 @@ pub returns-clause-stretch : goal.returns-clause-stretch
 returns-clause-stretch g c = λ s t taken sent left end transcript. whole_stretch s t taken sent left end transcript
 
 pub returns-clause-crash : goal.returns-clause-crash
-returns-clause-crash g c = λ s t u v taken is honest b k.
-    what_is_left {D = g.row.D.Denot} {met = g.D.Disk} honest c.places_in_order.ensures.next g.met.D.Disk.only_now (λ j building u ws. c.images_are_kept.ensures j building u ws) s t taken u v is b k
+returns-clause-crash g c = λ s t u v taken sent is honest b k.
+    what_is_left {D = g.row.D.Denot} {met = g.D.Disk} honest c.places_in_order.ensures.next g.met.D.Disk.only_now (λ j building u ws. c.images_are_kept.ensures j building u ws) s t taken sent u v is b k
 
 pub returns-clause-onward : goal.returns-clause-onward
-returns-clause-onward g c = λ s t u v taken is k. never_less c.places_in_order.ensures.next s t taken u v is k
+returns-clause-onward g c = λ s t u v taken sent is k. never_less c.places_in_order.ensures.next s t taken sent u v is k

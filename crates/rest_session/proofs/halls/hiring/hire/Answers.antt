@@ -32,6 +32,7 @@ returns-clause-giver g c = λ k n giver.
         spare = ap (λ v. v.spare) s.given;
         joined = ap (λ v. v.joined) s.given;
         unasked = ap (λ v. own (k + 1) v.seen.register) s.given ∙ ap (λ h. own (k + 1) h.register) giver.seen;
+        keepings = ap (λ v. v.seen.keepings) s.given ∙ ap (λ h. h.keepings) giver.seen;
         front = s.fronts.1 ∙ giver.front;
       },
     )

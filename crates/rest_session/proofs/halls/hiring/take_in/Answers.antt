@@ -1,5 +1,6 @@
-use Rattle.std.proofs.Common.{◌≡◌, ◌++◌, [], ◌∷◌, map, length, refl, sym, ap, ◌∙◌, subst, arith, append_assoc, append-nil}
-use Rattle.std.specs.Prelude.{All, reverse}
+use Rattle.std.proofs.Common.{◌≡◌, ◌++◌, [], ◌∷◌, Some, map, length, refl, sym, ap, ◌∙◌, subst, arith, append_assoc, append-nil}
+use Rattle.std.specs.Prelude.{All, IsSome, reverse}
+use Rattle.std.proofs.lemmas.List.{map-append}
 use Rattle.std.proofs.lemmas.List.Elements.{All-cons}
 use Rattle.hall.specs.Passes.{IsPassOf, TookIn, view_of}
 use Rattle.hall.specs.declared.gate.OpenGate.{OpenGate}
@@ -32,11 +33,21 @@ join-requires-clause-of_this_hall_too g c =
     let Ours = λ (x : Worker g.row.D.Denot g.row.F.Denot OpenGate g.row.D-KnownBy.Denot g.D.AtDesk). IsPassOf c.args.hall.now x.pass × IsAlone (view_of x.pass) in
     (all_mid Ours left i.done w (subst (All Ours) parted c.requires.all_of)).0
 
+pub unwrap-requires : goal.unwrap-requires
+unwrap-requires g c =
+    let i = c.workers.invariant in
+    let w = c.in-Some.worker in
+    let left = c.pop.new.self.items in
+    let parted : c.args.workers.items ≡ left ++ w ∷ i.done = i.parted ∙ ap (λ l. l ++ i.done) c.in-Some.ensures.items ∙ append_assoc left (w ∷ []) i.done in
+    let AtDoor = λ (x : Worker g.row.D.Denot g.row.F.Denot OpenGate g.row.D-KnownBy.Denot g.D.AtDesk). IsSome x.door in
+    all_mid AtDoor left i.done w (subst (All AtDoor) parted c.requires.at_doors)
+
 pub workers-preserved : goal.workers-preserved
 workers-preserved g c =
     let i = c.workers.invariant in
     let w = c.in-Some.worker in
     let left = c.pop.new.self.items in
+    let some = λ (d : g.row.F.Denot). Some d in
     let v = view_of c.workers.pass in
     let u = view_of c.join.new.pass in
     let j = c.join.ensures in
@@ -52,8 +63,8 @@ workers-preserved g c =
       names = let n = i.names in let m = j.names in let one = one_name (view_of w.pass) w.pass.live alone in omega (arith, n, m, one);
       itself = took_on u v (view_of c.args.pass.now) j.mine i.itself;
       others = All-cons Mine w i.done j.theirs theirs;
-      handed = handed_back (λ (x : Worker g.row.D.Denot g.row.F.Denot OpenGate g.row.D-KnownBy.Denot g.D.AtDesk). x.door) i.done w c.workers.doors.items c.args.doors.now.items _ w.door
-          c.push_reserved.ensures.items refl i.handed;
+      handed = handed_back (λ (x : Worker g.row.D.Denot g.row.F.Denot OpenGate g.row.D-KnownBy.Denot g.D.AtDesk). x.door) i.done w (map some c.workers.doors.items) (map some c.args.doors.now.items) _
+          (some c.unwrap.result) (ap (map some) c.push_reserved.ensures.items ∙ map-append some c.workers.doors.items (c.unwrap.result ∷ [])) c.unwrap.ensures i.handed;
       told = handed_back (report {F = g.row.F.Denot} {G = OpenGate} {g = g.D.AtDesk}) i.done w c.workers.reports.items c.args.reports.now.items _ (report w) c.push_reserved-in-Some.ensures.items refl i.told;
       doors_room = let d = i.doors_room in omega (arith, c.in-Some.ensures.cases);
       reports_room = let d = i.reports_room in omega (arith, c.in-Some.ensures.cases);
@@ -81,7 +92,7 @@ returns-clause-doors g c =
     let i = c.workers.invariant in
     let none = empty_of_length c.workers.workers.items (omega (arith, c.in_default.ensures.cases, c.workers.workers.ok.0)) in
     let whole : c.args.workers.items ≡ i.done = i.parted ∙ ap (λ l. l ++ i.done) none in
-    i.handed ∙ ap (λ l. c.args.doors.now.items ++ reverse (map (λ (x : Worker g.row.D.Denot g.row.F.Denot OpenGate g.row.D-KnownBy.Denot g.D.AtDesk). x.door) l)) (sym whole)
+    i.handed ∙ ap (λ l. map (λ (d : g.row.F.Denot). Some d) c.args.doors.now.items ++ reverse (map (λ (x : Worker g.row.D.Denot g.row.F.Denot OpenGate g.row.D-KnownBy.Denot g.D.AtDesk). x.door) l)) (sym whole)
 
 pub returns-clause-reports : goal.returns-clause-reports
 returns-clause-reports g c =

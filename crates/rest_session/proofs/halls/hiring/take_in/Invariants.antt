@@ -1,4 +1,4 @@
-use Rattle.std.proofs.Common.{◌≡◌, ◌+◌, ◌≤◌, ◌++◌, List, map, length, vec_len, vec_capacity}
+use Rattle.std.proofs.Common.{◌≡◌, ◌+◌, ◌≤◌, ◌++◌, List, Some, map, length, vec_len, vec_capacity}
 use Rattle.std.specs.Prelude.{All, reverse}
 use Rattle.hall.specs.Passes.{IsPassOf, TookIn, view_of}
 use Rattle.hall.specs.declared.gate.OpenGate.{OpenGate}
@@ -14,7 +14,7 @@ invariant-workers g l = record {
   names : numbers l.pass ≡ numbers l.initial.pass + length done;
   itself : TookIn (view_of l.pass) (view_of l.initial.pass);
   others : All (λ w. TookIn (view_of l.pass) (view_of w.pass)) done;
-  handed : l.doors.items ≡ l.initial.doors.items ++ reverse (map (λ w. w.door) done);
+  handed : map (λ d. Some d) l.doors.items ≡ map (λ d. Some d) l.initial.doors.items ++ reverse (map (λ w. w.door) done);
   told : l.reports.items ≡ l.initial.reports.items ++ reverse (map (λ w. record { ends = w.ends; door_failed = w.door_failed }) done);
   doors_room : vec_len l.doors + vec_len l.workers ≤ vec_capacity l.doors;
   reports_room : vec_len l.reports + vec_len l.workers ≤ vec_capacity l.reports;

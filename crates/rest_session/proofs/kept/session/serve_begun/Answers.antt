@@ -50,20 +50,20 @@ returns-clause-served g c =
         front = c.places.ensures ∙ sym (places final.keeping k final.world w c.keep-last.result keeps);
         kept = refl;
         all = all_kept_then final.keeping k final.world w c.keep-last.result keeps c.places.result c.places.ensures;
-        waits = waits_then first final t.0 k w c.keep-last.result keeps
+        waits = waits_then first final t.0 t.1 k w c.keep-last.result keeps
             (c.what_waits_stood.ensures first final t.0 t.1 (g.L.Source.left c.serve_world-end.new.link) c.serve_world-end.result t.4 c.requires.new.waits c.requires.new.building c.requires.kept);
         stretch = c.what_is_kept_stood.ensures.stretch first final t.0 t.1 (g.L.Source.left c.serve_world-end.new.link) c.serve_world-end.result t.4;
-        crash = λ honest u v is. c.what_is_kept_stood.ensures.crash first final u v t.0 is honest (c.requires.backed honest) c.requires.kept;
-        last_crash = λ honest u is. subst (λ (d : g.row.D.Denot). CrashLeaves g.D.Disk (disk_of u.keeping.journal) d (HoldsStood first final t.0 u.keeping.kept)) (sym c.into_disk.ensures)
-            (left_then first final t.0 k w c.keep-last.result keeps honest
+        crash = λ honest u v is. c.what_is_kept_stood.ensures.crash first final u v t.0 t.1 is honest (c.requires.backed honest) c.requires.kept;
+        last_crash = λ honest u is. subst (λ (d : g.row.D.Denot). CrashLeaves g.D.Disk (disk_of u.keeping.journal) d (HoldsStood first final t.0 t.1 u.keeping.kept)) (sym c.into_disk.ensures)
+            (left_then first final t.0 t.1 k w c.keep-last.result keeps honest
             (c.what_is_kept_stood.ensures.stood first final t.0 t.1 (g.L.Source.left c.serve_world-end.new.link) c.serve_world-end.result t.4 honest (c.requires.backed honest) c.requires.kept) u
-            (c.what_is_kept_stood.ensures.onward first final u final t.0 is c.requires.kept)
-            (c.what_is_kept_stood.ensures.crash first final u final t.0 is honest (c.requires.backed honest) c.requires.kept));
-        images = λ honest image left. image_stood first final t.0 k w c.keep-last.result keeps honest
+            (c.what_is_kept_stood.ensures.onward first final u final t.0 t.1 is c.requires.kept)
+            (c.what_is_kept_stood.ensures.crash first final u final t.0 t.1 is honest (c.requires.backed honest) c.requires.kept));
+        images = λ honest image left. image_stood first final t.0 t.1 k w c.keep-last.result keeps honest
             (c.what_is_kept_stood.ensures.stood first final t.0 t.1 (g.L.Source.left c.serve_world-end.new.link) c.serve_world-end.result t.4 honest (c.requires.backed honest) c.requires.kept) holds image
             (subst (λ (d : g.row.D.Denot). g.D.Disk.images d image) c.into_disk.ensures left);
         whole = λ honest. subst (λ (d : g.row.D.Denot). OnOk c.keep-last.result ((image : List ℕ) → g.D.Disk.images d image → HoldsWorld (as_kept final.world) image)) (sym c.into_disk.ensures)
-            (whole_then first final t.0 k w c.keep-last.result keeps honest
+            (whole_then first final t.0 t.1 k w c.keep-last.result keeps honest
             (c.what_is_kept_stood.ensures.stood first final t.0 t.1 (g.L.Source.left c.serve_world-end.new.link) c.serve_world-end.result t.4 honest (c.requires.backed honest) c.requires.kept) holds);
       },
       c.serve_world-end.ensures.causes,

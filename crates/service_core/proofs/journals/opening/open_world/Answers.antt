@@ -37,7 +37,7 @@ returns-in-Err-install-clause-why g c =
     (λ honest.
     let got = c.in-Ok.ensures.recovered honest in
     (got.0, got.1, ap (λ (r : Report). r.lanes) c.report.ensures.numbers ∙ got.2.numbers.lanes, got.3))
-    c.in-Err-install.ensures.fault c.in-Err-install.ensures.used)
+    c.in-Err-install.ensures.fault c.in-Err-install.ensures.used c.in-Err-install.ensures.told)
 
 pub returns-in-Ok-install-clause-sizes : goal.returns-in-Ok-install-clause-sizes
 returns-in-Ok-install-clause-sizes g c = λ honest content' is.
