@@ -996,6 +996,8 @@ class Links(unittest.TestCase):
                 caught.append(fault)
 
         server.process.send_signal(signal.SIGSTOP)
+        # Where the machine is busy its threads run on for a while.
+        os.waitid(os.P_PID, server.process.pid, os.WSTOPPED)
         thread = threading.Thread(target=guarded)
         thread.start()
         time.sleep(0.3)
