@@ -1,5 +1,5 @@
 """Clients of the array service at an address, over so many links in all: kept alive, pipelined, in pieces of one byte, sixteen at once, one
-that goes away in the middle, and one that sends nothing. Prints the id of the dataset that all share; ends with 1 and what was wrong."""
+that goes away in the middle, one that sends nothing, and one that sends a byte now and then behind a refusal. Prints the id of the dataset that all share; ends with 1 and what was wrong."""
 
 import http.client
 import json
@@ -160,6 +160,22 @@ def silent():
         wrong(f"a silent client waited {time.monotonic() - begin} seconds")
 
 
+def dripping():
+    """Sends a byte now and then behind what is refused, until the other side has closed the link, which it does soon."""
+    with connected() as link:
+        link.sendall(b"POST /groups HTTP/1.1\r\nTransfer-Encoding: chunked\r\n\r\n")
+        if [status for status, _ in answers_of(read_all(link))] != [501]:
+            wrong("a chunked body wasn't refused")
+        begin = time.monotonic()
+        try:
+            while time.monotonic() - begin < 20:
+                link.sendall(b"x")
+                time.sleep(0.2)
+            wrong("a client that sends a byte now and then held its link")
+        except OSError:
+            pass
+
+
 def one_of_many(shared, written, index):
     """Writes and reads a dataset of its own, and one that all share."""
     kept = Kept()
@@ -194,7 +210,7 @@ def side_by_side(acts):
 
 
 def main():
-    quiet = side_by_side([(silent,)])
+    quiet = side_by_side([(silent,), (dripping,)])
     kept = Kept()
     shared = new_dataset(kept)
     kept.ask("PUT", f"/datasets/{shared}/value", {"value": 100})

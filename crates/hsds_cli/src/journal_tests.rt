@@ -96,7 +96,7 @@ fn a_changed_byte_is_refused_or_read(rt: HostRuntime) -> Result<(), Fail> {
 // ---- a full disk
 
 /// A configuration whose folder `/` is alice's.
-const OWN_ROOT: &str = "[tokens]
+pub const OWN_ROOT: &str = "[tokens]
 ta = \"alice\"
 
 [folders.\"/\"]
@@ -111,12 +111,13 @@ readACL = true
 updateACL = true
 ";
 
-/// The bodies of its record, before and after bob has an entry.
+/// The body of its record.
 const BEFORE: &str =
     "{\"acls\":{\"alice\":{\"create\":true,\"delete\":true,\"read\":true,\"readACL\":true,\
      \"update\":true,\"updateACL\":true}},\"class\":\"folder\",\"owner\":\"alice\"}";
 
-const AFTER: &str =
+/// That body once bob has an entry.
+pub const AFTER: &str =
     "{\"acls\":{\"alice\":{\"create\":true,\"delete\":true,\"read\":true,\"readACL\":true,\
      \"update\":true,\"updateACL\":true},\"bob\":{\"create\":false,\"delete\":false,\
      \"read\":true,\"readACL\":false,\"update\":false,\"updateACL\":false}},\"class\":\"folder\",\

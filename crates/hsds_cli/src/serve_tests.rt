@@ -2,8 +2,12 @@
 
 use crate::closed::{Closed, Ends};
 use crate::exchanges::{Exchange, exchange_of};
+use crate::journal_tests::{AFTER, OWN_ROOT};
 use crate::run::{Finished, run};
-use crate::trials::{LAB, ROOM, WRITTEN, disk_of, made, plain, run_line, words_of};
+use crate::stop_tests::{DENIED, TAKEN_AWAY, finds, is_old};
+use crate::trials::{
+    AND_AGAIN, LAB, ROOM, WRITTEN, disk_of, from_on, made, plain, run_line, words_of,
+};
 use edge_traits::{MemDisk, MemDoor, MemLink, MemSink, MemSource};
 use rest_session::halls::Report;
 use rest_session::links::LinkEnd;
@@ -44,7 +48,7 @@ fn two_doors(alloc: Global, first: MemDoor, second: MemDoor) -> Result<Vec<MemDo
 /// A run of `serve` over doors.
 fn served(
     rt: &(impl Threads + Wait + Sync + AllocGlobal),
-    line: &str,
+    (line, config): (&str, &str),
     doors: Vec<MemDoor>,
     disk: MemDisk,
 ) -> Result<Finished<MemDisk, MemDoor>, Fail> {
@@ -53,7 +57,7 @@ fn served(
         return Err(Fail::from("too many doors"));
     }
     let words = words_of(alloc, line)?;
-    let mut config = MemSource::new(LAB.as_bytes().to_vec(alloc)?, 4096, Vec::new(alloc));
+    let mut config = MemSource::new(config.as_bytes().to_vec(alloc)?, 4096, Vec::new(alloc));
     let mut input = MemSource::new(Vec::new(alloc), 1, Vec::new(alloc));
     let mut out = MemSink::new(alloc, Vec::new(alloc));
     Ok(run(
@@ -72,6 +76,7 @@ fn end_word(end: LinkEnd) -> &'static str {
     match end {
         LinkEnd::Closed => "closed ",
         LinkEnd::Cut { .. } => "cut ",
+        LinkEnd::WriteFault => "write-fault ",
         _ => "other ",
     }
 }
@@ -133,7 +138,7 @@ fn links_of_two_doors_are_served_and_kept(rt: HostRuntime) -> Result<(), Fail> {
     let writer = door_of(alloc, &[first.sent.as_str(), second.sent.as_str()], &[])?;
     let other = door_of(alloc, &[flush.sent.as_str(), "GET /"], &[])?;
     let doors = two_doors(alloc, writer, other)?;
-    let done = served(&rt, "serve --links 2", doors, made(&rt, LAB)?)?;
+    let done = served(&rt, ("serve --links 2", LAB), doors, made(&rt, LAB)?)?;
     assert_eq!(rt; done.status, 0);
     let answers = [first.answers.as_str(), second.answers.as_str()];
     assert!(rt; has_answers(done.doors.get(0), &answers));
@@ -157,7 +162,7 @@ fn a_door_that_fails_is_told(rt: HostRuntime) -> Result<(), Fail> {
         let first = door_of(alloc, &[flush.sent.as_str()], &[failing])?;
         let second = door_of(alloc, &[flush.sent.as_str()], &[])?;
         let doors = two_doors(alloc, first, second)?;
-        let done = served(&rt, "serve", doors, made(&rt, LAB)?)?;
+        let done = served(&rt, ("serve", LAB), doors, made(&rt, LAB)?)?;
         assert_eq!(rt; done.status, 9);
         assert!(rt; told(alloc, &done.closed)?.as_str() == ends);
     }
@@ -178,10 +183,127 @@ fn no_door_is_asked_where_no_world_is_opened(rt: HostRuntime) -> Result<(), Fail
             door_of(alloc, &[""], &[])?,
         )?;
         let disk = disk_of(alloc, bytes.as_bytes(), ROOM, Vec::new(alloc))?;
-        let done = served(&rt, line, doors, disk)?;
+        let done = served(&rt, (line, LAB), doors, disk)?;
         assert_eq!(rt; done.status, status);
         assert!(rt; has_answers(done.doors.get(0), &[]) && has_answers(done.doors.get(1), &[]));
         assert!(rt; done.closed.is_none());
     }
+    Ok(())
+}
+
+// ---- one link, over a disk that fails or is full
+
+/// What one link came to: whether it was answered so, and the run with how its door left the world.
+struct OneLink {
+    answered: bool,
+    status: u8,
+    told: String,
+    disk: MemDisk,
+}
+
+/// A run of `serve` over a door with one link, whose sink fails at these writes.
+fn over_one(
+    rt: &(impl Threads + Wait + Sync + AllocGlobal),
+    (config, rows): (&str, &str),
+    writes: &[u64],
+    disk: MemDisk,
+) -> Result<OneLink, Fail> {
+    let alloc = rt.alloc();
+    let exchange = exchange_of(alloc, rows)?;
+    let source = MemSource::new(
+        exchange.sent.as_bytes().to_vec(alloc)?,
+        4096,
+        Vec::new(alloc),
+    );
+    let sink = MemSink::new(alloc, writes.to_vec(alloc)?);
+    let mut links = Vec::new(alloc);
+    links.push(MemLink::new(source, sink))?;
+    let mut doors = Vec::new(alloc);
+    doors.push(MemDoor::new(alloc, links, Vec::new(alloc))?)?;
+    let done = served(rt, ("serve", config), doors, disk)?;
+    Ok(OneLink {
+        answered: has_answers(done.doors.get(0), &[exchange.answers.as_str()]),
+        status: done.status,
+        told: told(alloc, &done.closed)?,
+        disk: done.disk.ok_or("no disk")?,
+    })
+}
+
+#[test]
+fn a_change_that_is_not_kept_stands_for_the_next_request(rt: HostRuntime) -> Result<(), Fail> {
+    let alloc = rt.alloc();
+    let rows = format!(in alloc; "{TAKEN_AWAY}\n{DENIED}")?;
+    let journal = made(&rt, LAB)?;
+    for call in 7..11u64 {
+        let mut failing = Vec::new(alloc);
+        failing.push(call)?;
+        let disk = disk_of(alloc, journal.bytes(), ROOM, failing)?;
+        let done = over_one(&rt, (LAB, rows.as_str()), &[], disk)?;
+        assert!(rt; done.answered && done.status == 0, "{call}");
+        assert!(rt; done.told.as_str() == "2 2 closed |", "{call}");
+        assert!(rt; finds(&rt, done.disk.crash(0)?, DENIED)?, "{call}");
+    }
+    Ok(())
+}
+
+// The calls of the opening and of the run's record have the numbers 0 to 6, those of the flush 7 to 10, and those of the last one
+// 11 to 14.
+#[test]
+fn a_stop_behind_a_flush_of_a_link_leaves_what_was_flushed_or_more(
+    rt: HostRuntime,
+) -> Result<(), Fail> {
+    let alloc = rt.alloc();
+    let rows = format!(in alloc; "{WRITTEN}\n{AND_AGAIN}")?;
+    let journal = made(&rt, LAB)?;
+    let mut olds = 0u8;
+    for call in 11..16u64 {
+        let disk = disk_of(alloc, journal.bytes(), ROOM, from_on(alloc, call)?)?;
+        let done = over_one(&rt, (LAB, rows.as_str()), &[], disk)?;
+        assert!(rt; done.answered, "{call}");
+        assert_eq!(rt; done.status, if call < 15 { 5u8 } else { 0 }, "{call}");
+        for kept in [0u64, 1, 8, 9, 45, 46] {
+            if is_old(&rt, &done.disk.crash(kept)?)? {
+                olds = olds.saturating_add(1);
+            }
+        }
+    }
+    // The old where nothing of the second marker is there, and else the new.
+    assert_eq!(rt; olds, 6 * 3 + 1);
+    Ok(())
+}
+
+#[test]
+fn a_full_journal_refuses_each_keeping_of_a_link(rt: HostRuntime) -> Result<(), Fail> {
+    let alloc = rt.alloc();
+    let journal = made(&rt, OWN_ROOT)?;
+    // The record of the run is 22 bytes, and the next batch begins at its closed marker.
+    let end = journal.bytes().len().saturating_add(21);
+    let need = (10 + 10usize).saturating_add(AFTER.len());
+    let room = end.saturating_add(need).saturating_sub(1);
+    let answer = format!(in alloc;
+        "503 Service Unavailable|\
+         {{\"end\":{end},\"need\":{need},\"reason\":\"journal-full\",\"room\":{room}}}"
+    )?;
+    // The second finds the batch of the first, which is written before its own.
+    let rows = format!(in alloc;
+        "PUT /acls/bob?domain=/|{{\"read\":true}}|{answer}\nPUT /acls/carol?domain=/|{{}}|{answer}"
+    )?;
+    let disk = disk_of(alloc, journal.bytes(), room as u64, Vec::new(alloc))?;
+    let done = over_one(&rt, (OWN_ROOT, rows.as_str()), &[], disk)?;
+    assert!(rt; done.answered && done.status == 11);
+    assert!(rt; done.told.as_str() == "2 0 closed |");
+    assert_eq!(rt; done.disk.bytes().len(), end.saturating_add(1));
+    Ok(())
+}
+
+// The third write is the answer to the flush.
+#[test]
+fn what_was_flushed_stands_where_its_answer_is_not_written(rt: HostRuntime) -> Result<(), Fail> {
+    let alloc = rt.alloc();
+    let rows = format!(in alloc; "{WRITTEN}\n{FLUSH}")?;
+    let done = over_one(&rt, (LAB, rows.as_str()), &[2], made(&rt, LAB)?)?;
+    assert!(rt; !done.answered && done.status == 0);
+    assert!(rt; done.told.as_str() == "3 3 write-fault |");
+    assert!(rt; is_old(&rt, &done.disk.crash(0)?)?);
     Ok(())
 }

@@ -40,7 +40,7 @@ fn stopped(
 }
 
 /// Whether a session on a disk answers the rows of alice.
-fn finds(
+pub fn finds(
     rt: &(impl Threads + Wait + Sync + AllocGlobal),
     disk: MemDisk,
     rows: &str,
@@ -65,7 +65,7 @@ fn written_twice(
 }
 
 /// Whether what was flushed stands in an image, or what was written after it, in the answers and in the document.
-fn is_old(
+pub fn is_old(
     rt: &(impl Abort + Threads + Wait + Sync + AllocGlobal),
     image: &MemDisk,
 ) -> Result<bool, Fail> {
@@ -127,11 +127,14 @@ fn a_flush_of_one_cell_is_two_writes_and_two_syncs(rt: HostRuntime) -> Result<()
     Ok(())
 }
 
-static TAKEN_AWAY: &str =
+/// A right is taken away, which isn't kept.
+pub static TAKEN_AWAY: &str =
     r#"PUT /acls/alice|{"create":true,"read":true,"delete":true,"readACL":true,
     "updateACL":true}|503 Service Unavailable|{"reason":"disk-fault"}"#;
 
-static DENIED: &str = r#"PUT /datasets/d~0/value|{"value":1}|403 Forbidden|{"domain":"/home/lab",
+/// What is denied then.
+pub static DENIED: &str =
+    r#"PUT /datasets/d~0/value|{"value":1}|403 Forbidden|{"domain":"/home/lab",
     "reason":"forbidden","right":"update"}"#;
 
 #[test]

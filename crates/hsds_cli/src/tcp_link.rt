@@ -1,6 +1,7 @@
 //! A conversation over TCP.
 
-ghost use Rattle.std.specs.Prelude.{◌≡◌, ◌<◌, ◌≤◌, IfOk, IfSome, None, length, refl};
+ghost use Rattle.std.specs.Prelude.{◌≡◌, ◌<◌, ◌≤◌, IfOk, IfSome, None, length, refl, take};
+ghost use Rattle.std.specs.Io.KnownBytes.{Appends, Consumes};
 ghost use Rattle.hsds_cli.specs.declared.tcp_link.TheConstants.{LAST_SECONDS, MOST_DROPPED};
 ghost use Rattle.hsds_cli.specs.declared.tcp_link.TheConstants.{SILENCE};
 
@@ -69,6 +70,18 @@ impl TcpLink {
     }
 }
 
+#[cfg(test)]
+impl TcpLink {
+    /// Whether what is written is sent at once, and for how long a read and a write wait.
+    pub fn options(&self) -> io::Result<(bool, Option<Duration>, Option<Duration>)> {
+        Ok((
+            self.stream.nodelay()?,
+            self.stream.read_timeout()?,
+            self.stream.write_timeout()?,
+        ))
+    }
+}
+
 // Says that nothing more is written, and drops what still comes.
 fn drop_rest(stream: &mut TcpStream, clock: &impl Clock) -> io::Result<()> {
     stream.shutdown(Shutdown::Write)?;
@@ -98,12 +111,14 @@ fn drop_some(stream: &mut TcpStream, most: usize) -> Option<usize>
 }
 
 // Reads what comes, and tries again where a signal interrupted that. `None` where the system has another error.
-fn read_some(stream: &mut TcpStream, buf: &mut [u8]) -> Option<usize>
+fn read_some<R: Read>(from: &mut R, buf: &mut [u8]) -> Option<usize>
     ensures bound { IfSome result (λ n. n ≤ length buf.old) }
     ensures same { length buf.new ≡ length buf.old }
+    ensures bytes { IfSome result
+        (λ n. Consumes (R.remaining from.old) (R.remaining from.new) (take n buf.new)) }
 {
     for _ in 0..u64::MAX {
-        match stream.read(buf) {
+        match from.read(buf) {
             Ok(count) => return Some(count),
             Err(e) if e.kind() == ErrorKind::Interrupted => {}
             Err(_) => return None,
@@ -114,12 +129,14 @@ fn read_some(stream: &mut TcpStream, buf: &mut [u8]) -> Option<usize>
 
 // Writes some of these bytes, one of them at least where there are any, and tries again where a signal interrupted that. `None`
 // where none is taken, or the system has another error.
-fn write_some(stream: &mut TcpStream, bytes: &[u8]) -> Option<usize>
+fn write_some<W: Write>(to: &mut W, bytes: &[u8]) -> Option<usize>
     ensures bound { IfSome result (λ n. n ≤ length bytes.now) }
     ensures moves { IfSome result (λ n. 0 < length bytes.now → 0 < n) }
+    ensures bytes { IfSome result
+        (λ n. Appends (W.contents to.old) (W.contents to.new) (take n bytes.now)) }
 {
     for _ in 0..u64::MAX {
-        match stream.write(bytes) {
+        match to.write(bytes) {
             Ok(count) if count > 0 || bytes.is_empty() => return Some(count),
             Err(e) if e.kind() == ErrorKind::Interrupted => {}
             _ => return None,

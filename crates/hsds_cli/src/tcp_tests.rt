@@ -9,6 +9,7 @@ use std::io;
 use std::io::{Read, Write};
 use std::net::{Shutdown, TcpListener, TcpStream};
 use std::test::Fail;
+use std::time::Duration;
 
 /// More than is read before the answer, and less than is dropped at the end.
 const LATE: usize = 40_000;
@@ -58,6 +59,21 @@ fn an_answer_comes_whole_though_more_was_sent(rt: HostRuntime) -> Result<(), Fai
     let mut answer = [0u8; 6];
     client.read_exact(&mut answer)?;
     assert!(rt; &answer == b"answer" && client.read(&mut [0u8; 1])? == 0);
+    Ok(())
+}
+
+#[test]
+fn a_link_sends_at_once_and_waits_for_thirty_seconds(rt: HostRuntime) -> Result<(), Fail> {
+    let listener = TcpListener::bind(&rt, "127.0.0.1:0")?;
+    let mut door = door_at(&rt, Some(&listener))?;
+    let _client = TcpStream::connect(&rt, listener.local_addr()?)?;
+    let Ok(Some(link)) = door.next() else {
+        return Err(Fail::from("no link"));
+    };
+    let (at_once, read, written) = link.options()?;
+    door.give_back(link);
+    let wait = Some(Duration::from_secs(30));
+    assert!(rt; at_once && read == wait && written == wait);
     Ok(())
 }
 
