@@ -194,6 +194,7 @@ fn no_door_is_asked_where_no_world_is_opened(rt: HostRuntime) -> Result<(), Fail
 // ---- one link, over a disk that fails or is full
 
 /// What one link came to: whether it was answered so, and the run with how its door left the world.
+#[derive(Drop)]
 struct OneLink {
     answered: bool,
     status: u8,
