@@ -17,7 +17,8 @@ use Rattle.flush_journal.specs.declared.journal.Journal.{Journal}
 use Rattle.flush_journal.specs.declared.why.Why.{Why}
 use Rattle.flush_journal.proofs.Unchanged.{same_both, same_here}
 use Rattle.journal_desk.specs.Cuts.{Resumes}
-use Rattle.journal_desk.specs.Keepings.{AreItsKeepings, Continues, HasKept as KeepsSince, IsAllKept, StaysOwed, answer_of, keeping_of, owed_by}
+use Rattle.journal_desk.specs.Desks.{HoldSince, HoldsKept}
+use Rattle.journal_desk.specs.Keepings.{AreItsKeepings, Continues, HasKept as KeepsSince, IsAllKept, StaysOwed, answer_of, keeping_of, lists, owed_by}
 use Rattle.journal_desk.specs.Notes.{AreAlike, NoteOf, at_lanes}
 use Rattle.journal_desk.specs.Standing.{Standing}
 use Rattle.journal_desk.specs.declared.note.Note.{Ghosts as Notes}
@@ -25,7 +26,8 @@ use Rattle.lane_histories.specs.Cuts.{GoesOn}
 use Rattle.lane_histories.specs.Desks.{nowhere}
 use Rattle.lane_histories.specs.Histories.{History, IsIn, own, places}
 use Rattle.lane_histories.specs.KeptContents.{IsAsFar}
-use Rattle.lane_histories.specs.Legal.{IsLegal}
+use Rattle.lane_histories.specs.Laws.{StaysKept}
+use Rattle.lane_histories.specs.Legal.{IsLegal, IsPrefix}
 use Rattle.lane_histories.specs.Services.{World}
 use Rattle.lane_histories.specs.declared.items.Answer.TheVariants.{Kept, Looked, Refused}
 use Rattle.lane_histories.specs.declared.items.Keeping.{Keeping}
@@ -50,10 +52,11 @@ use Rattle.hall_rule.specs.declared.slot.Slot.TheVariants.{AtDesk}
 use Rattle.hall_rule.specs.declared.view.Lists.{Lists}
 use Rattle.hall_rule.specs.declared.view.Start.{Start}
 use Rattle.service_histories.specs.ArrayServices.{Asked, array_service}
+use Rattle.service_histories.specs.KeptArrays.{array_kept}
 use Rattle.service_histories.specs.Tellings.{opening}
 use Rattle.hall.specs.Answers.{ArrayLists, ArrayStart, ArrayView}
 use Rattle.hall.specs.ArrayMachines.{IsOpened, desk_machines, lanes_in, machines}
-use Rattle.hall.specs.DeskTurns.{HasDone, HasFlushed, HasFlushedPast, HasGoneOn, HasKeptAll, HasKeptTo, HasShared, IsBehind, IsInTurn, IsTurnOf, note_seen}
+use Rattle.hall.specs.DeskTurns.{AreOfCuts, HasDone, HasFlushed, HasFlushedPast, HasGoneOn, HasKeptAll, HasKeptTo, HasNoted, HasShared, IsBehind, IsInTurn, IsTurnOf, note_seen}
 use Rattle.hall.specs.JournalDesks.{AllFollow, AreTold, Follows, IsJournalSince, Left, LiesBetween, answer_by, item_of, keeping_by, left_after, left_by, left_first}
 use Rattle.hall.specs.JournalDesks.{left_of, moment_by}
 use Rattle.hall.specs.Notes.{AreOfLanes, hall_notes, listed, of_lanes, owner_at, seen_in, world_known}
@@ -63,7 +66,7 @@ use Rattle.hall.specs.declared.journal.DeskNews.{DeskNews}
 use Rattle.hall.specs.declared.journal.DeskWork.{DeskWork}
 use Rattle.hall.specs.declared.journal.DeskWork.TheVariants.{Flush, FlushPast, KeepRegister, Look}
 use Rattle.hall.specs.declared.note.HallNote.{HallNote}
-use Rattle.hall.proofs.DeskTurnLemmas.{grows_here, legal_as, pass_on, rests}
+use Rattle.hall.proofs.DeskTurnLemmas.{grows_here, grows_on, legal_as, pass_on, rests}
 use Rattle.hall.proofs.FrontLemmas.{AreBelow}
 use Rattle.hall.proofs.NoteLemmas.{of_all}
 use Rattle.hall.proofs.PlainLemmas.{same_world}
@@ -76,6 +79,14 @@ uncut_here h = record {
   register = ([], sym (append-nil h.register), tt);
   lanes = λ lane. ([], sym (append-nil (lane_of h.lanes lane)), tt);
   was = refl;
+}
+
+grows_keeping : {Q V T R N : Type 0} (h : Lists Q V T R N) (k : Keeping) → GrowsFrom (pushed h (at_desk k)) h
+grows_keeping h k = record {
+  sized = refl;
+  register = ([], sym (append-nil h.register));
+  lanes = λ lane. ([], sym (append-nil (lane_of h.lanes lane)));
+  keepings = (k ∷ [], refl);
 }
 
 -- ---- any desk
@@ -394,8 +405,10 @@ module _ {D J : Type 0} (met : Disks D) {ghosts : Ghosts J (Snapshot (Journal D 
   -- the desk went on
   pub gone_on : before.disk ≡ st.disk → (met.honest → KeepsSince met (hall_notes st'.lanes) st' (met.moment st'.disk) st'.kept)
       → (met.honest → KeepsSince met (hall_notes st'.lanes) st' (met.moment st'.at) st'.kept) → (met.honest → met.moment st'.at ≤ met.moment st'.disk)
-      → HasGoneOn met start before st'
-  gone_on same images reached by_now =
+      → (met.honest → st'.pending ≡ None → (image : List ℕ) → met.images st'.disk image
+      → HoldsKept (array_kept st'.lanes) ((hall_notes st'.lanes).start st'.note) (lists met (hall_notes st'.lanes) st') st'.kept image)
+      → AreOfCuts (hall_notes st'.lanes) st' → HasGoneOn met start before st'
+  gone_on same images reached by_now settled cuts =
       let since = (since_here met start old lanes st reads v.seen is).1 in record {
         first = subst (SameDisk met (disk_of start.desk.value)) (sym same) since.disk;
         went = subst (λ (k : ℕ). Continues met (hall_notes k) before st') since.lanes continues;
@@ -403,15 +416,33 @@ module _ {D J : Type 0} (met : Disks D) {ghosts : Ghosts J (Snapshot (Journal D 
         images = λ honest. subst (λ (k : ℕ). KeepsSince met (hall_notes k) st' (met.moment st'.disk) st'.kept) many (images honest);
         reached = λ honest. subst (λ (k : ℕ). KeepsSince met (hall_notes k) st' (met.moment st'.at) st'.kept) many (reached honest);
         by_now = by_now;
+        settled = subst (λ (k : ℕ). met.honest → st'.pending ≡ None → (image : List ℕ) → met.images st'.disk image
+            → HoldsKept (array_kept k) ((hall_notes k).start st'.note) (lists met (hall_notes k) st') st'.kept image) many settled;
+        cuts = subst (λ (k : ℕ). AreOfCuts (hall_notes k) st') many cuts;
       }
 
   before_fits : IsAsFar st.kept st'.kept
   before_fits = let a = resumed.own.c in let b = continues.own.c in let x = resumed.own.p in let y = continues.own.p in
       record { c = omega (arith, a, b); p = omega (arith, x, y) }
 
+  seen_is : of_lanes (lanes_in start) (seen_in st'.note) ≡ w.seen
+  seen_is = lists_are met st' w (lanes_in start) many turn.sized turn.owners up_to
+
+  -- they have all that there was when the turn was taken, and what the pass has seen since begins with them
+  pub noted_all : GrowsFrom (of_lanes (lanes_in start) (seen_in st'.note)) v.seen
+  noted_all = subst (λ (h : ArrayLists). GrowsFrom h v.seen) (sym seen_is) turn.longer
+
+  pub noted_begins : (k : Keeping) (back u : ArrayView (Snapshot (Journal D met))) → back ≡ w
+      → HasPassed (desk_machines ghosts (lanes_in start)) start (at_desk k) back u → GrowsFrom u.seen (of_lanes (lanes_in start) (seen_in st'.note))
+  noted_begins k back u same p =
+      let grown = grows_on p.seen (pushed back.seen (at_desk k)) back.seen p.grown.begins (grows_keeping back.seen k) in
+      subst (λ (x : ArrayLists × ArrayLists). GrowsFrom x.0 x.1)
+      (λ i. (sym (ap (λ (x : ArrayView (Snapshot (Journal D met))). x.seen) p.is) i, (ap (λ (x : ArrayView (Snapshot (Journal D met))). x.seen) same ∙ sym seen_is) i))
+      grown
+
   note_is : (owners : List Lane) → owners ≡ start.owners → ghosts.note new.desk owners ≡ w.seen
   note_is owners same = reads'.note owners ∙ ap (λ (os : List Lane). of_lanes (length os) (seen_in st'.note)) same
-      ∙ lists_are met st' w (lanes_in start) many turn.sized turn.owners up_to
+      ∙ seen_is
 
   -- what its keeping tells lies between the first disk and this one
   told_between : (met.honest → met.moment st'.at ≤ met.moment st'.disk) → (did : DeskNews)
@@ -519,16 +550,70 @@ at_its_end : {D N : Type 0} (met : Disks D) (notes : NoteOf N) (reached : Reach 
 at_its_end met notes reached place before after (Ok n) done = ap met.moment done.all.at
 at_its_end met notes reached place before after (Err why) done = refl
 
--- it was what the last turn left, and none before reaches farther
-abbrev pub IsFound : {D N : Type 0} {met : Disks D} → ArrayStart (Snapshot (Journal D met)) → Standing D N → List Keeping → Type 0
-IsFound start before ks =
-    AllByRecursion (λ (i : Keeping). IsAsFar i.own before.kept) ks × (left_of before ≡ left_after (left_first start.desk.value) ks)
+-- it was what the last turn left, none before reaches farther, and the note has all that there was
+abbrev pub IsFound : {D : Type 0} {met : Disks D} → ArrayStart (Snapshot (Journal D met))
+    → (before after : Standing D (HallNote (Snapshot (Journal D met)))) → ArrayLists → Type 0
+IsFound start before after h =
+    AllByRecursion (λ (i : Keeping). IsAsFar i.own before.kept) h.keepings
+    × (left_of before ≡ left_after (left_first start.desk.value) h.keepings)
+    × GrowsFrom (of_lanes (lanes_in start) (seen_in after.note)) h
+
+-- what is kept from the lists of the note is kept from those that begin with them
+module _ {D : Type 0} (met : Disks D) (start : ArrayStart (Snapshot (Journal D met))) (d : Standing D (HallNote (Snapshot (Journal D met))))
+    (since : IsJournalSince met d start) (stays : StaysKept (array_service (lanes_in start))) (seen : ArrayLists)
+    (legal : IsLegal (array_service (lanes_in start)) (world_of (machines {K = Snapshot (Journal D met)} (lanes_in start)) start) (history_of (array_service (lanes_in start)) seen))
+    (begins : GrowsFrom seen (of_lanes (lanes_in start) (seen_in d.note))) where
+  legal_noted : IsLegal (array_service (lanes_in start)) ((hall_notes (lanes_in start)).start d.note) (history_of (array_service (lanes_in start)) seen)
+  legal_noted =
+      let n = lanes_in start in
+      let world = subst (λ (k : ℕ). (hall_notes k).start d.note ≡ opening k (world_known (Some start))) since.lanes since.world in
+      subst (λ (w : World (array_service n)). IsLegal (array_service n) w (history_of (array_service n) seen)) (sym world)
+      (legal_as start (history_of (array_service n) seen) legal)
+
+  longer_noted : IsPrefix (lists met (hall_notes (lanes_in start)) d) (history_of (array_service (lanes_in start)) seen)
+  longer_noted =
+      let n = lanes_in start in
+      let of = subst (λ (k : ℕ). AreOfLanes k (seen_in d.note)) since.lanes since.lists in
+      subst (λ (h : History (array_service n)). IsPrefix h (history_of (array_service n) seen)) of.lists
+      (record { register = begins.register; lane = begins.lanes; keepings = begins.keepings })
+
+  kept_later : (moment : ℕ) (own : Reach) → KeepsSince met (hall_notes (lanes_in start)) d moment own
+      → HoldSince met (array_kept (lanes_in start)) ((hall_notes (lanes_in start)).start d.note) (history_of (array_service (lanes_in start)) seen) d.disk moment own
+  kept_later moment own kept = λ image left.
+      let x = kept image left in
+      let k = x.at.kept in record {
+        reach = x.reach;
+        at = record {
+          bodies = x.at.bodies;
+          holds = x.at.holds;
+          kept = record {
+            world = k.world;
+            told = k.told;
+            kept = stays ((hall_notes (lanes_in start)).start d.note) (lists met (hall_notes (lanes_in start)) d) (history_of (array_service (lanes_in start)) seen)
+                k.world x.reach k.kept legal_noted longer_noted;
+          };
+        };
+        far = x.far;
+      }
 
 module _ {D : Type 0} (met : Disks D) (start : ArrayStart (Snapshot (Journal D met))) (k : ℕ)
     (before after : Standing D (HallNote (Snapshot (Journal D met)))) (result : Result ℕ Why) (v w : ArrayView (Snapshot (Journal D met)))
-    (far : places v.seen.register ≤ places (seen_in before.note).register) (gone : HasGoneOn met start before after) where
+    (far : places v.seen.register ≤ places (seen_in before.note).register) (gone : HasGoneOn met start before after)
+    (begins : GrowsFrom w.seen (of_lanes (lanes_in start) (seen_in after.note))) (stays : StaysKept (array_service (lanes_in start))) where
+  -- what its note has
+  noted_in : (d : Standing D (HallNote (Snapshot (Journal D met)))) → after ≡ d → (item : Keeping)
+      (t : HasKept (machines (lanes_in start)) start item [] v w) → IsFound start before d t.before → HasNoted met start d t.before t.seen
+  noted_in d same item t found =
+      let here = subst (λ (x : ArrayLists × Standing D (HallNote (Snapshot (Journal D met)))). GrowsFrom x.0 (of_lanes (lanes_in start) (seen_in x.1.note)))
+      (λ i. (ap (λ (x : ArrayView (Snapshot (Journal D met))). x.seen) t.is i, same i)) begins in
+      let went = subst (HasGoneOn met start before) same gone in record {
+        all = found.2;
+        begins = here;
+        images = λ honest. kept_later met start d went.since stays t.seen t.legal here (met.moment d.disk) d.kept (went.images honest);
+      }
+
   to_here : (reached : Reach → ℕ) → (t : HasKept (machines (lanes_in start)) start (keeping_of met before after result) [] v w)
-      × IsFound start before t.before.keepings → HasKeptAll met (hall_notes k) reached before after result → HasKeptTo met reached start result v w
+      × IsFound start before after t.before → HasKeptAll met (hall_notes k) reached before after result → HasKeptTo met reached start result v w
   to_here reached turn done = record {
     before = before;
     after = after;
@@ -536,6 +621,7 @@ module _ {D : Type 0} (met : Disks D) (start : ArrayStart (Snapshot (Journal D m
     far = turn.1.0;
     found = turn.1.1;
     gone = gone;
+    noted = noted_in after refl (keeping_of met before after result) turn.0 turn.1;
     ok = ok_as result (reached after.kept) (places v.seen.register) (places (seen_in before.note).register) far done.ok;
     all = done.all;
     cause = done.cause;
@@ -547,17 +633,18 @@ module _ {D : Type 0} (met : Disks D) (start : ArrayStart (Snapshot (Journal D m
   -- the place was kept already
   shared_here : (place : ℕ) → place < before.kept.c
       → (t : HasKept (machines (lanes_in start)) start (item_of met before after (FlushPast place) result) [] v w)
-      × IsFound start before t.before.keepings → (after ≡ before) × (result ≡ Ok before.kept.c)
+      × IsFound start before after t.before → (after ≡ before) × (result ≡ Ok before.kept.c)
       → HasShared met start place result v w
   shared_here place past turn same =
       let shared = subst (λ (x : Standing D (HallNote (Snapshot (Journal D met))) × Result ℕ Why). (t : HasKept (machines (lanes_in start)) start
-      (item_of met before x.0 (FlushPast place) x.1) [] v w) × IsFound start before t.before.keepings)
+      (item_of met before x.0 (FlushPast place) x.1) [] v w) × IsFound start before x.0 t.before)
       (λ i. (same.0 i, same.1 i)) turn in record {
         desk = before;
         turn = shared.0;
         far = shared.1.0;
         found = shared.1.1;
         gone = subst (HasGoneOn met start before) same.0 gone;
+        noted = noted_in before same.0 _ shared.0 shared.1;
         past = past;
         is = same.1;
       }
@@ -565,18 +652,18 @@ module _ {D : Type 0} (met : Disks D) (start : ArrayStart (Snapshot (Journal D m
   -- it was not, and all was flushed
   flushed_here : (place : ℕ) → before.kept.c ≤ place
       → (t : HasKept (machines (lanes_in start)) start (item_of met before after (FlushPast place) result) [] v w)
-      × IsFound start before t.before.keepings → HasKeptAll met (hall_notes k) (λ r. r.c) before after result
+      × IsFound start before after t.before → HasKeptAll met (hall_notes k) (λ r. r.c) before after result
       → (flushed : HasFlushed met start result v w) × (flushed.before.kept.c ≤ place)
   unfolding to_here
   flushed_here place most turn done = (
     to_here (λ r. r.c) (subst (λ (m : ℕ). (t : HasKept (machines (lanes_in start)) start (record (keeping_of met before after result) { moment = m }) [] v w)
-        × IsFound start before t.before.keepings)
+        × IsFound start before after t.before)
         (at_its_end met (hall_notes k) (λ r. r.c) place before after result done) turn) done,
     most,
   )
 
   pub turn_is : (work : DeskWork) → (t : HasKept (machines (lanes_in start)) start (item_of met before after work result) [] v w)
-      × IsFound start before t.before.keepings → HasDone met (hall_notes k) work before after result → IsTurnOf met work start result v w
+      × IsFound start before after t.before → HasDone met (hall_notes k) work before after result → IsTurnOf met work start result v w
   turn_is Flush turn done = to_here (λ r. r.c) turn done
   turn_is (FlushPast place) turn done = dite (dec_le (place + 1) before.kept.c)
       (λ more.
@@ -587,7 +674,7 @@ module _ {D : Type 0} (met : Disks D) (start : ArrayStart (Snapshot (Journal D m
   turn_is Look turn done =
       let looked = subst (λ (d : Standing D (HallNote (Snapshot (Journal D met)))). (t : HasKept (machines (lanes_in start)) start
       (record (keeping_of met before d (Ok before.kept.c)) { answer = Looked }) [] v w)
-      × IsFound start before t.before.keepings) done.0 turn in (
+      × IsFound start before d t.before) done.0 turn in (
         before.kept.c,
         done.1,
         record {
@@ -596,6 +683,7 @@ module _ {D : Type 0} (met : Disks D) (start : ArrayStart (Snapshot (Journal D m
           far = looked.1.0;
           found = looked.1.1;
           gone = subst (HasGoneOn met start before) done.0 gone;
+          noted = noted_in before done.0 _ looked.0 looked.1;
           is = refl;
         },
       )
@@ -625,10 +713,10 @@ module _ {J K : Type 0} (ghosts : Ghosts J K) (start : ArrayStart K) (laws : Des
       let was : places first.0.seen.register ≡ places v.seen.register = ap (λ (x : ArrayView K). places x.seen.register) drew in
       omega (arith, more, all, was)
 
-  -- what was true of all keepings before is so of those before this one
-  pub kept_then : (P : List Keeping → Type 0) → P taken.0.seen.keepings → (k : Keeping) (w : ArrayView K)
+  -- what was true of the lists when the turn was taken is so of those before this keeping
+  pub kept_then : (P : ArrayLists → Type 0) → P taken.0.seen → (k : Keeping) (w : ArrayView K)
       → HasPassed (desk_machines ghosts (lanes_in start)) start (at_desk k) back.0 w → (t : HasKept (machines (lanes_in start)) start k [] v w)
-      × P t.before.keepings
+      × P t.before
   kept_then P found k w passed =
       let law = laws.kept start n k v first taken back w (may_draw_desk start v pass idle) drew t
       (turn.view_is ∙ (λ i. seeing taken.0 (claims_then i) back.0.seen))
@@ -638,7 +726,7 @@ module _ {J K : Type 0} (ghosts : Ghosts J K) (start : ArrayStart K) (laws : Des
       ∙ ap (λ (h : ArrayLists). own y h.register) seen_then)
       passed in
       let x = law.0 in
-      subst (λ cs. (t : HasKept (machines (lanes_in start)) start k cs v w) × P t.before.keepings)
+      subst (λ cs. (t : HasKept (machines (lanes_in start)) start k cs v w) × P t.before)
       idle (
         record {
           before = x.before;
@@ -652,7 +740,7 @@ module _ {J K : Type 0} (ghosts : Ghosts J K) (start : ArrayStart K) (laws : Des
               (history_of (array_service (lanes_in start)) x.seen)) (same_world ghosts (lanes_in start) start) x.legal;
           unused = x.unused;
         },
-        subst (λ (h : ArrayLists). P h.keepings) (seen_then ∙ sym law.1) found,
+        subst P (seen_then ∙ sym law.1) found,
       )
 
 -- whether a flush was shared or not, it is one turn of the desk

@@ -3,7 +3,9 @@
 --     HasKeptAll ..        what a desk says of a flush, or of a keeping of the catalogue
 --     HasDonePast ..       of a flush that is asked for a place
 --     HasDone met work ..  of whichever was asked of it
+--     AreOfCuts notes d    a desk's numbers are those of cuts in its note's lists
 --     HasGoneOn ..         from what the desk was before a turn to what it is after it
+--     HasNoted ..          the lists that a desk noted in a turn
 --     IsTurnOf met work .. so of a whole turn
 --     HasFlushed ..        what a turn leaves in which the desk kept what was done
 --     HasKeptRegister ..   so of one in which it kept the catalogue
@@ -21,10 +23,12 @@ use Rattle.flush_journal.specs.Unchanged.{SameDisk}
 use Rattle.flush_journal.specs.declared.journal.Journal.{Journal}
 use Rattle.flush_journal.specs.declared.why.Why.{Why}
 use Rattle.journal_desk.specs.Cuts.{Resumes}
-use Rattle.journal_desk.specs.Keepings.{AreItsKeepings, Continues, HasKept as KeepsSince, IsAllKept, IsFullWhere, MayRefuseTurn, SettlesFirst, keeping_of}
+use Rattle.journal_desk.specs.Desks.{HoldSince, HoldsKept}
+use Rattle.journal_desk.specs.Keepings.{AreItsKeepings, Continues, HasKept as KeepsSince, IsAllKept, IsFullWhere, MayRefuseTurn, SettlesFirst, keeping_of, lists}
 use Rattle.journal_desk.specs.Notes.{NoteOf}
 use Rattle.journal_desk.specs.Standing.{Standing}
 use Rattle.register.specs.declared.tickets.Turn.{Turn}
+use Rattle.lane_histories.specs.Cuts.{IsCutTo, IsOfCuts, register_cut}
 use Rattle.lane_histories.specs.Histories.{cut_of, own, places}
 use Rattle.lane_histories.specs.KeptContents.{IsAsFar}
 use Rattle.lane_histories.specs.Legal.{IsLegal}
@@ -35,16 +39,18 @@ use Rattle.lane_histories.specs.declared.items.RegisterItem.TheVariants.{Entered
 use Rattle.hall_rule.specs.Claims.{claim}
 use Rattle.hall_rule.specs.LaneTickets.{IsServingLanes}
 use Rattle.hall_rule.specs.Rule.{names, seeing}
-use Rattle.hall_rule.specs.Seen.{GrowsFrom}
+use Rattle.hall_rule.specs.Seen.{GrowsFrom, history_of}
 use Rattle.hall_rule.specs.Sums.{times}
 use Rattle.hall_rule.specs.WholeTurns.{HasKept, IsPass}
 use Rattle.hall_rule.specs.declared.queue.Claim.{Claim}
 use Rattle.hall_rule.specs.declared.queue.Queue.TheVariants.{OfDesk}
-use Rattle.hall.specs.Answers.{ArrayStart, ArrayView}
+use Rattle.service_histories.specs.ArrayServices.{array_service}
+use Rattle.service_histories.specs.KeptArrays.{array_kept}
+use Rattle.hall.specs.Answers.{ArrayLists, ArrayStart, ArrayView}
 use Rattle.hall.specs.ArrayMachines.{IsOpened, lanes_in, machines}
 use Rattle.hall.specs.Cutting.{AreCutTickets}
 use Rattle.hall.specs.JournalDesks.{IsJournalSince, left_after, left_first, left_of}
-use Rattle.hall.specs.Notes.{hall_notes}
+use Rattle.hall.specs.Notes.{hall_notes, of_lanes, seen_in}
 use Rattle.hall.specs.declared.journal.DeskWork.{DeskWork}
 use Rattle.hall.specs.declared.journal.DeskWork.TheVariants.{Flush, FlushPast, KeepRegister, Look}
 use Rattle.hall.specs.declared.note.HallNote.{HallNote}
@@ -85,8 +91,17 @@ HasDone met notes Look before after result = (after ≡ before) × (result ≡ O
 
 -- ---- whole turns
 
+-- The cuts reach to the last drawn cut that was done in every lane, and to the last cut of the register that found memory; what is kept
+-- are numbers of such cuts too, and no greater ones.
+pub record AreOfCuts {D N : Type 0} (notes : NoteOf N) (d : Standing D N) : Type 0 where
+  pub lanes : IsCutTo notes.kept.service (notes.history d.note) d.cut.c
+  pub register : d.cut.p ≡ register_cut (notes.history d.note).register
+  pub kept : IsOfCuts notes.kept.service (notes.history d.note) d.kept
+  pub far : IsAsFar d.kept d.cut
+
 -- A hall's desk went on so: its disk from the one with which the hall began, and what was kept stays kept. Whatever a crash since then
--- leaves is kept from the lists that it has noted, at least as far as it reaches; so is what one left since that was reached.
+-- leaves is kept from the lists that it has noted, at least as far as it reaches; so is what one left since that was reached. Where nothing
+-- is pending it is kept just as far. The numbers are those of cuts in these lists.
 pub record HasGoneOn {D : Type 0} (met : Disks D) (start : ArrayStart (Snapshot (Journal D met)))
     (before after : Standing D (HallNote (Snapshot (Journal D met)))) : Type 0 where
   pub first : SameDisk met (disk_of start.desk.value) before.disk
@@ -95,6 +110,19 @@ pub record HasGoneOn {D : Type 0} (met : Disks D) (start : ArrayStart (Snapshot 
   pub images : met.honest → KeepsSince met (hall_notes (lanes_in start)) after (met.moment after.disk) after.kept
   pub reached : met.honest → KeepsSince met (hall_notes (lanes_in start)) after (met.moment after.at) after.kept
   pub by_now : met.honest → met.moment after.at ≤ met.moment after.disk
+  pub settled : met.honest → after.pending ≡ None → (image : List ℕ) → met.images after.disk image
+      → HoldsKept (array_kept (lanes_in start)) ((hall_notes (lanes_in start)).start after.note)
+      (lists met (hall_notes (lanes_in start)) after) after.kept image
+  pub cuts : AreOfCuts (hall_notes (lanes_in start)) after
+
+-- The lists of the desk's note have all that there was when the turn was taken, and those that the pass has seen since begin with them.
+-- So whatever a crash since the turn leaves is kept from these, at least as far as the desk reaches.
+pub record HasNoted {D : Type 0} (met : Disks D) (start : ArrayStart (Snapshot (Journal D met)))
+    (d : Standing D (HallNote (Snapshot (Journal D met)))) (before seen : ArrayLists) : Type 0 where
+  pub all : GrowsFrom (of_lanes (lanes_in start) (seen_in d.note)) before
+  pub begins : GrowsFrom seen (of_lanes (lanes_in start) (seen_in d.note))
+  pub images : met.honest → HoldSince met (array_kept (lanes_in start)) ((hall_notes (lanes_in start)).start d.note)
+      (history_of (array_service (lanes_in start)) seen) d.disk (met.moment d.disk) d.kept
 
 -- The desk went on from `before`, which is what the last keeping before it left, to `after`, and this is its keeping; no earlier one
 -- reaches farther than `before`. The answer is the number reached, and at least the places that the pass had seen.
@@ -106,6 +134,7 @@ pub record HasKeptTo {D : Type 0} (met : Disks D) (reached : Reach → ℕ) (sta
   pub far : AllByRecursion (λ k. IsAsFar k.own before.kept) turn.before.keepings
   pub found : left_of before ≡ left_after (left_first start.desk.value) turn.before.keepings
   pub gone : HasGoneOn met start before after
+  pub noted : HasNoted met start after turn.before turn.seen
   pub ok : IfOk result (λ n. (n ≡ reached after.kept) × (places v.seen.register ≤ n))
   pub all : OnOk result (IsAllKept after)
   pub cause : IfErr result (MayRefuseTurn met before after)
@@ -134,6 +163,7 @@ pub record HasShared {D : Type 0} (met : Disks D) (start : ArrayStart (Snapshot 
   pub far : AllByRecursion (λ k. IsAsFar k.own desk.kept) turn.before.keepings
   pub found : left_of desk ≡ left_after (left_first start.desk.value) turn.before.keepings
   pub gone : HasGoneOn met start desk desk
+  pub noted : HasNoted met start desk turn.before turn.seen
   pub past : place < desk.kept.c
   pub is : result ≡ Ok desk.kept.c
 
@@ -152,6 +182,7 @@ pub record HasLooked {D : Type 0} (met : Disks D) (start : ArrayStart (Snapshot 
   pub far : AllByRecursion (λ k. IsAsFar k.own desk.kept) turn.before.keepings
   pub found : left_of desk ≡ left_after (left_first start.desk.value) turn.before.keepings
   pub gone : HasGoneOn met start desk desk
+  pub noted : HasNoted met start desk turn.before turn.seen
   pub is : result ≡ desk.kept.c
 
 -- whichever was asked

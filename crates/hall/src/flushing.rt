@@ -25,6 +25,7 @@ use hall_rule::{
     Queue, Slot, hands_hold_what_was_taken, lists_are_histories, machines_stand_for_their_lists,
     the_desk_takes_turns,
 };
+use service_histories::what_is_kept_stays_kept;
 use std::snapshot::Snapshot;
 use std::sync::Wait;
 
@@ -144,12 +145,14 @@ impl<D: Disk + Drop> Hall<JournalDesk<D>> {
         machines_stand_for_their_lists::<DeskHall<JournalDesk<D>>>();
         lists_are_histories::<ArrayHall<JournalDesk<D>>>();
         the_desk_takes_turns::<DeskHall<JournalDesk<D>>>();
+        what_is_kept_stays_kept();
         let mine = self.draw_desk(seat);
         self.wait(rt, seat, Queue::OfDesk, mine);
         let mut noted = self.table.shared.exchange(seat, 1, Slot::Away).into_desk();
         let result = self.work(rt, seat, &mut noted.desk, work);
         noted.desk.images_are_kept();
         noted.desk.keepings_are_kept();
+        noted.desk.desk.reach_is_of_cuts();
         self.table.shared.exchange(seat, 1, Slot::AtDesk(noted));
         self.leave(seat, Queue::OfDesk);
         result

@@ -1,4 +1,4 @@
-//! A gate, through which each turn of a lane goes.
+//! A gate, through which each turn goes that a request takes in a lane.
 ghost use Rattle.std.specs.Prelude.{◌≡◌, ℕ};
 
 /// What a caller does inside a lane's turn, before its part of the request is done. It may wait as
@@ -7,7 +7,7 @@ pub trait Gate {
     /// What the gate may have become, by what it was, the lane and the place.
     ghost goes: { Self → ℕ → ℕ → Self → Type 0 };
 
-    /// `place` is the place of the request, or the number of places at a drawn cut.
+    /// `place` is the place of the request. No cut goes through a gate.
     fn before(&mut self, lane: u32, place: u64)
         ensures { goes self.old lane place self.new };
 }

@@ -15,7 +15,7 @@ use Rattle.hall.specs.DeskTurns.{HasDone, IsBehind, IsInTurn, note_seen}
 use Rattle.hall.specs.JournalDesks.{item_of, keeping_by, left_of}
 use Rattle.hall.specs.Notes.{hall_notes}
 use Rattle.hall.specs.declared.journal.DeskWork.{DeskWork}
-use Rattle.hall.proofs.DeskWorkLemmas.{IsFound, begun_taken, desk_behind, desk_taken, far_here, far_then, gone_on, in_turn_taken, kept_then, left_here, legal_taken, may_draw_desk, may_pass_desk, owners_here, reads_at, since_here, turn_is}
+use Rattle.hall.proofs.DeskWorkLemmas.{IsFound, begun_taken, desk_behind, desk_taken, far_here, far_then, gone_on, in_turn_taken, kept_then, left_here, legal_taken, may_draw_desk, may_pass_desk, noted_all, noted_begins, owners_here, reads_at, since_here, turn_is}
 use Rattle.hall.proofs.flushing.Hall+JournalDesk+D.take_desk.Goals as goal
 
 pub exchange-requires : goal.exchange-requires
@@ -167,20 +167,31 @@ returns-clause-turn g c =
     (ap (option_map (keeping_by g.D.Disk before end.desk)) news.1) c.exchange-2.new.seat.me (rest w.new.seat.me.1) c.exchange-2.ensures.3 in
     let passed = c.leave.ensures.passed (at_desk (keeping_by g.D.Disk before end.desk did)) ready in
     let back = subst (λ y. IsInTurn start c.wait.new.seat.me.0 y (lanes_in start) (lanes_in start) None) (sym (ap (λ me. me.0) c.exchange-2.ensures.3)) turn in
-    let found : IsFound start before c.wait.new.seat.me.0.seen.keepings = (
+    let found : IsFound start before end.desk c.wait.new.seat.me.0.seen = (
       subst (λ (r : Reach). AllByRecursion (λ (i : Keeping). IsAsFar i.own r) c.wait.new.seat.me.0.seen.keepings)
           (sym (ap (λ (d : Standing _ _). d.kept) w.ensures.before)) (far_here g.D.Disk start noted noted.desk.lanes noted.desk.desk reads _ is),
       ap (λ (d : Standing _ _). left_of d) w.ensures.before ∙ left_here g.D.Disk start noted noted.desk.lanes noted.desk.desk reads _ is,
+      noted_all g.D.Disk start laws noted (record noted { desk = end }) noted.desk.lanes refl refl noted.desk.desk before end.desk reads reads'
+          c.wait.new.seat.me.0 w.new.seat.me.0 is turn w.ensures.resumed w.ensures.continues w.ensures.up_to,
     ) in
-    let kept = kept_then _ start laws v pass idle _ _ _ c.exchange-2.new.seat.me drew t back (IsFound start before) found (keeping_by g.D.Disk before end.desk did) c.leave.new.seat.me.0 passed in
+    let kept = kept_then _ start laws v pass idle _ _ _ c.exchange-2.new.seat.me drew t back (IsFound start before end.desk) found (keeping_by g.D.Disk before end.desk did) c.leave.new.seat.me.0 passed in
     let noted_then = subst (λ y. AreAlike (hall_notes noted.desk.desk.lanes) before.note (note_seen y)) out w.ensures.noted in
     let far = far_then _ start laws v pass idle _ _ _ c.exchange-2.new.seat.me drew t back noted.desk.desk.lanes before.note noted_then in
     let gone = gone_on g.D.Disk start laws noted (record noted { desk = end }) noted.desk.lanes refl refl noted.desk.desk before end.desk reads reads'
     c.wait.new.seat.me.0 w.new.seat.me.0 is turn w.ensures.resumed w.ensures.continues w.ensures.up_to
     (ap (λ (d : Standing _ _). d.disk) w.ensures.before) c.images_are_kept.ensures.since c.keepings_are_kept.ensures.own
-    c.keepings_are_kept.ensures.reached in
-    turn_is g.D.Disk start noted.desk.desk.lanes before end.desk w.result v c.leave.new.seat.me.0 far gone c.args.work
+    c.keepings_are_kept.ensures.reached c.images_are_kept.ensures.settled
+    (record {
+      lanes = c.reach_is_of_cuts.ensures.lanes;
+      register = c.reach_is_of_cuts.ensures.register;
+      kept = c.reach_is_of_cuts.ensures.kept;
+      far = c.reach_is_of_cuts.ensures.far;
+    }) in
+    let begins = noted_begins g.D.Disk start laws noted (record noted { desk = end }) noted.desk.lanes refl refl noted.desk.desk before end.desk reads reads'
+    c.wait.new.seat.me.0 w.new.seat.me.0 is turn w.ensures.resumed w.ensures.continues w.ensures.up_to (keeping_by g.D.Disk before end.desk did)
+    c.exchange-2.new.seat.me.0 c.leave.new.seat.me.0 (ap (λ me. me.0) c.exchange-2.ensures.3) passed in
+    turn_is g.D.Disk start noted.desk.desk.lanes before end.desk w.result v c.leave.new.seat.me.0 far gone begins (c.what_is_kept_stays_kept.ensures (lanes_in start)) c.args.work
     (subst (λ (x : DeskWork × Result ℕ Why). (y : HasKept (machines (lanes_in start)) start
     (item_of g.D.Disk before end.desk x.0 x.1) [] v c.leave.new.seat.me.0)
-    × IsFound start before y.before.keepings)
+    × IsFound start before end.desk y.before)
     (λ i. (news.2 i, news.3 i)) kept) w.ensures.done
