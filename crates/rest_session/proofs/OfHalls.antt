@@ -1,3 +1,4 @@
+pub mod Acknowledged
 pub mod Accounts
 pub mod Gates
 pub mod Exact

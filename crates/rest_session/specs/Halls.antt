@@ -1,5 +1,6 @@
 pub mod Accounts
 pub mod Asking
+pub mod Acknowledged
 pub mod Gates
 pub mod Visits
 pub mod Workers

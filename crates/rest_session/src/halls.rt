@@ -11,6 +11,7 @@ mod workers;
 
 pub use attending::{attend_door, serve_link};
 pub use closed::{ClosedHall, HallOutcome, ServedHall};
+pub use flushing::limit_of_turns;
 pub use hiring::Report;
 pub use session::HallSession;
 pub use top::serve_hall;

@@ -9,6 +9,7 @@ ghost use Rattle.flush_journal.specs.Batches.{records};
 ghost use Rattle.flush_journal.specs.Moments.{CrashLeaves};
 ghost use Rattle.flush_journal.specs.Standing.{disk_of, pending_of};
 ghost use Rattle.flush_journal.specs.Unchanged.{SameDisk};
+ghost use Rattle.rest_session.specs.Halls.Acknowledged.{AcknowledgedIsKept};
 ghost use Rattle.rest_session.specs.Links.Links.{IsTranscript};
 ghost use Rattle.rest_session.specs.declared.links.end.LinkEnd.{LinkEnd};
 ghost use Rattle.service_core.specs.Records.{as_kept};
@@ -72,6 +73,12 @@ pub fn what_is_done_is_told_apart()
 {
     answers_have_done_statuses();
 }
+
+/// Where a hall is asked, an answer with the status of what is done acknowledges only what is kept: a flush is kept then by a
+/// keeping that was answered Ok and reaches past its place, and so is a change of a folder, a domain or a list.
+pub fn what_is_acknowledged_is_kept()
+    ensures { AcknowledgedIsKept }
+{}
 
 /// An answer that denies a right at a path, and one that says that a change was not kept, have at most 8,192 bytes: as many
 /// as an inbox has room for.

@@ -6,7 +6,7 @@ use Rattle.access_lists.specs.Tokens.Bearer.{TokenTable}
 use Rattle.chunk_owner.specs.Lanes.{Lane}
 use Rattle.edge_traits.specs.declared.disk.Disk.{Ghosts as Disks}
 use Rattle.flush_journal.specs.declared.journal.Journal.{Journal}
-use Rattle.journal_desk.specs.Desks.{HoldsAsFar}
+use Rattle.journal_desk.specs.Desks.{HoldsAsFar, HoldsKept}
 use Rattle.journal_desk.specs.Keepings.{lists}
 use Rattle.journal_desk.specs.Standing.{Standing}
 use Rattle.lane_histories.specs.Histories.{History}
@@ -34,7 +34,7 @@ use Rattle.hall.specs.declared.desk.AtDesk.{Ghosts}
 use Rattle.hall.specs.declared.journal.JournalDesk.{JournalDesk}
 use Rattle.hall.specs.declared.note.HallNote.{HallNote}
 use Rattle.rest_session.specs.Halls.Visits.{Telling}
-use Rattle.rest_session.specs.Kept.Doors.{BeginsRun, HaveEnded, HaveEndedInRun, IsDoorsDiskFault, IsKeptFrom, outcome_of}
+use Rattle.rest_session.specs.Kept.Doors.{BeginsRun, HaveEnded, HaveEndedInRun, IsDoorsDiskFault, IsKeptFrom, IsKeptWith, outcome_of}
 use Rattle.rest_session.specs.declared.kept.outcome.DoorsOutcome.{DoorsOutcome}
 use Rattle.rest_session.specs.declared.kept.outcome.DoorsOutcome.TheVariants.{Unopened, Unbegun, Unserved, Served}
 use Rattle.rest_session.proofs.OfHalls.Accounts.{prefix_of}
@@ -99,13 +99,13 @@ module _ {K : Type 0} (start : ArrayStart K) (v : ArrayView K) (closing : State)
 
 module _ (n : ℕ) (stays : StaysKept (array_service n)) (start : World (array_service n)) (h g : History (array_service n)) (legal : IsLegal (array_service n) start g)
     (longer : IsPrefix h g) where
-  -- what is kept from a history is kept from a longer one
-  holds_later : (own : Reach) (image : List ℕ) → HoldsAsFar (array_kept n) start h own image → HoldsAsFar (array_kept n) start g own image
-  holds_later own image x =
-      let k = x.at.kept in record {
-        reach = x.reach;
-        at = record { bodies = x.at.bodies; holds = x.at.holds; kept = record { world = k.world; told = k.told; kept = stays start h g k.world x.reach k.kept legal longer } };
-        far = x.far;
+  -- what is kept from a history is kept from a longer one, with the same numbers
+  holds_later : (reach : Reach) (image : List ℕ) → HoldsKept (array_kept n) start h reach image → HoldsKept (array_kept n) start g reach image
+  holds_later reach image x =
+      let k = x.kept in record {
+        bodies = x.bodies;
+        holds = x.holds;
+        kept = record { world = k.world; told = k.told; kept = stays start h g k.world reach k.kept legal longer };
       }
 
 module _ {D : Type 0} (met : Disks D) (first : State) (start : ArrayStart (Snapshot (Journal D met))) (seen : ArrayLists)
@@ -122,11 +122,15 @@ module _ {D : Type 0} (met : Disks D) (first : State) (start : ArrayStart (Snaps
       (prefix_of d.lanes seen (of_lanes d.lanes (seen_in d.note)) (subst (λ (m : ℕ). GrowsFrom seen (of_lanes m (seen_in d.note))) (sym since.lanes) uncut.longer))
 
   -- what is kept from the lists of the desk's note is kept from the history
+  pub settled_later : (reach : Reach) (image : List ℕ) → HoldsKept (array_kept d.lanes) ((hall_notes d.lanes).start d.note) (lists met (hall_notes d.lanes) d) reach image
+      → IsKeptWith first seen reach image
+  settled_later reach image holds =
+      let world_is : (hall_notes d.lanes).start d.note ≡ opening d.lanes first = since.world ∙ (λ i. opening d.lanes (record { register = register i; lanes = owners i })) in
+      let here = subst (λ (w : World (array_service d.lanes)). HoldsKept (array_kept d.lanes) w (lists met (hall_notes d.lanes) d) reach image) world_is holds in
+      let legal_here = subst (λ (m : ℕ). IsLegal (array_service m) (opening m first) (history_of (array_service m) seen)) (sym lanes_are) legal in
+      subst (λ (m : ℕ). HoldsKept (array_kept m) (opening m first) (history_of (array_service m) seen) reach image) lanes_are
+      (holds_later d.lanes (stays d.lanes) (opening d.lanes first) (lists met (hall_notes d.lanes) d) (history_of (array_service d.lanes) seen) legal_here longer_now reach image here)
+
   pub kept_later : (own : Reach) (image : List ℕ) → HoldsAsFar (array_kept d.lanes) ((hall_notes d.lanes).start d.note) (lists met (hall_notes d.lanes) d) own image
       → IsKeptFrom first seen own image
-  kept_later own image holds =
-      let world_is : (hall_notes d.lanes).start d.note ≡ opening d.lanes first = since.world ∙ (λ i. opening d.lanes (record { register = register i; lanes = owners i })) in
-      let here = subst (λ (w : World (array_service d.lanes)). HoldsAsFar (array_kept d.lanes) w (lists met (hall_notes d.lanes) d) own image) world_is holds in
-      let legal_here = subst (λ (m : ℕ). IsLegal (array_service m) (opening m first) (history_of (array_service m) seen)) (sym lanes_are) legal in
-      subst (λ (m : ℕ). HoldsAsFar (array_kept m) (opening m first) (history_of (array_service m) seen) own image) lanes_are
-      (holds_later d.lanes (stays d.lanes) (opening d.lanes first) (lists met (hall_notes d.lanes) d) (history_of (array_service d.lanes) seen) legal_here longer_now own image here)
+  kept_later own image holds = record { reach = holds.reach; at = settled_later holds.reach image holds.at; far = holds.far }

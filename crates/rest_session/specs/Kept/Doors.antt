@@ -1,6 +1,7 @@
 -- What doors come to that are served over a disk.
 --     BeginsRun before journal first      a run of the world that a disk kept began
---     IsKeptFrom first seen own image     an image holds a world that is kept from a history
+--     IsKeptWith first seen reach image   an image holds a world that is kept from a history, with these numbers
+--     IsKeptFrom first seen own image     with numbers that are at least these
 --     LeavesKept first seen ..            so does whatever a crash leaves of a run
 --     AreDoorsKept ..                     doors were served over a hall, and what was acknowledged was kept
 --     HaveEnded before after .. outcome   what they came to
@@ -8,12 +9,13 @@ use Rattle.std.specs.Prelude.{◌≡◌, ◌≤◌, ℕ, length, List, Option, N
 use Rattle.std.specs.declared.snapshot.Snapshot.{Snapshot}
 use Rattle.access_lists.specs.Tokens.Bearer.{TokenTable}
 use Rattle.edge_traits.specs.declared.disk.Disk.{Ghosts as Disks}
+use Rattle.flush_journal.specs.Records.{Record}
 use Rattle.flush_journal.specs.Standing.{disk_of, pending_of}
 use Rattle.flush_journal.specs.Unchanged.{SameBytes}
 use Rattle.flush_journal.specs.declared.journal.Journal.{Journal}
 use Rattle.flush_journal.specs.declared.why.Why.{Why}
 use Rattle.flush_journal.specs.declared.why.Why.TheVariants as why
-use Rattle.journal_desk.specs.Desks.{HoldsAsFar}
+use Rattle.journal_desk.specs.Desks.{HoldsAsFar, HoldsKept}
 use Rattle.lane_histories.specs.Desks.{nowhere}
 use Rattle.lane_histories.specs.Histories.{IsIn}
 use Rattle.lane_histories.specs.declared.items.Answer.TheVariants.{Kept}
@@ -50,15 +52,23 @@ pub record BeginsRun {D : Type 0} (met : Disks D) (before : D) (journal : Journa
 
 -- ---- what a crash leaves of a run
 
+-- with these numbers
+abbrev pub IsKeptWith : State → ArrayLists → Reach → List ℕ → Type 0
+IsKeptWith first seen reach image =
+    HoldsKept (array_kept (length first.lanes)) (opening (length first.lanes) first) (history_of (array_service (length first.lanes)) seen) reach image
+
 -- with numbers that are at least these
 abbrev pub IsKeptFrom : State → ArrayLists → Reach → List ℕ → Type 0
 IsKeptFrom first seen own image =
     HoldsAsFar (array_kept (length first.lanes)) (opening (length first.lanes) first) (history_of (array_service (length first.lanes)) seen) own image
 
--- Whatever a crash leaves once it has ended is kept as far as its disk reaches. For each keeping that was answered Ok, so is whatever a crash left since its
--- moment, as far as it reached; and so is whatever a crash left since the run began. No keeping's moment is before the run's begin or behind its end.
-pub record LeavesKept {D : Type 0} (met : Disks D) (first : State) (seen : ArrayLists) (begin after : D) (kept : Reach) : Type 0 where
+-- Whatever a crash leaves once it has ended is kept as far as its disk reaches, and just so far where no batch is pending. For each keeping that was
+-- answered Ok, so is whatever a crash left since its moment, as far as it reached; and so is whatever a crash left since the run began. No keeping's
+-- moment is before the run's begin or behind its end.
+pub record LeavesKept {D : Type 0} (met : Disks D) (first : State) (seen : ArrayLists) (begin after : D) (pending : Option (List Record)) (kept : Reach)
+    : Type 0 where
   pub images : (image : List ℕ) → met.images after image → IsKeptFrom first seen kept image
+  pub settled : pending ≡ None → (image : List ℕ) → met.images after image → IsKeptWith first seen kept image
   pub each : (k : Keeping) → IsIn seen.keepings k → k.answer ≡ Kept → (image : List ℕ) → met.left_since after k.moment image
       → IsKeptFrom first seen k.own image
   pub since : (image : List ℕ) → met.left_since after (met.moment begin) image → IsKeptFrom first seen nowhere image
@@ -74,7 +84,7 @@ pub record AreDoorsKept {F L D : Type 0} (met : Disks D) (desks : Ghosts (Journa
   pub closed_is : closed ≡ record { front = hall.front; kept = hall.kept; reports = hall.reports }
   pub last_is : last ≡ hall.last
   pub disk_is : after ≡ hall.desk.desk.disk
-  pub leaves : met.honest → LeavesKept met first is_closed.served.ended.seen (disk_of journal) after hall.desk.desk.kept
+  pub leaves : met.honest → LeavesKept met first is_closed.served.ended.seen (disk_of journal) after hall.desk.desk.pending hall.desk.desk.kept
 
 -- ---- what they came to
 

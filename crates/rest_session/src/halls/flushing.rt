@@ -3,6 +3,7 @@ ghost use Rattle.std.specs.Prelude.{◌≡◌};
 ghost use Rattle.access_lists.specs.Tokens.Bearer.{TokenTable};
 ghost use Rattle.hall.specs.Passes.{who};
 ghost use Rattle.rest_session.specs.Halls.Accounts.{HasAskedNothing, IsReady, account};
+ghost use Rattle.rest_session.specs.declared.halls.flushing.TheConstants.{TURNS_BETWEEN};
 
 use edge_traits::Disk;
 use hall::{Hall, JournalDesk, Pass};
@@ -13,6 +14,11 @@ use std::time::Duration;
 
 /// It flushes once so many turns of the register were passed since its last flush.
 const TURNS_BETWEEN: u64 = 64;
+
+/// The worker that flushes beside those at doors goes by 64 turns of the register.
+pub fn limit_of_turns()
+    ensures { TURNS_BETWEEN ≡ 64 }
+{}
 
 /// How long it sleeps between two looks, in milliseconds.
 const PAUSE: u64 = 20;

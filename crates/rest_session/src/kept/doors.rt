@@ -133,7 +133,8 @@ fn end_hall<D: Disk + Drop>(hall: ClosedHall<D>) -> EndedHall<D>
         → IsLegal (array_service (length first.lanes)) (opening (length first.lanes) first)
         (history_of (array_service (length first.lanes)) seen)
         → IsDeskAtEnd ⟦<JournalDesk<D> as AtDesk>⟧ start seen hall.desk
-        → LeavesKept D.Disk first seen (disk_of start.desk.value) result.disk hall.desk.desk.kept }
+        → LeavesKept D.Disk first seen (disk_of start.desk.value) result.disk hall.desk.desk.pending
+        hall.desk.desk.kept }
 {
     what_is_kept_stays_kept();
     let ClosedHall {

@@ -5,7 +5,7 @@ use Rattle.lane_histories.specs.declared.items.Reach.{Reach}
 use Rattle.hall.specs.JournalDesks.{LiesBetween}
 use Rattle.rest_session.specs.Kept.Doors.{IsKeptFrom}
 use Rattle.rest_session.proofs.OfHalls.Ends.{all_in}
-use Rattle.rest_session.proofs.OfKept.Doors.{kept_later}
+use Rattle.rest_session.proofs.OfKept.Doors.{kept_later, settled_later}
 use Rattle.rest_session.proofs.kept.doors.end_hall.Goals as goal
 
 pub returns-clause-leaves : goal.returns-clause-leaves
@@ -16,6 +16,9 @@ returns-clause-leaves g c = λ honest first start seen register owners legal des
     let disk = c.into_disk.ensures in record {
       images = λ image left.
           later d.kept image (c.images_are_kept.ensures.images honest image (subst (λ (x : g.row.D.Denot). met.images x image) disk left));
+      settled = λ none image left.
+          settled_later met first start seen d desk_is.since.1 desk_is.uncut register owners legal c.what_is_kept_stays_kept.ensures d.kept image
+          (c.images_are_kept.ensures.settled honest none image (subst (λ (x : g.row.D.Denot). met.images x image) disk left));
       each = λ k there kept image left.
           let here = subst (λ (x : g.row.D.Denot). met.left_since x k.moment image) disk left in
           ⊎_elim

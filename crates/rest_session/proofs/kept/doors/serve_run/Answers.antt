@@ -26,7 +26,7 @@ returns-in-Closed-clause-ended g c =
       last_is = e.last;
       disk_is = e.disk;
       leaves = λ honest.
-          subst (λ (j : Journal g.row.D.Denot met). LeavesKept met c.args.world s.ended.seen (disk_of j) c.end_hall-disk.result.disk hall.desk.desk.kept) closed.over
+          subst (λ (j : Journal g.row.D.Denot met). LeavesKept met c.args.world s.ended.seen (disk_of j) c.end_hall-disk.result.disk hall.desk.desk.pending hall.desk.desk.kept) closed.over
           (e.leaves honest c.args.world s.start s.ended.seen s.register s.owners (legal_first s.start s.last hall.world s.ended c.args.world s.register s.owners) s.desk_is);
     }
 
