@@ -96,10 +96,10 @@ module _ {F L D : Type 0} (met : Ghosts D) (desks : Desks met) (sides : Sides) (
   kept_or_refused (Some (init config journal lanes)) status h = none_closed closed c h.1 is
   kept_or_refused (Some (session config journal)) status h = of_session status h
   kept_or_refused (Some (serve config journal listen workers links)) status h = of_serve links status h.1
-  kept_or_refused (Some (export path journal)) status h = none_closed closed c h.2 is
+  kept_or_refused (Some (export path journal)) status h = none_closed closed c h.1 is
   kept_or_refused (Some (import path journal owner)) status h = none_closed closed c h.1 is
-  kept_or_refused (Some (sample n)) status h = none_closed closed c h.2 is
-  kept_or_refused (Some (verify journal)) status h = none_closed closed c h.2 is
+  kept_or_refused (Some (sample n)) status h = none_closed closed c h.1 is
+  kept_or_refused (Some (verify journal)) status h = none_closed closed c h.1 is
 
 -- so it is of a run, with its disk or without
 pub kept_of_run : {F L D : Type 0} (met : Ghosts D) (desks : Desks met) (words : List (List ℕ)) (sides : Sides) (doors : Doors F L) (before : D) (after : Option D) (closed : Option Closed) (c : Closed)

@@ -204,7 +204,7 @@ module _ {F L D : Type 0} (met : Ghosts D) (desks : Desks met) (honest : met.hon
   complete (init config journal lanes) status h u = of_init lanes config journal status h.0 u
   complete (session config journal) status h u = of_session config journal status h u
   complete (serve config journal listen workers links) status h u = of_serve config journal listen workers links status h.1 u
-  complete (export path journal) status h u = of_export path journal status h.0 u
+  complete (export path journal) status h u = of_export path journal status h.0.0 u
   complete (import path journal owner) status h u = of_import path journal owner status h.0 u
-  complete (sample n) status h u = of_sample n status h.0 u
-  complete (verify journal) status h u = of_verify journal status h.0 u
+  complete (sample n) status h u = of_sample n status h.0.0 u
+  complete (verify journal) status h u = of_verify journal status h.0.0 u

@@ -6,6 +6,7 @@ mod EndLemmas
 mod ExportLemmas
 mod ImportLemmas
 mod InitLemmas
+mod OperateLemmas
 mod Printing
 mod RunLemmas
 mod ServeLemmas

@@ -1,6 +1,6 @@
 -- What a command does, as what its words do.
-use Rattle.std.proofs.Common.{◌≡◌, ℕ, List, Option, Some, sym, subst}
-use Rattle.command_words.specs.Commands.{Command, command_of}
+use Rattle.std.proofs.Common.{◌≡◌, ℕ, List, Option, Some, None, sym, subst}
+use Rattle.command_words.specs.Commands.{Command, command_of, export, import, init, sample, serve, session, verify}
 use Rattle.edge_traits.specs.declared.disk.Disk.{Ghosts}
 use Rattle.edge_traits.specs.declared.door.Door as door
 use Rattle.edge_traits.specs.declared.sink.Sink as sink
@@ -10,9 +10,21 @@ use Rattle.hsds_cli.specs.declared.command_end.CommandEnd.{CommandEnd}
 use Rattle.hsds_cli.specs.declared.command_end.WithDoors.{WithDoors}
 use Rattle.hsds_cli.specs.declared.status.Status.{Status}
 use Rattle.hsds_cli.specs.Doors.{Doors, doors_of}
+use Rattle.hsds_cli.specs.Operated.{IsOperated}
 use Rattle.hsds_cli.specs.Runs.{IsCommanded, IsRun}
 use Rattle.hsds_cli.specs.Serves.{Desks}
 use Rattle.hsds_cli.specs.Sides.{Sides}
+
+-- what `operate` does is what its command does
+pub commanded : {F L D : Type 0} (met : Ghosts D) (desks : Desks met) (sides : Sides) (doors : Doors F L) (before after : D) (closed : Option Closed) (command : Command) (status : Status)
+    → IsOperated met command sides before after status → closed ≡ None → IsCommanded met desks (Some command) sides doors before after closed status
+commanded met desks sides doors before after closed (init config journal lanes) status did none = (did, none)
+commanded met desks sides doors before after closed (export path journal) status did none = (did, none)
+commanded met desks sides doors before after closed (import path journal owner) status did none = (did, none)
+commanded met desks sides doors before after closed (sample n) status did none = (did, none)
+commanded met desks sides doors before after closed (verify journal) status did none = (did, none)
+commanded met desks sides doors before after closed (session config journal) status did none = absurd did
+commanded met desks sides doors before after closed (serve config journal listen workers links) status did none = absurd did
 
 -- the doors come back as they were
 pub run_beside : {F L D : Type 0} (met : Ghosts D) (desks : Desks met) (words : List (List ℕ)) (sides : Sides) (tells : door.Ghosts F L) (reads : source.Ghosts L)

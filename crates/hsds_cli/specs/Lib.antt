@@ -7,6 +7,7 @@ pub mod Openings
 pub mod Exports
 pub mod Imports
 pub mod Sampled
+pub mod Operated
 pub mod Doors
 pub mod Serves
 pub mod Runs

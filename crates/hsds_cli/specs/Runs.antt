@@ -3,16 +3,13 @@ use Rattle.std.specs.Prelude.{◌≡◌, ◌⊎◌, ℕ, List, Option, Some, Non
 use Rattle.edge_traits.specs.Causes.{Rose}
 use Rattle.edge_traits.specs.declared.disk.Disk.{Ghosts}
 use Rattle.command_words.specs.Commands.{Command, command_of, export, import, init, sample, serve, session, verify}
-use Rattle.flush_journal.specs.Unchanged.{SameBytes}
 use Rattle.hsds_cli.specs.declared.closed.Closed.{Closed}
 use Rattle.hsds_cli.specs.declared.status.Status.{Status}
 use Rattle.hsds_cli.specs.declared.status.Status.TheVariants.{Words, Configuration, ReadFault, NoMemory}
 use Rattle.hsds_cli.specs.Doors.{Doors}
-use Rattle.hsds_cli.specs.Exports.{IsExported}
-use Rattle.hsds_cli.specs.Imports.{IsImported}
-use Rattle.hsds_cli.specs.Makings.{IsAsBefore, IsInit}
-use Rattle.hsds_cli.specs.Openings.{IsSession, IsVerified}
-use Rattle.hsds_cli.specs.Sampled.{IsSampled}
+use Rattle.hsds_cli.specs.Makings.{IsAsBefore}
+use Rattle.hsds_cli.specs.Openings.{IsSession}
+use Rattle.hsds_cli.specs.Operated.{IsOperated}
 use Rattle.hsds_cli.specs.Serves.{AreUnasked, Desks, IsDropped, IsServe}
 use Rattle.hsds_cli.specs.Sides.{IsUntouched, Sides, SpellsNone}
 
@@ -20,20 +17,13 @@ use Rattle.hsds_cli.specs.Sides.{IsUntouched, Sides, SpellsNone}
 abbrev pub IsNoCommand : Status → Type 0
 IsNoCommand status = (status ≡ Words) ⊎ (status ≡ NoMemory)
 
--- what a command does; `export` and `verify` write nothing to the disk, and `sample` doesn't touch it
+-- what a command does
 abbrev pub IsCommanded : {F L D : Type 0} (met : Ghosts D) → Desks met → Option Command → Sides → Doors F L → D → D → Option Closed → Status → Type 0
 IsCommanded met desks None sides doors before after closed status = IsNoCommand status × IsAsBefore sides before after × (closed ≡ None)
-IsCommanded met desks (Some (init config journal lanes)) sides doors before after closed status = IsInit met lanes sides before after status × (closed ≡ None)
 IsCommanded met desks (Some (session config journal)) sides doors before after closed status = IsSession met sides before after closed status
 IsCommanded met desks (Some (serve config journal listen workers links)) sides doors before after closed status =
     IsServe met desks links sides doors before (Some after) closed status
-IsCommanded met desks (Some (export path journal)) sides doors before after closed status =
-    IsExported met path sides before after status × (met.honest → SameBytes met before after) × (closed ≡ None)
-IsCommanded met desks (Some (import path journal owner)) sides doors before after closed status =
-    IsImported met path owner sides before after status × (closed ≡ None)
-IsCommanded met desks (Some (sample n)) sides doors before after closed status = IsSampled n sides status × (after ≡ before) × (closed ≡ None)
-IsCommanded met desks (Some (verify journal)) sides doors before after closed status =
-    IsVerified met sides before after status × (met.honest → SameBytes met before after) × (closed ≡ None)
+IsCommanded met desks (Some command) sides doors before after closed status = IsOperated met command sides before after status × (closed ≡ None)
 
 -- the numbers of the statuses at which the last keeping may have been refused
 abbrev pub MayBeUnkept : ℕ → Type 0

@@ -1,17 +1,25 @@
-//! The commands that wait for nobody: `init` makes a journal, `verify` tells of one, and `sample` tells of a world of its own.
+//! The commands that wait for nobody, by one call, `operate`. Of these `init` makes a journal, `verify` tells of one, and `sample` tells of
+//! a world of its own.
 
-ghost use Rattle.std.specs.Prelude.{◌≡◌, ◌≤◌, ℕ, List, None, Option};
+ghost use Rattle.std.specs.Prelude.{◌≡◌, ◌≤◌, ℕ, List, None, Option, Some};
+ghost use Rattle.command_words.specs.Views.{IsInRange, as_command};
 ghost use Rattle.edge_traits.specs.Causes.{Rose};
 ghost use Rattle.flush_journal.specs.Unchanged.{SameBytes, SameDisk};
 ghost use Rattle.hsds_cli.specs.Lines.{IsPrinted, IsTold, verify_line};
 ghost use Rattle.hsds_cli.specs.Makings.{IsInit, making_status};
 ghost use Rattle.hsds_cli.specs.Openings.{IsVerified, opening_status};
+ghost use Rattle.hsds_cli.specs.Operated.{IsOperated, IsOperatedStatus, WaitsForNobody};
+ghost use Rattle.hsds_cli.specs.Runs.{IsUnconfigured, TakesNone};
+ghost use Rattle.hsds_cli.specs.Sides.{sides_of};
 ghost use Rattle.samples.specs.Values.Samples.{sample_text};
 
 use crate::command_end::CommandEnd;
 use crate::configured::configured;
+use crate::export::export;
+use crate::import::import;
 use crate::lines::{made_line, report_line};
 use crate::status::Status;
+use command_words::Wanted;
 use edge_traits::{Disk, Failed, Sink, Source, write_all};
 use flush_journal::{JournalRefused, Report, Why};
 use samples::sample_text;
@@ -19,6 +27,48 @@ use service_core::journals::{
     OpenFault, OpenRefused, Opened, first_roots_by_runs_and_serials, make_journal, open_world,
 };
 use std::alloc::Global;
+
+/// Does a command that waits for nobody: any but `session` and `serve`. It is given no leave to wait or to make threads.
+pub fn operate<C: Source, S: Source, K: Sink, D: Disk>(
+    alloc: Global,
+    wanted: &Wanted<'_>,
+    config: &mut C,
+    input: &mut S,
+    out: &mut K,
+    disk: D,
+) -> CommandEnd<D>
+    requires range { IsInRange wanted.now }
+    requires nobody { WaitsForNobody (as_command wanted.now) }
+    ensures operated { IsOperated D.Disk (as_command wanted.now) (sides_of C.Source S.Source K.Sink
+        config.old config.new input.old input.new out.old out.new)
+        disk result.disk result.status }
+
+    // So it never ends with the numbers 1, 9, 10 and 12.
+    ensures statuses { IsOperatedStatus result.status }
+
+    ensures same { SameDisk D.Disk disk result.disk }
+    ensures closed { result.closed ≡ None }
+    ensures config_later { C.faults config.old ≤ C.faults config.new }
+    ensures input_later { S.faults input.old ≤ S.faults input.new }
+    ensures out_later { K.faults out.old ≤ K.faults out.new }
+
+    // The configuration is read by `init` alone, and the input by `import`.
+    ensures unread { IsUnconfigured (Some (as_command wanted.now)) → config.new ≡ config.old }
+    ensures untaken { TakesNone (Some (as_command wanted.now)) → input.new ≡ input.old }
+{
+    match wanted {
+        Wanted::Init { lanes, .. } => init(alloc, *lanes, config, out, disk),
+        Wanted::Export { path, .. } => export(alloc, path, out, disk),
+        Wanted::Import { path, owner, .. } => import(alloc, path, owner, input, out, disk),
+        Wanted::Sample { n } => CommandEnd {
+            status: sample(alloc, *n, out),
+            disk,
+            closed: None,
+        },
+        Wanted::Verify { .. } => verify(alloc, out, disk),
+        Wanted::Session { .. } | Wanted::Serve { .. } => unreachable!(),
+    }
+}
 
 /// Makes a journal for so many lanes of the configured folders and domains, and prints their numbers.
 pub fn init<C: Source, K: Sink, D: Disk>(

@@ -11,9 +11,7 @@ ghost use Rattle.hsds_cli.specs.Sides.{sides_of};
 
 use crate::closed::Closed;
 use crate::command_end::{CommandEnd, WithDoors};
-use crate::export::export;
-use crate::import::import;
-use crate::operate::{init, sample, verify};
+use crate::operate::operate;
 use crate::serve::{serve, unserved};
 use crate::session::session;
 use crate::status::Status;
@@ -148,15 +146,9 @@ where
     ensures unopened { OpensNone (command_of (map string_bytes words.now)) → result.doors ≡ doors }
 {
     match wanted(alloc, words) {
-        Ok(Wanted::Init { lanes, .. }) => init(alloc, lanes, config, out, disk).beside(doors),
         Ok(Wanted::Session { .. }) => session(alloc, config, input, out, disk).beside(doors),
         Ok(Wanted::Serve { links, .. }) => serve(rt, alloc, links, config, disk, doors),
-        Ok(Wanted::Export { path, .. }) => export(alloc, &path, out, disk).beside(doors),
-        Ok(Wanted::Import { path, owner, .. }) => {
-            import(alloc, &path, &owner, input, out, disk).beside(doors)
-        }
-        Ok(Wanted::Sample { n }) => unserved(sample(alloc, n, out), disk, doors),
-        Ok(Wanted::Verify { .. }) => verify(alloc, out, disk).beside(doors),
+        Ok(command) => operate(alloc, &command, config, input, out, disk).beside(doors),
         Err(WordsFault::Refused) => unserved(Status::Words, disk, doors),
         Err(WordsFault::NoMemory) => unserved(Status::NoMemory, disk, doors),
     }
