@@ -5,3 +5,6 @@ pub mod EntryLemmas
 pub mod DocumentLemmas
 pub mod RangeLemmas
 pub mod LengthLemmas
+pub mod TokenLemmas
+pub mod CollectedLemmas
+pub mod WritingLemmas

@@ -4,4 +4,6 @@ pub mod Documents
 pub mod Ranges
 pub mod Lengths
 pub mod Printed
+pub mod Writing
+pub mod Collected
 pub mod Laws

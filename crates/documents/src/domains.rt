@@ -9,10 +9,11 @@ mod links;
 mod printed;
 mod ranges;
 mod store;
+mod writing;
 
 pub use collections::domain_json;
 pub use entries::entry_json;
 pub use home::Home;
 pub use laws::{collections_by_ids, documents_have_least_lengths, documents_have_no_floats};
-pub use printed::{MAX_TEXT, PrintFault, Printed, print_domain};
+pub use printed::{MAX_TEXT, PrintFault, print_domain};
 pub use store::ObjectStore;

@@ -11,7 +11,7 @@ ghost use Rattle.json_export.specs.Documents.{home_at, home_of};
 
 use crate::faults::ExportFault;
 use crate::worlds::WorldObjects;
-use documents::domains::{Home, Printed, print_domain};
+use documents::domains::{Home, domain_json, print_domain};
 use domains::NodeClass;
 use object_ids::DomainPath;
 use serde_json::Value;
@@ -33,8 +33,7 @@ pub fn document(alloc: Global, world: &World, path: &DomainPath) -> Result<Value
     ensures early { CannotFit (seen world.now) (home_at (seen world.now) path.now)
         → result ≡ Err ExportFault.TooLarge }
 {
-    let Printed { tree, .. } = printed(alloc, world, path)?;
-    Ok(tree)
+    tree_at(alloc, world, path)
 }
 
 /// The compact text of that document, which is read as the document, where it nests no deeper than is read.
@@ -53,18 +52,31 @@ pub fn document_text(alloc: Global, world: &World, path: &DomainPath) -> Result<
     ensures early { CannotFit (seen world.now) (home_at (seen world.now) path.now)
         → result ≡ Err ExportFault.TooLarge }
 {
-    let Printed { text, .. } = printed(alloc, world, path)?;
-    Ok(text)
+    text_at(alloc, world, path)
 }
 
-// The document at a path with its text, where there is one that isn't too long.
-fn printed(alloc: Global, world: &World, path: &DomainPath) -> Result<Printed, ExportFault>
-    ensures answer { Answers (λ p tree. IsPrinted tree p) result (doc (seen world.now) path.now) }
+// The text of the document at a path, where there is one that isn't too long.
+fn text_at(alloc: Global, world: &World, path: &DomainPath) -> Result<String, ExportFault>
+    ensures answer { Answers (λ text tree. IsPrinted tree (string_bytes text)) result
+        (doc (seen world.now) path.now) }
     ensures early { CannotFit (seen world.now) (home_at (seen world.now) path.now)
         → result ≡ Err ExportFault.TooLarge }
 {
     match home_at(world, path) {
-        Some(home) => domain_printed(alloc, world, &home),
+        Some(home) => domain_text(alloc, world, &home),
+        None => Err(ExportFault::NoDomain),
+    }
+}
+
+// The document at a path, where there is one whose text isn't too long.
+fn tree_at(alloc: Global, world: &World, path: &DomainPath) -> Result<Value, ExportFault>
+    ensures answer { Answers (λ found tree. view found ≡ tree) result
+        (doc (seen world.now) path.now) }
+    ensures early { CannotFit (seen world.now) (home_at (seen world.now) path.now)
+        → result ≡ Err ExportFault.TooLarge }
+{
+    match home_at(world, path) {
+        Some(home) => domain_tree(alloc, world, &home),
         None => Err(ExportFault::NoDomain),
     }
 }
@@ -89,10 +101,31 @@ fn home_of(class: &NodeClass) -> Option<Home>
     }
 }
 
-fn domain_printed(alloc: Global, world: &World, home: &Home) -> Result<Printed, ExportFault>
-    ensures answer { Answers (λ p tree. IsPrinted tree p) result
+// The text of a domain's document.
+fn domain_text(alloc: Global, world: &World, home: &Home) -> Result<String, ExportFault>
+    ensures answer { Answers (λ text tree. IsPrinted tree (string_bytes text)) result
         (Some (document_tree (seen world.now).objects home.now)) }
     ensures early { CannotFit (seen world.now) (Some home.now) → result ≡ Err ExportFault.TooLarge }
 {
     Ok(print_domain(alloc, &WorldObjects { world }, home)?)
+}
+
+// A domain's document, where its text isn't too long. The text is let go before the tree is made.
+fn domain_tree(alloc: Global, world: &World, home: &Home) -> Result<Value, ExportFault>
+    ensures answer { Answers (λ found tree. view found ≡ tree) result
+        (Some (document_tree (seen world.now).objects home.now)) }
+    ensures early { CannotFit (seen world.now) (Some home.now) → result ≡ Err ExportFault.TooLarge }
+{
+    check_text(alloc, world, home)?;
+    Ok(domain_json(alloc, &WorldObjects { world }, home)?)
+}
+
+// Whether the text of a domain's document isn't too long.
+fn check_text(alloc: Global, world: &World, home: &Home) -> Result<(), ExportFault>
+    ensures answer { Answers (λ _ tree. compact_text tree ≡ compact_text tree) result
+        (Some (document_tree (seen world.now).objects home.now)) }
+    ensures early { CannotFit (seen world.now) (Some home.now) → result ≡ Err ExportFault.TooLarge }
+{
+    domain_text(alloc, world, home)?;
+    Ok(())
 }

@@ -4,6 +4,7 @@ ghost use Rattle.std.specs.Prelude.{◌≡◌};
 ghost use Rattle.json_export.specs.Faults.{of_print};
 
 use documents::domains::PrintFault;
+use std::alloc::AllocError;
 
 /// Why a document is not given.
 #[derive(Clone, Copy, Debug, PartialEq, Eq)]
@@ -24,5 +25,15 @@ impl From<PrintFault> for ExportFault {
             PrintFault::TooLarge => ExportFault::TooLarge,
             PrintFault::NoMemory => ExportFault::NoMemory,
         }
+    }
+}
+
+impl From<AllocError> for ExportFault {
+    ghost use Rattle.json_export.specs.declared.faults.ExportFault.TheVariants.{NoMemory};
+
+    ghost from_gives = { λ _ e. e ≡ NoMemory };
+
+    fn from(_error: AllocError) -> ExportFault {
+        ExportFault::NoMemory
     }
 }

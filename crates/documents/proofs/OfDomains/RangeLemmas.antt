@@ -24,6 +24,7 @@ use Rattle.documents.specs.Domains.Entries.{entry_tree}
 use Rattle.documents.specs.Domains.Lengths.{AreInRangeFrom, least_at, least_body, least_values}
 use Rattle.documents.specs.Domains.Ranges.{IsFirstOf, IsNextOf}
 use Rattle.documents.specs.declared.domains.home.Home.{Home}
+use Rattle.documents.proofs.OfDomains.MemberLemmas.{AreWithin, all_within}
 
 -- ---- the order of ids, by kind and domain
 
@@ -62,11 +63,11 @@ no_greater_domain a b same e =
 
 -- ---- of which kind and domain an id is
 
-record IsHere (k : Kind) (h : Home) (id : Id) : Type 0 where
-  rank : kind_rank id.kind ≡ kind_rank k
-  domain : id.domain ≡ h.number
+pub record IsHere (k : Kind) (h : Home) (id : Id) : Type 0 where
+  pub rank : kind_rank id.kind ≡ kind_rank k
+  pub domain : id.domain ≡ h.number
 
-is_here : (k : Kind) (h : Home) (id : Id) → is_of k h id ≡ true → IsHere k h id
+pub is_here : (k : Kind) (h : Home) (id : Id) → is_of k h id ≡ true → IsHere k h id
 is_here k h id is =
     let parts = and_parts (kind_rank id.kind == kind_rank k) (id.domain == h.number) is in
     record { rank = eqb-true (kind_rank id.kind) (kind_rank k) parts.0; domain = eqb-true id.domain h.number parts.1 }
@@ -209,31 +210,53 @@ adds_elsewhere h q (Some o) n isnt = ap (λ b. n + cond b (least_body o.body) 0)
   nothing : (n : ℕ) → n + 0 ≡ n
   nothing n = omega arith
 
+-- ---- what holds of each entry of the kind in the domain
+
+module _ (m : Objects) (h : Home) (k : Kind) (P : Id × Object → Type 0) where
+  abbrev pub HoldsOf : List (Id × Object) → Type 0
+  HoldsOf = AllByRecursion (λ e. is_of k h e.0 ≡ true → P e)
+
+  -- it holds of what stands at an id, where that is of the kind in the domain
+  abbrev pub HoldsAt : Id → Type 0
+  HoldsAt id = (o : Object) → get m id ≡ Some o → is_of k h id ≡ true → P (id, o)
+
+  from_first_on : (first : Id) → IsFirstOf k h first → HoldsAt first → (es : List (Id × Object)) → AreWithin (is_of k h) (entry_tree m h) es (entries m) → HoldsOf (left id_order (Some first) es) → HoldsOf es
+  from_first_on first is here [] within all = tt
+  from_first_on first is here (e ∷ es) within all = at (id_order first e.0) refl all (from_first_on first is here es within.1) where
+    at : (o : Ordering) → id_order first e.0 ≡ o → HoldsOf (left id_order (Some first) (e ∷ es)) → (HoldsOf (left id_order (Some first) es) → HoldsOf es) → HoldsOf (e ∷ es)
+    at Less before all later =
+        let both = subst (λ (o : Ordering). HoldsOf (cond (is_lt o) (e ∷ left id_order (Some first) es) (left id_order (Some first) es))) before all in
+        (both.0, later both.1)
+    at Equal same all later = (
+      (λ one. subst HoldsAt (id_order_once first e.0 same) here e.1 (get-entries m e.0 ∙ within.0) one),
+      later (subst (λ (o : Ordering). HoldsOf (cond (is_lt o) (e ∷ left id_order (Some first) es) (left id_order (Some first) es))) same all),
+    )
+    at Greater past all later = (
+      (λ one. contrary (is_of k h e.0) (P e) one (before_first k h first e.0 is past)),
+      later (subst (λ (o : Ordering). HoldsOf (cond (is_lt o) (e ∷ left id_order (Some first) es) (left id_order (Some first) es))) past all),
+    )
+
+  pub holds_first : (first : Id) → IsFirstOf k h first → HoldsAt first → HoldsOf (left id_order (Some first) (entries m)) → HoldsOf (entries m)
+  holds_first first is here all = from_first_on first is here (entries m) (all_within (is_of k h) (entry_tree m h) (entries m) (entries_sorted m)) all
+
+  pub holds_more : (after id : Id) → IsKeyStep m (Some after) (Some id) → HoldsAt id → HoldsOf (left id_order (Some id) (entries m)) → HoldsOf (left id_order (Some after) (entries m))
+  holds_more after id step here behind = subst HoldsOf (sym step.2) ((λ one. here step.0 step.1 one), behind)
+
+  holds_of_none : (es : List (Id × Object)) → AllIds (λ q. is_of k h q ≡ false) es → HoldsOf es
+  holds_of_none [] none = tt
+  holds_of_none (e ∷ es) none = ((λ one. contrary (is_of k h e.0) (P e) one none.0), holds_of_none es none.1)
+
+  pub holds_last : (last : Id) → last.kind ≡ k → IsNextOf m h last None → HoldsOf (left id_order (Some last) (entries m))
+  holds_last last kind none = holds_of_none (left id_order (Some last) (entries m)) (subst (λ (x : Kind). AllIds (λ q. is_of x h q ≡ false) (left id_order (Some last) (entries m))) kind none)
+
 -- ---- ids that are in range
 
 module _ (m : Objects) (h : Home) where
-  pub range_first : (first : Id) → IsFirstOf Dataset h first → (es : List (Id × Object)) → AreInRangeFrom h (left id_order (Some first) es) → AreInRangeFrom h es
-  range_first first is [] all = tt
-  range_first first is (e ∷ es) all = at (id_order first e.0) refl all (range_first first is es) where
-    at : (o : Ordering) → id_order first e.0 ≡ o → AreInRangeFrom h (left id_order (Some first) (e ∷ es)) → (AreInRangeFrom h (left id_order (Some first) es) → AreInRangeFrom h es) → AreInRangeFrom h (e ∷ es)
-    at Less before all later =
-        let both = subst (λ (o : Ordering). AreInRangeFrom h (cond (is_lt o) (e ∷ left id_order (Some first) es) (left id_order (Some first) es))) before all in
-        (both.0, later both.1)
-    at Equal same all later = (
-      (λ here. subst InRange (id_order_once first e.0 same) is.range),
-      later (subst (λ (o : Ordering). AreInRangeFrom h (cond (is_lt o) (e ∷ left id_order (Some first) es) (left id_order (Some first) es))) same all),
-    )
-    at Greater past all later = (
-      (λ here. contrary (is_of Dataset h e.0) (InRange e.0) here (before_first Dataset h first e.0 is past)),
-      later (subst (λ (o : Ordering). AreInRangeFrom h (cond (is_lt o) (e ∷ left id_order (Some first) es) (left id_order (Some first) es))) past all),
-    )
+  pub range_first : (first : Id) → IsFirstOf Dataset h first → AreInRangeFrom h (left id_order (Some first) (entries m)) → AreInRangeFrom h (entries m)
+  range_first first is = holds_first m h Dataset (λ e. InRange e.0) first is (λ o there one. is.range)
 
   pub range_more : (after id : Id) → IsKeyStep m (Some after) (Some id) → InRange id → AreInRangeFrom h (left id_order (Some id) (entries m)) → AreInRangeFrom h (left id_order (Some after) (entries m))
-  range_more after id step range behind = subst (AreInRangeFrom h) (sym step.2) ((λ here. range), behind)
-
-  none_to_range : (es : List (Id × Object)) → AllIds (λ q. is_of Dataset h q ≡ false) es → AreInRangeFrom h es
-  none_to_range [] none = tt
-  none_to_range (e ∷ es) none = ((λ here. contrary (is_of Dataset h e.0) (InRange e.0) here none.0), none_to_range es none.1)
+  range_more after id step range = holds_more m h Dataset (λ e. InRange e.0) after id step (λ o there one. range)
 
   pub range_last : (last : Id) → last.kind ≡ Dataset → IsNextOf m h last None → AreInRangeFrom h (left id_order (Some last) (entries m))
-  range_last last kind none = none_to_range (left id_order (Some last) (entries m)) (subst (λ (x : Kind). AllIds (λ q. is_of x h q ≡ false) (left id_order (Some last) (entries m))) kind none)
+  range_last last kind none = holds_last m h Dataset (λ e. InRange e.0) last kind none

@@ -1,31 +1,22 @@
-//! A document with its text.
+//! The text of a document.
 
-ghost use Rattle.std.specs.Prelude.{◌≡◌, ◌<◌, ◌≤◌, ◌^◌, Err, IfErr, IfOk, length};
+ghost use Rattle.std.specs.Prelude.{◌≡◌, ◌<◌, ◌≤◌, ◌^◌, Err, IfErr, IfOk, length, string_bytes};
 ghost use Rattle.std.specs.FinMap.{entries};
 ghost use Rattle.serde_json.specs.Written.{compact_text};
 ghost use Rattle.documents.specs.Domains.Documents.{document_tree};
 ghost use Rattle.documents.specs.Domains.Lengths.{least_values};
 ghost use Rattle.documents.specs.Domains.Printed.{IsPrinted};
 
-use crate::domains::collections::domain_json;
 use crate::domains::home::Home;
-use crate::domains::laws::{documents_have_least_lengths, documents_have_no_floats};
+use crate::domains::laws::documents_have_least_lengths;
 use crate::domains::lengths::least_length;
 use crate::domains::store::ObjectStore;
-use serde_json::Value;
+use crate::domains::writing::write_document;
+use json::Writer;
 use std::alloc::{AllocError, Global};
 
 /// The most bytes of a document's text: 2^27.
 pub const MAX_TEXT: usize = 134_217_728;
-
-/// A document, and its compact text.
-#[derive(Drop)]
-pub struct Printed {
-    /// The document.
-    pub tree: Value,
-    /// Its compact text.
-    pub text: String,
-}
 
 /// Why a document is not printed.
 #[derive(Clone, Copy, Debug, PartialEq, Eq)]
@@ -46,8 +37,8 @@ impl From<AllocError> for PrintFault {
     }
 }
 
-/// The document of a domain with its text, where that isn't too long. Where the shapes of the datasets alone ask for a longer
-/// text, that is told before a value is read.
+/// The compact text of a domain's document, where that isn't too long; it is printed object by object, and no tree of the
+/// whole is made. Where the shapes of the datasets alone ask for a longer text, that is told before a value is read.
 ///
 /// # Errors
 ///
@@ -57,8 +48,9 @@ pub fn print_domain<S: ObjectStore>(
     alloc: Global,
     store: &S,
     home: &Home,
-) -> Result<Printed, PrintFault>
-    ensures printed { IfOk result (IsPrinted (document_tree (S.objects store.now) home.now)) }
+) -> Result<String, PrintFault>
+    ensures printed { IfOk result
+        (λ text. IsPrinted (document_tree (S.objects store.now) home.now) (string_bytes text)) }
     ensures short { IfOk result
         (λ _. length (compact_text (document_tree (S.objects store.now) home.now)) ≤ 2 ^ 27) }
     ensures large { result ≡ Err PrintFault.TooLarge
@@ -66,15 +58,22 @@ pub fn print_domain<S: ObjectStore>(
     ensures early { 2 ^ 27 < least_values home.now (entries (S.objects store.now))
         → result ≡ Err PrintFault.TooLarge }
 {
-    documents_have_no_floats();
     documents_have_least_lengths();
     if least_length(store, home) > MAX_TEXT as u64 {
         return Err(PrintFault::TooLarge);
     }
-    let tree = domain_json(alloc, store, home)?;
-    let text = tree.to_string(alloc)?;
+    let text = text_of(alloc, store, home)?;
     check_length(text.as_str())?;
-    Ok(Printed { tree, text })
+    Ok(text)
+}
+
+fn text_of<S: ObjectStore>(alloc: Global, store: &S, home: &Home) -> Result<String, AllocError>
+    ensures { IfOk result
+        (λ text. IsPrinted (document_tree (S.objects store.now) home.now) (string_bytes text)) }
+{
+    let mut writer = Writer::new(Vec::new(alloc));
+    write_document(alloc, store, home, &mut writer)?;
+    Ok(unsafe { String::from_utf8_unchecked(writer.into_inner()) })
 }
 
 // Refuses a text that is too long, and that alone: it takes no memory.

@@ -16,7 +16,7 @@ loop-id-init g c =
       c.least_at-total.ensures,
       walk_first m h Dataset (added_all h) (added h) (adds_one h) (adds_none h) (adds_elsewhere h) first 0 _ c.first_id-last.ensures (omega arith),
       c.first_id-last.ensures.kind,
-      range_first m h first c.first_id-last.ensures (entries m),
+      range_first m h first c.first_id-last.ensures,
     )
 
 pub loop-id-smaller : goal.loop-id-smaller
