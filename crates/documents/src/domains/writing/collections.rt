@@ -24,10 +24,10 @@ use std::cmp::Ordering;
 
 /// Writes a key and the objects of a kind, each at the text of its id; among them the root, also where it is held nowhere.
 pub(crate) fn write_collection<S: ObjectStore>(
-    key: &str,
     alloc: Global,
     store: &S,
     home: &Home,
+    key: &str,
     kind: Kind,
     writer: &mut Writer,
 ) -> Result<(), AllocError>

@@ -1,4 +1,4 @@
-//! The entry of one object.
+//! The entry of one object; that of a dataset with its value straight from bytes.
 
 ghost use Rattle.std.specs.Prelude.{◌≡◌, OnOk, codes, false};
 ghost use Rattle.serde_json.specs.View.{view};

@@ -29,9 +29,9 @@ pub(crate) fn write_document<S: ObjectStore>(
     let root = id_text(alloc, &home.root)?;
     writer.begin_object()?;
     write_text("apiVersion", "1.1.1", writer)?;
-    write_collection("datasets", alloc, store, home, Kind::Dataset, writer)?;
-    write_collection("datatypes", alloc, store, home, Kind::Datatype, writer)?;
-    write_collection("groups", alloc, store, home, Kind::Group, writer)?;
+    write_collection(alloc, store, home, "datasets", Kind::Dataset, writer)?;
+    write_collection(alloc, store, home, "datatypes", Kind::Datatype, writer)?;
+    write_collection(alloc, store, home, "groups", Kind::Group, writer)?;
     write_text("root", root.as_str(), writer)?;
     writer.end_object()
 }
