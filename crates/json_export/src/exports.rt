@@ -116,16 +116,6 @@ fn domain_tree(alloc: Global, world: &World, home: &Home) -> Result<Value, Expor
         (Some (document_tree (seen world.now).objects home.now)) }
     ensures early { CannotFit (seen world.now) (Some home.now) → result ≡ Err ExportFault.TooLarge }
 {
-    check_text(alloc, world, home)?;
-    Ok(domain_json(alloc, &WorldObjects { world }, home)?)
-}
-
-// Whether the text of a domain's document isn't too long.
-fn check_text(alloc: Global, world: &World, home: &Home) -> Result<(), ExportFault>
-    ensures answer { Answers (λ _ tree. compact_text tree ≡ compact_text tree) result
-        (Some (document_tree (seen world.now).objects home.now)) }
-    ensures early { CannotFit (seen world.now) (Some home.now) → result ≡ Err ExportFault.TooLarge }
-{
     domain_text(alloc, world, home)?;
-    Ok(())
+    Ok(domain_json(alloc, &WorldObjects { world }, home)?)
 }

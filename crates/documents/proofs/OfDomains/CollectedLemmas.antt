@@ -8,7 +8,7 @@ use Rattle.std.specs.Ordering.{match_ordering}
 use Rattle.std.proofs.lemmas.Cmp.{tied_itself}
 use Rattle.std.proofs.lemmas.List.{nil_from_length}
 use Rattle.std.proofs.lemmas.Result.{on_ok_weaker}
-use Rattle.json.specs.Token.{Token, end_object}
+use Rattle.json.specs.Token.{Token}
 use Rattle.json.specs.Tree.{members_tokens}
 use Rattle.json.specs.Written.{Written}
 use Rattle.serde_json.specs.Data.{Data, Members, array, no_items, no_members, member, put}
@@ -31,7 +31,7 @@ use Rattle.attributes.specs.AttributeTrees.{entry_tree as attribute_entry}
 use Rattle.groups_links.specs.declared.target.LinkTo.{LinkTo}
 use Rattle.object_acts.specs.Objects.{empty_group, Objects}
 use Rattle.object_acts.specs.declared.objects.Object.{Object}
-use Rattle.documents.specs.Domains.Collected.{end_tokens, is_due_behind, root_tokens, tokens_before, with_each, with_found, with_object}
+use Rattle.documents.specs.Domains.Collected.{end_tokens, is_due_behind, tokens_before, with_each, with_found, with_object}
 use Rattle.documents.specs.Domains.Documents.{is_of, put_each}
 use Rattle.object_records.specs.Objects.{group_tree}
 use Rattle.documents.specs.Domains.Entries.{entry_tree, links_tree, shown_links}

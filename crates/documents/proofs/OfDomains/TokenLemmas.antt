@@ -1,5 +1,5 @@
 -- Trees as tokens, and what is read of them.
-use Rattle.std.proofs.Common.{◌≡◌, ◌≤◌, ◌<◌, ◌^◌, ℕ, suc, max, ℤ, pos, negsuc, int_lt, SFits, w64, true, decimal, List, [], ◌∷◌, ◌++◌, String, Global, string_bytes, string_cmp, Result, OnOk, Option, Some, None, option_map, option_and_then, Ordering, Less, Equal, Greater, refl, sym, ap, ap₂, subst, ◌∙◌, append_assoc, append-nil, arith}
+use Rattle.std.proofs.Common.{◌≡◌, ◌≤◌, ◌<◌, ◌^◌, ℕ, suc, max, ℤ, pos, negsuc, int_lt, SFits, w64, true, decimal, List, [], ◌∷◌, ◌++◌, String, Global, string_bytes, string_cmp, Result, OnOk, Some, None, option_map, option_and_then, Ordering, Less, refl, sym, ap, ap₂, subst, ◌∙◌, append_assoc, append-nil, arith}
 use Rattle.std.proofs.lemmas.Result.{on_ok_weaker}
 use Rattle.std.specs.List.{AllByRecursion}
 use Rattle.std.specs.List.Sorted.{IsStrictlySortedBy}

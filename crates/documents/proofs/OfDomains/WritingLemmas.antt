@@ -6,7 +6,7 @@ use Rattle.json.specs.Print.{print}
 use Rattle.json.specs.Token.{begin_object, end_object}
 use Rattle.json.specs.Tree.{json_tokens, members_tokens}
 use Rattle.json.specs.Written.{Written, Writes}
-use Rattle.serde_json.specs.Data.{Data, Members, member, no_members, object, string}
+use Rattle.serde_json.specs.Data.{Data, Members, member, no_members, object}
 use Rattle.serde_json.specs.Written.{members_outline, outline}
 use Rattle.json_trees.specs.Copied.{Adds}
 use Rattle.hdf_types.specs.Elems.{Elem}

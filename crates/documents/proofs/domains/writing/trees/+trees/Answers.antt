@@ -1,10 +1,7 @@
 -- Nothing is left: all tokens were written, and what they are is read back.
-use Rattle.std.proofs.Common.{◌≡◌, [], sym, ap, subst, arith, drop, ◌∙◌}
+use Rattle.std.proofs.Common.{◌≡◌, [], subst, arith, drop}
 use Rattle.std.proofs.lemmas.List.{drop_all}
 use Rattle.std.proofs.lemmas.Result.{on_ok_weaker}
-use Rattle.std.specs.List.Sorted.{IsStrictlySortedBy}
-use Rattle.std.specs.Map.{keys_of as map_keys}
-use Rattle.std.specs.String.{string_cmp}
 use Rattle.json.specs.Token.{end_array, end_object}
 use Rattle.json.specs.Tree.{items_tokens, members_tokens}
 use Rattle.serde_json.specs.View.{items_view, members_view}
