@@ -6,3 +6,4 @@ pub mod IndexLemmas
 pub mod ListedLemmas
 pub mod CellLemmas
 pub mod SpelledLemmas
+pub mod NullLemmas

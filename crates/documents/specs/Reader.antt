@@ -3,3 +3,5 @@ pub mod Collections
 pub mod Texts
 pub mod Documents
 pub mod Loads
+pub mod Bare
+pub mod Kept

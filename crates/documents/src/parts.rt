@@ -10,6 +10,7 @@ mod faults;
 mod fresh_arrays;
 mod ids;
 mod items;
+mod kept_values;
 mod laws;
 mod link_lists;
 mod names;
@@ -19,6 +20,7 @@ mod targets;
 mod title_maps;
 mod types;
 
+pub(crate) use arrays::array_of;
 pub use arrays::read_array;
 pub use attribute_lists::{MAX_ATTRIBUTE_CELLS, read_attributes};
 pub use faults::{AttributesFault, DocCause, DocFault, refused, refused_at, refused_whole};

@@ -5,6 +5,8 @@
 //! 255 bytes. What is read, or what is at fault, is one definition of the bytes; and what is read is
 //! related to the tree without an order of tests and without paths.
 
+mod bare_datasets;
+mod bare_documents;
 mod collections;
 mod laws;
 mod loaded;

@@ -74,6 +74,11 @@ valued path (Err f) = Err (value_fault path)
 abbrev pub value_at : List ℕ → Elem → Shape → Data → Result (List ℕ) Fault
 value_at path e s d = valued path (value_from e s d)
 
+-- a value that is kept apart, else the one that stands in a tree
+abbrev pub or_else : Option Data → Option Data → Option Data
+or_else None o = o
+or_else (Some d) o = Some d
+
 -- ---- the array
 
 -- an array of this type and shape, of which no cell was written
@@ -96,3 +101,11 @@ array_at path d =
     shape_at path (get (codes "shape") d) >>= λ (s : Shape).
     creation_at path e s (get (codes "creationProperties") d) >>= λ (p : List ℕ × Option (List ℕ)).
     filled_at path e s p (get (codes "value") d)
+
+-- the same, where the value may be kept apart from the dataset
+unfoldable pub array_with : List ℕ → Option Data → Data → Result Grid Fault
+array_with path value d =
+    kind_at path (get (codes "type") d) >>= λ (e : Elem).
+    shape_at path (get (codes "shape") d) >>= λ (s : Shape).
+    creation_at path e s (get (codes "creationProperties") d) >>= λ (p : List ℕ × Option (List ℕ)).
+    filled_at path e s p (or_else value (get (codes "value") d))

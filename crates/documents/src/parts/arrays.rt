@@ -1,6 +1,7 @@
 //! The arrays of datasets of a document.
 
-ghost use Rattle.std.specs.Prelude.{◌≡◌, [], IfOk, IfSome};
+ghost use Rattle.std.specs.Prelude.{◌≡◌, [], IfOk, IfSome, Some};
+ghost use Rattle.std.specs.Option.{option_copied};
 ghost use Rattle.serde_json.specs.View.{view};
 ghost use Rattle.json_trees.specs.Shown.{shown};
 ghost use Rattle.hdf_types.specs.Reading.{size_of};
@@ -11,7 +12,7 @@ ghost use Rattle.hdf_values.specs.Elements.{IsEncoded};
 ghost use Rattle.hdf_values.specs.Nested.{AreEncoded};
 ghost use Rattle.chunk_layout.specs.Layouts.{Fits};
 ghost use Rattle.object_ops.specs.Creation.Creations.{shown_creation};
-ghost use Rattle.documents.specs.Parts.Arrays.{array_at, creation_at, filled_at, shape_at};
+ghost use Rattle.documents.specs.Parts.Arrays.{array_at, array_with, creation_at, filled_at, shape_at};
 ghost use Rattle.documents.specs.Parts.Arrays.{IsCreationTold, IsValueTold, value_at, with_bytes};
 ghost use Rattle.chunk_store.specs.Marks.{IsTracked};
 ghost use Rattle.documents.specs.Parts.Faults.{Answers, Gives, Tells, fault};
@@ -20,10 +21,12 @@ ghost use Rattle.documents.specs.declared.parts.faults.DocCause.TheVariants.{Bad
 
 use crate::parts::faults::{DocCause, DocFault, refused_at};
 use crate::parts::fresh_arrays::FreshArray;
+use crate::parts::kept_values::read_kept_value;
 use crate::parts::types::read_kind;
 use chunk_store::Array;
 use hdf_types::ElemType;
 use hdf_values::{ValueFault, read_value};
+use json_trees::KeptTree;
 use object_ops::creation::{Creation, CreationFault, read_creation};
 use serde_json::Value;
 use shapes::{Shape, ShapeFault, read_shape};
@@ -35,14 +38,30 @@ use std::alloc::{AllocError, Global};
 /// # Errors
 ///
 /// The first fault, in this order, of the type, the shape, the creation properties and the value.
-#[tactic(auto, unfolding(crate::specs::Parts::Arrays::array_at))]
+#[tactic(auto, unfolding(crate::specs::Parts::Arrays::array_at, crate::specs::Parts::Arrays::array_with))]
 pub fn read_array(alloc: Global, path: &str, tree: &Value) -> Result<FreshArray, DocFault>
     ensures { Answers result (array_at path.now (view tree.now)) }
+{
+    array_of(alloc, path, None, tree)
+}
+
+// The same, where the value may be kept apart from the tree of the dataset.
+#[tactic(auto, unfolding(crate::specs::Parts::Arrays::array_with))]
+pub(crate) fn array_of(
+    alloc: Global,
+    path: &str,
+    value: Option<&KeptTree>,
+    tree: &Value,
+) -> Result<FreshArray, DocFault>
+    ensures { Answers result (array_with path.now (option_copied value.entry) (view tree.now)) }
 {
     let kind = read_kind(alloc, path, tree.get("type"))?.into_kind();
     let shape = shape_in(alloc, path, tree.get("shape"))?;
     let creation = creation_in(alloc, path, &kind, &shape, tree.get("creationProperties"))?;
-    filled(alloc, path, kind, &shape, creation, tree.get("value"))
+    match value {
+        None => filled(alloc, path, kind, &shape, creation, tree.get("value")),
+        Some(value) => filled_with(alloc, path, kind, &shape, creation, value),
+    }
 }
 
 fn shape_in(alloc: Global, path: &str, tree: Option<&Value>) -> Result<Shape, DocFault>
@@ -125,6 +144,28 @@ fn filled(
     Ok(FreshArray::new(with_cells(alloc, array, bytes.as_slice())?))
 }
 
+// The array with its cells, whose value is kept as its text.
+fn filled_with(
+    alloc: Global,
+    path: &str,
+    kind: ElemType,
+    shape: &Shape,
+    creation: Creation,
+    value: &KeptTree,
+) -> Result<FreshArray, DocFault>
+    requires kind { IsSoundType (elem_of kind) }
+    requires shape { IsSound shape.now }
+    requires fits { Fits (size_of (elem_of kind)) (dims_of shape.now) creation.layout.chunk }
+    requires fill { IfSome creation.fill (λ v. IsEncoded (elem_of kind) v.items) }
+    ensures { Answers result
+        (filled_at path.now (elem_of kind) shape.now (shown_creation creation) (Some value.now)) }
+{
+    let Creation { layout, fill } = creation;
+    let bytes = kept_value_in(alloc, path, &kind, shape, value)?;
+    let array = Array::new(alloc, kind, *shape, layout, fill)?;
+    Ok(FreshArray::new(with_cells(alloc, array, bytes.as_slice())?))
+}
+
 // The array with these elements in its cells.
 fn with_cells(alloc: Global, array: Array, bytes: &[u8]) -> Result<Array, AllocError>
     requires encoded { AreEncoded array.grid.kind (count_of array.grid.shape) bytes.now }
@@ -151,6 +192,25 @@ fn value_in(
         (λ v. AreEncoded (elem_of kind.now) (count_of shape.now) v.items) }
 {
     match read_value(alloc, kind, shape, tree) {
+        Ok(bytes) => Ok(bytes),
+        Err(fault) => Err(value_told(alloc, path, fault)),
+    }
+}
+
+fn kept_value_in(
+    alloc: Global,
+    path: &str,
+    kind: &ElemType,
+    shape: &Shape,
+    value: &KeptTree,
+) -> Result<Vec<u8>, DocFault>
+    requires { IsSoundType (elem_of kind.now) }
+    ensures exact { Gives (λ v. v.items) result
+        (value_at path.now (elem_of kind.now) shape.now value.now) }
+    ensures encoded { IfOk result
+        (λ v. AreEncoded (elem_of kind.now) (count_of shape.now) v.items) }
+{
+    match read_kept_value(alloc, kind, shape, value) {
         Ok(bytes) => Ok(bytes),
         Err(fault) => Err(value_told(alloc, path, fault)),
     }

@@ -1,40 +1,44 @@
 //! The objects of a document, one at a time.
 
 ghost use Rattle.std.specs.Prelude.{◌≡◌};
+ghost use Rattle.std.specs.Option.{option_copied};
 ghost use Rattle.serde_json.specs.View.{view};
 ghost use Rattle.documents.specs.Parts.Faults.{Answers, Leaves};
-ghost use Rattle.documents.specs.Reader.Objects.{attributes_of, dataset_at, datatype_at, group_at};
+ghost use Rattle.documents.specs.Reader.Objects.{attributes_of, datatype_at, group_at};
+ghost use Rattle.documents.specs.Reader.Kept.{dataset_with};
 ghost use Rattle.documents.specs.Reader.Objects.{is_length, is_new_group, is_new_type, links_of};
 
 use crate::parts::{
-    AttributesFault, DocCause, DocFault, DocPath, Targets, has_id, members, read_array,
+    AttributesFault, DocCause, DocFault, DocPath, Targets, array_of, has_id, members,
     read_attributes, read_kind, read_links, refused,
 };
 use crate::reader::MAX_ID;
 use crate::reader::loaded::{Dataset, Datatype, Group};
 use attributes::Attributes;
 use containers::text_maps::TextMap;
+use json_trees::KeptTree;
 use serde_json::Value;
 use std::alloc::Global;
 
-// Puts the dataset that a tree spells.
-#[tactic(auto, unfolding(crate::specs::Reader::Objects::dataset_at))]
+// Puts the dataset that a tree spells, whose value may be kept apart.
+#[tactic(auto, unfolding(crate::specs::Reader::Kept::dataset_with))]
 pub(crate) fn put_dataset(
     alloc: Global,
     path: &str,
     id: &str,
+    value: Option<&KeptTree>,
     tree: &Value,
     datasets: &mut TextMap<Dataset>,
 ) -> Result<(), DocFault>
     ensures { Leaves result datasets.new
-        (dataset_at path.now id.now datasets.old (view tree.now)) }
+        (dataset_with (option_copied value.entry) path.now id.now datasets.old (view tree.now)) }
 {
     if !is_length(id) {
         return Err(refused(alloc, path, DocCause::NotADocument));
     }
     members(alloc, path, tree)?;
     let attributes = attributes_of(alloc, path, tree)?;
-    let array = read_array(alloc, path, tree)?;
+    let array = array_of(alloc, path, value, tree)?;
     datasets.put_copy(id, Dataset { attributes, array })?;
     Ok(())
 }

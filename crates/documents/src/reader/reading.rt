@@ -5,6 +5,7 @@ ghost use Rattle.serde_json.specs.View.{view};
 ghost use Rattle.json_trees.specs.Shown.{shown};
 ghost use Rattle.documents.specs.Parts.Faults.{Answers};
 ghost use Rattle.documents.specs.Reader.Documents.{doc_of, root_at, tree_doc, version_at};
+ghost use Rattle.documents.specs.Reader.Kept.{tree_with};
 ghost use Rattle.documents.specs.Reader.Loads.{Loads, LoadsText};
 ghost use Rattle.documents.specs.Reader.Texts.{IsToldLong, most_bytes};
 ghost use Rattle.documents.specs.declared.reader.loaded.Loaded.{Loaded};
@@ -14,7 +15,7 @@ use crate::reader::collections::{read_datasets, read_datatypes, read_groups};
 use crate::reader::loaded::{Group, Loaded};
 use crate::reader::parsing::parse;
 use containers::text_maps::TextMap;
-use json_trees::member_text;
+use json_trees::{KeptTree, member_text};
 use serde_json::Value;
 use std::alloc::Global;
 
@@ -38,8 +39,8 @@ fn whole(alloc: Global, text: &[u8]) -> Result<Loaded, DocFault>
     ensures first { Answers result (doc_of text.now) }
     ensures long { most_bytes < length text.now → IsToldLong result }
 {
-    let tree = parse(alloc, text)?;
-    read_parts(alloc, &tree)
+    let document = parse(alloc, text)?;
+    read_parts(alloc, &document.values, &document.tree)
 }
 
 /// What a document holds, from its tree.
@@ -57,16 +58,27 @@ pub fn read_tree(alloc: Global, tree: &Value) -> Result<Loaded, DocFault>
     ensures loads { IfOk result (Loads (view tree.now)) }
     ensures only { (l : Loaded) → Loads (view tree.now) l → Answers result (Ok l) }
 {
-    read_parts(alloc, tree)
+    whole_tree(alloc, tree)
 }
 
-#[tactic(auto, unfolding(crate::specs::Reader::Documents::tree_doc))]
-fn read_parts(alloc: Global, tree: &Value) -> Result<Loaded, DocFault>
+fn whole_tree(alloc: Global, tree: &Value) -> Result<Loaded, DocFault>
     ensures { Answers result (tree_doc (view tree.now)) }
+{
+    read_parts(alloc, &TextMap::new(alloc), tree)
+}
+
+// What a document holds, whose values may be kept apart from its tree.
+#[tactic(auto, unfolding(crate::specs::Reader::Kept::tree_with))]
+fn read_parts(
+    alloc: Global,
+    values: &TextMap<Option<KeptTree>>,
+    tree: &Value,
+) -> Result<Loaded, DocFault>
+    ensures { Answers result (tree_with values.now (view tree.now)) }
 {
     members(alloc, "", tree)?;
     read_version(alloc, tree.get("apiVersion"))?;
-    let datasets = read_datasets(alloc, tree.get("datasets"))?;
+    let datasets = read_datasets(alloc, values, tree.get("datasets"))?;
     let datatypes = read_datatypes(alloc, tree, tree.get("datatypes"))?;
     let groups = read_groups(alloc, tree, tree.get("groups"))?;
     let root = read_root(alloc, &groups, member_text(tree, "root"))?;

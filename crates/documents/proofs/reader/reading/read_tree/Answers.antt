@@ -7,7 +7,7 @@ use Rattle.documents.proofs.reader.reading.read_tree.Goals as goal
 pub returns-clause-loads : goal.returns-clause-loads
 returns-clause-loads c =
     let tree = view c.args.tree.now in
-    gives_loads c.read_parts.result (tree_doc tree) (Loads tree) (tree_sound tree) c.read_parts.ensures
+    gives_loads c.whole_tree.result (tree_doc tree) (Loads tree) (tree_sound tree) c.whole_tree.ensures
 
 pub returns-clause-only : goal.returns-clause-only
-returns-clause-only c = λ l h. gives_only c.read_parts.result (tree_doc (view c.args.tree.now)) l c.read_parts.ensures (tree_complete (view c.args.tree.now) l h)
+returns-clause-only c = λ l h. gives_only c.whole_tree.result (tree_doc (view c.args.tree.now)) l c.whole_tree.ensures (tree_complete (view c.args.tree.now) l h)
