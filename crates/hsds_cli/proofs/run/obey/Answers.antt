@@ -1,12 +1,7 @@
-use Rattle.std.proofs.Common.{List, Option, Some, None, Global, map, string_bytes, ap, refl, sym, subst, ◌∙◌}
-use Rattle.command_words.specs.Commands.{Command}
+use Rattle.std.proofs.Common.{Some, Global, map, string_bytes, ap, ◌∙◌}
 use Rattle.command_words.specs.Views.{as_command}
 use Rattle.command_words.specs.declared.command.Wanted.{Wanted}
-use Rattle.edge_traits.specs.declared.door.Door as door
-use Rattle.edge_traits.specs.declared.sink.Sink as sink
-use Rattle.edge_traits.specs.declared.source.Source as source
-use Rattle.hsds_cli.specs.Doors.{Doors, doors_of}
-use Rattle.hsds_cli.specs.Runs.{IsCommanded, IsRun}
+use Rattle.hsds_cli.specs.Doors.{doors_of}
 use Rattle.hsds_cli.specs.Sides.{Sides, sides_of}
 use Rattle.hsds_cli.specs.declared.command_end.WithDoors.{WithDoors}
 use Rattle.hsds_cli.proofs.RunLemmas.{commanded, run_beside}
