@@ -5,6 +5,8 @@
 #[cfg(test)]
 mod adoption;
 #[cfg(test)]
+mod dataset_values;
+#[cfg(test)]
 mod exports;
 #[cfg(test)]
 mod faults;
