@@ -1,14 +1,19 @@
 //! Configurations.
 
-use crate::tables::{column, number};
-use access_lists::{Right, decide};
+use crate::tables::{Told, column, copied, had, number, try_rows};
+use access_lists::{AccessList, Caller, Right, decide};
 use configuration::{Config, ConfigFault, read_config};
 use domains::{NodeClass, node_json};
-use std::alloc::{AllocError, Global};
-use std::test::Fail;
+use std::alloc::Global;
+use std::process::Abort;
+
+/// The configuration that a text is.
+fn config(rt: &(impl Abort + AllocGlobal), text: &str) -> Config {
+    read_config(rt.alloc(), text.as_bytes()).expect(rt, "a configuration")
+}
 
 /// Three users, two groups, a folder and a domain.
-const SMALL: &str = r#"[tokens]
+static SMALL: &str = r#"[tokens]
 ta = "alice"
 tb = "bob"
 tc = "carol"
@@ -30,31 +35,38 @@ carol = {}
 "g:lab" = { read = true }
 "g:ops" = { update = true }"#;
 
-/// The rights of a token at a path.
-fn given(alloc: Global, config: &Config, token: &str, path: &str) -> Result<String, AllocError> {
-    let mut given = String::new(alloc);
-    let caller = config.tokens.caller(token.as_bytes());
-    let (Some(caller), Some(node)) = (caller, config.catalogue.find_text(path)) else {
-        return Ok(given);
-    };
-    for right in [
-        Right::Create,
-        Right::Read,
-        Right::Update,
-        Right::Delete,
-        Right::ReadAcl,
-        Right::UpdateAcl,
-    ] {
-        if decide(&node.list, caller, right) {
-            given.push_str(right.name())?;
-            given.push_str(" ")?;
+static ALL: [Right; 6] = [
+    Right::Create,
+    Right::Read,
+    Right::Update,
+    Right::Delete,
+    Right::ReadAcl,
+    Right::UpdateAcl,
+];
+
+/// The rights that a caller has by a list.
+fn allowed(rt: &(impl Abort + AllocGlobal), list: &AccessList, caller: &Caller) -> String {
+    let mut given = String::new(rt.alloc());
+    for right in ALL.iter() {
+        if decide(list, caller, *right) {
+            given.push_str(right.name()).expect(rt, "memory");
+            given.push_str(" ").expect(rt, "memory");
         }
     }
-    Ok(given)
+    given
+}
+
+/// The rights of a token at a path.
+fn given(rt: &(impl Abort + AllocGlobal), config: &Config, token: &str, path: &str) -> String {
+    let caller = config.tokens.caller(token.as_bytes());
+    let (Some(caller), Some(node)) = (caller, config.catalogue.find_text(path)) else {
+        return String::new(rt.alloc());
+    };
+    allowed(rt, &node.list, caller)
 }
 
 /// A row a line: a token, a path, and the rights there.
-const RIGHTS: &str = "ta|/home|create read update delete readACL updateACL |
+static RIGHTS: &str = "ta|/home|create read update delete readACL updateACL |
 ta|/home/lab|create read update delete readACL updateACL |
 tb|/home||
 tb|/home/lab|read update |
@@ -62,35 +74,39 @@ tc|/home/lab||
 ta|/||
 td|/home/lab||";
 
+#[test]
+fn users_and_groups_are_read(rt: HostRuntime) {
+    let config = config(&rt, SMALL);
+    for row in RIGHTS.lines() {
+        let got = given(&rt, &config, column(row, 0), column(row, 1));
+        assert!(rt; got.as_str() == column(row, 2), "{row} gave {got}");
+    }
+}
+
 /// The tree of the node at a path.
-fn node(alloc: Global, config: &Config, path: &str) -> Result<String, Fail> {
-    let node = config.catalogue.find_text(path).ok_or("no node")?;
-    Ok(node_json(alloc, node)?.to_string(alloc)?)
+fn node(rt: &(impl Abort + AllocGlobal), config: &Config, path: &str) -> String {
+    let node = config.catalogue.find_text(path).expect(rt, "a node");
+    let tree = node_json(rt.alloc(), node).expect(rt, "memory");
+    had(rt, tree.to_string(rt.alloc()))
 }
 
 /// A row a line: a path, and its node.
-const NODES: &str = r#"/|{"class":"folder","owner":"default"}
+static NODES: &str = r#"/|{"class":"folder","owner":"default"}
 /home|{"class":"folder","owner":"alice"}
 /home/lab|{"class":"domain","owner":"alice","root":"g-00000000-0001-8000-8000-000000000000"}"#;
 
 #[test]
-fn users_groups_folders_and_domains_are_read(rt: HostRuntime) -> Result<(), Fail> {
-    let alloc = rt.alloc();
-    let config = read_config(alloc, SMALL.as_bytes())?;
-    for row in RIGHTS.lines() {
-        let got = given(alloc, &config, column(row, 0), column(row, 1))?;
-        assert!(rt; got.as_str() == column(row, 2), "{row} gave {got}");
-    }
+fn folders_and_domains_are_read(rt: HostRuntime) {
+    let config = config(&rt, SMALL);
     for row in NODES.lines() {
-        let got = node(alloc, &config, column(row, 0))?;
+        let got = node(&rt, &config, column(row, 0));
         assert!(rt; got.as_str() == column(row, 1), "{row} gave {got}");
     }
     assert!(rt; config.catalogue.next_number() == 2 && config.catalogue.nodes() == 3);
-    Ok(())
 }
 
 /// Domains, whose paths are not in their order.
-const DOMAINS: &str = "domains.'/b' = { owner = 'u' }
+static DOMAINS: &str = "domains.'/b' = { owner = 'u' }
 domains.'/a/' = { owner = 'u' }
 domains.'/a-b' = { owner = 'u' }";
 
@@ -106,19 +122,18 @@ fn number_at(config: &Config, path: &str) -> u64 {
 }
 
 /// A row a line: a path, and the number of its domain.
-const NUMBERED: &str = "/a|1
+static NUMBERED: &str = "/a|1
 /a-b|2
 /b|3";
 
 #[test]
-fn domains_are_numbered_in_order_of_their_paths(rt: HostRuntime) -> Result<(), Fail> {
-    let config = read_config(rt.alloc(), DOMAINS.as_bytes())?;
+fn domains_are_numbered_in_order_of_their_paths(rt: HostRuntime) {
+    let config = config(&rt, DOMAINS);
     for row in NUMBERED.lines() {
         let got = number_at(&config, column(row, 0));
         assert!(rt; got == number(&rt, column(row, 1)), "{row} gave {got}");
     }
     assert!(rt; config.catalogue.next_number() == 4);
-    Ok(())
 }
 
 /// How a text is read.
@@ -131,18 +146,19 @@ fn outcome(alloc: Global, text: &[u8]) -> &'static str {
     }
 }
 
-/// A text with a line for each of its parts.
-fn lines_of(alloc: Global, parts: &str) -> Result<String, AllocError> {
-    let mut text = String::new(alloc);
-    for part in parts.split(';') {
-        text.push_str(part)?;
-        text.push('\n')?;
+/// How the lines of a row are read.
+struct TextRow;
+
+impl Told for TextRow {
+    fn told(rt: &(impl Abort + AllocGlobal), row: &str) -> String {
+        let lines = had(rt, column(row, 0).replace(rt.alloc(), ";", "\n"));
+        let text = had(rt, format!(in rt.alloc(); "{lines}\n"));
+        copied(rt, outcome(rt.alloc(), text.as_bytes()))
     }
-    Ok(text)
 }
 
 /// A row a line: the lines of a text, parted by semicolons, and whether it is read, is no TOML, or has a bad key.
-const TEXTS: &str = r#"|ok
+static TEXTS: &str = r#"|ok
 # nothing|ok
 x = 1|key
 [x]|key
@@ -228,33 +244,25 @@ domains.'/a' = { owner = 'u' };folders.'/a/b' = { owner = 'u' }|key
 folders.'/' = { owner = 'u' };domains.'/a' = { owner = 'u' }|ok"#;
 
 #[test]
-fn texts_are_configurations_or_have_a_fault(rt: HostRuntime) -> Result<(), AllocError> {
-    let alloc = rt.alloc();
-    for row in TEXTS.lines() {
-        let text = lines_of(alloc, column(row, 0))?;
-        assert!(rt; outcome(alloc, text.as_bytes()) == column(row, 1), "{row}");
-    }
-    assert!(rt; outcome(alloc, b"tokens.t = '\xff'") == "toml");
-    Ok(())
+fn texts_are_configurations_or_have_a_fault(rt: HostRuntime) {
+    try_rows::<TextRow>(&rt, TEXTS, 1);
+    assert!(rt; outcome(rt.alloc(), b"tokens.t = '\xff'") == "toml");
 }
 
 /// How a text is read in which so many letters stand between two others.
 fn lengthened(
-    alloc: Global,
+    rt: &(impl Abort + AllocGlobal),
     before: &str,
     count: u64,
     after: &str,
-) -> Result<&'static str, AllocError> {
-    let mut text = String::from_str(alloc, before)?;
-    for _ in 0..count {
-        text.push('a')?;
-    }
-    text.push_str(after)?;
-    Ok(outcome(alloc, text.as_bytes()))
+) -> &'static str {
+    let letters = had(rt, "a".repeat(rt.alloc(), count as usize));
+    let text = had(rt, format!(in rt.alloc(); "{before}{letters}{after}"));
+    outcome(rt.alloc(), text.as_bytes())
 }
 
 /// A row a line: a text, how many letters may follow, and the text behind them.
-const LENGTHS: &str = "tokens.|255| = 'u'
+static LENGTHS: &str = "tokens.|255| = 'u'
 tokens.t = '|255|'
 groups.|253| = []
 groups.g = ['|255|']
@@ -263,32 +271,28 @@ folders.'/a' = { owner = 'u', acls = { |255| = {} } }
 folders.'/|255|' = { owner = 'u' }";
 
 #[test]
-fn lengths_have_limits(rt: HostRuntime) -> Result<(), AllocError> {
-    let alloc = rt.alloc();
+fn lengths_have_limits(rt: HostRuntime) {
     for row in LENGTHS.lines() {
         let (before, after) = (column(row, 0), column(row, 2));
         let most = number(&rt, column(row, 1));
-        assert!(rt; lengthened(alloc, before, most, after)? == "ok", "{row}");
-        assert!(rt;
-            lengthened(alloc, before, most.saturating_add(1), after)? == "key",
-            "{row}"
-        );
+        assert!(rt; lengthened(&rt, before, most, after) == "ok", "{row}");
+        let more = most.saturating_add(1);
+        assert!(rt; lengthened(&rt, before, more, after) == "key", "{row}");
     }
-    Ok(())
 }
 
 /// How a folder is read whose list has so many entries.
-fn with_entries(alloc: Global, count: u64) -> Result<&'static str, AllocError> {
-    let mut text = lines_of(alloc, "[folders.'/a'];owner = 'u';[folders.'/a'.acls]")?;
+fn with_entries(rt: &(impl Abort + AllocGlobal), count: u64) -> &'static str {
+    let mut text = copied(rt, "[folders.'/a']\nowner = 'u'\n[folders.'/a'.acls]\n");
     for number in 0..count {
-        text.push_str(format!(in alloc; "u{number} = {{}}\n")?.as_str())?;
+        let entry = had(rt, format!(in rt.alloc(); "u{number} = {{}}\n"));
+        text.push_str(entry.as_str()).expect(rt, "memory");
     }
-    Ok(outcome(alloc, text.as_bytes()))
+    outcome(rt.alloc(), text.as_bytes())
 }
 
 #[test]
-fn a_list_has_1024_entries_at_most(rt: HostRuntime) -> Result<(), AllocError> {
-    assert!(rt; with_entries(rt.alloc(), 1024)? == "ok");
-    assert!(rt; with_entries(rt.alloc(), 1025)? == "key");
-    Ok(())
+fn a_list_has_1024_entries_at_most(rt: HostRuntime) {
+    assert!(rt; with_entries(&rt, 1024) == "ok");
+    assert!(rt; with_entries(&rt, 1025) == "key");
 }

@@ -6,9 +6,9 @@ ghost use Rattle.containers.specs.ShortLists.Order.{list_order};
 
 use containers::short_lists::ShortList;
 use containers::text_maps::{ByteMap, TextMap};
-use std::alloc::AllocError;
+use std::alloc::{AllocError, Global};
 use std::collections::BTreeMap;
-use std::test::Fail;
+use std::process::Abort;
 
 /// A map's look-up goes by the order of lists, whatever the room is.
 fn look_up<'a>(map: &'a BTreeMap<ShortList<32>, u64>, key: &ShortList<32>) -> Option<&'a u64>
@@ -17,14 +17,22 @@ fn look_up<'a>(map: &'a BTreeMap<ShortList<32>, u64>, key: &ShortList<32>) -> Op
     map.get(key)
 }
 
+fn put_list(
+    rt: &impl Abort,
+    map: &mut BTreeMap<ShortList<32>, u64>,
+    key: ShortList<32>,
+    value: u64,
+) {
+    assert!(rt; map.insert(key, value).is_ok());
+}
+
 #[test]
-fn lists_are_keys(rt: HostRuntime) -> Result<(), AllocError> {
+fn lists_are_keys(rt: HostRuntime) {
     let mut map = BTreeMap::new(rt.alloc());
-    map.insert(ShortList::<32>::repeated(1, 2), 12)?;
-    map.insert(ShortList::<32>::repeated(2, 1), 21)?;
+    put_list(&rt, &mut map, ShortList::repeated(1, 2), 12);
+    put_list(&rt, &mut map, ShortList::repeated(2, 1), 21);
     assert!(rt; look_up(&map, &ShortList::repeated(1, 2)) == Some(&12));
     assert!(rt; look_up(&map, &ShortList::repeated(1, 1)).is_none());
-    Ok(())
 }
 
 #[test]
@@ -38,19 +46,29 @@ fn a_short_list_keeps_what_fits(rt: HostRuntime) {
     assert!(rt; ShortList::<3>::repeated(9, 2) < few);
 }
 
-#[test]
-fn maps_keep_the_last_value_of_a_key(rt: HostRuntime) -> Result<(), Fail> {
-    let mut bytes = ByteMap::new(rt.alloc());
-    bytes.put(b"tb".to_vec(rt.alloc())?, 1_u64)?;
+/// A map with the values of three keys, of which the last stands for the first too.
+fn bytes(alloc: Global) -> Result<ByteMap<u64>, AllocError> {
+    let mut bytes = ByteMap::new(alloc);
+    bytes.put(b"tb".to_vec(alloc)?, 1_u64)?;
     bytes.put_copy(b"ta", 2)?;
     bytes.put_copy(b"tb", 3)?;
-    assert!(rt; bytes.get(b"tb").copied() == Some(3));
-    assert!(rt; bytes.remove(b"ta") == Some(2));
-    let mut texts = TextMap::new(rt.alloc());
-    texts.put(String::from_str(rt.alloc(), "b")?, 1_u64)?;
+    Ok(bytes)
+}
+
+fn texts(alloc: Global) -> Result<TextMap<u64>, AllocError> {
+    let mut texts = TextMap::new(alloc);
+    texts.put(String::from_str(alloc, "b")?, 1_u64)?;
     texts.put_copy("g:x", 4)?;
     texts.put_copy("b", 3)?;
+    Ok(texts)
+}
+
+#[test]
+fn maps_keep_the_last_value_of_a_key(rt: HostRuntime) {
+    let mut bytes = bytes(rt.alloc()).expect(&rt, "memory");
+    assert!(rt; bytes.get(b"tb").copied() == Some(3));
+    assert!(rt; bytes.remove(b"ta") == Some(2));
+    let mut texts = texts(rt.alloc()).expect(&rt, "memory");
     assert!(rt; texts.get("b").copied() == Some(3));
     assert!(rt; texts.remove("b") == Some(3));
-    Ok(())
 }

@@ -1,22 +1,29 @@
 //! Names, paths and ids.
 
-use crate::tables::{column, number};
+use crate::tables::{Told, column, copied, had, number, try_rows};
 use object_ids::{
     DomainPath, IdMap, Kind, Name, NameMap, ObjectId, id_text, path_text, read_id, read_path,
 };
-use std::alloc::{AllocError, Global};
-use std::test::Fail;
+use std::process::Abort;
 
 /// The copy of the name that a text is, or its fault.
-fn told_name(alloc: Global, text: &str, most: u64) -> Result<String, AllocError> {
-    match Name::read(alloc, text, most as usize) {
-        Ok(name) => String::from_str(alloc, name.copy()?.text()),
-        Err(fault) => format!(in alloc; "{fault:?}"),
+fn told_name(rt: &(impl Abort + AllocGlobal), text: &str, most: u64) -> String {
+    match Name::read(rt.alloc(), text, most as usize) {
+        Ok(name) => copied(rt, name.copy().expect(rt, "memory").text()),
+        Err(fault) => had(rt, format!(in rt.alloc(); "{fault:?}")),
+    }
+}
+
+struct NameRow;
+
+impl Told for NameRow {
+    fn told(rt: &(impl Abort + AllocGlobal), row: &str) -> String {
+        told_name(rt, column(row, 1), number(rt, column(row, 0)))
     }
 }
 
 /// A row a line: the most bytes, a text, and the name or the fault.
-const NAMES: &str = "1|ab|BadName
+static NAMES: &str = "1|ab|BadName
 2|ab|ab
 9||BadName
 3|a b|a b
@@ -26,32 +33,32 @@ const NAMES: &str = "1|ab|BadName
 4|été|BadName";
 
 #[test]
-fn names_are_read_and_copied(rt: HostRuntime) -> Result<(), AllocError> {
-    for row in NAMES.lines() {
-        let got = told_name(rt.alloc(), column(row, 1), number(&rt, column(row, 0)))?;
-        assert!(rt; got.as_str() == column(row, 2), "{row} gave {got}");
-    }
-    let got = told_name(rt.alloc(), "a\nb", 9)?;
-    assert!(rt; got.as_str() == "BadName");
-    Ok(())
+fn names_are_read_and_copied(rt: HostRuntime) {
+    try_rows::<NameRow>(&rt, NAMES, 2);
+    assert!(rt; told_name(&rt, "a\nb", 9).as_str() == "BadName");
 }
 
 /// The copy of the path that a text spells, and the path above, or the fault.
-fn told_path(alloc: Global, text: &str) -> Result<String, AllocError> {
-    match read_path(alloc, text) {
-        Ok(path) => both_paths(alloc, &path),
-        Err(fault) => format!(in alloc; "{fault:?}"),
+struct PathRow;
+
+impl Told for PathRow {
+    fn told(rt: &(impl Abort + AllocGlobal), row: &str) -> String {
+        match read_path(rt.alloc(), column(row, 0)) {
+            Ok(path) => both_paths(rt, &path),
+            Err(fault) => had(rt, format!(in rt.alloc(); "{fault:?}")),
+        }
     }
 }
 
-fn both_paths(alloc: Global, path: &DomainPath) -> Result<String, AllocError> {
-    let (copy, above) = (path.copy()?, path.parent()?);
+fn both_paths(rt: &(impl Abort + AllocGlobal), path: &DomainPath) -> String {
+    let copy = path.copy().expect(rt, "memory");
+    let above = path.parent().expect(rt, "memory");
     let (copy, above) = (copy.text(), above.text());
-    format!(in alloc; "{copy} {above}")
+    had(rt, format!(in rt.alloc(); "{copy} {above}"))
 }
 
 /// A row a line: a text, and the path and that above, or the fault.
-const PATHS: &str = "/|/ /
+static PATHS: &str = "/|/ /
 //|/ /
 /a|/a /
 /a/|/a /
@@ -76,60 +83,60 @@ a/|BadPath
  /a|BadPath";
 
 #[test]
-fn paths_are_read(rt: HostRuntime) -> Result<(), AllocError> {
-    for row in PATHS.lines() {
-        let got = told_path(rt.alloc(), column(row, 0))?;
-        assert!(rt; got.as_str() == column(row, 1), "{row} gave {got}");
-    }
-    Ok(())
+fn paths_are_read(rt: HostRuntime) {
+    try_rows::<PathRow>(&rt, PATHS, 1);
 }
 
 /// A path of parts of `part` bytes each, and then of `last` bytes.
-fn long_path(alloc: Global, parts: u8, part: u16, last: u16) -> Result<String, AllocError> {
-    let mut text = String::new(alloc);
-    for _ in 0..parts {
-        text.push('/')?;
-        for _ in 0..part {
-            text.push('a')?;
-        }
-    }
-    text.push('/')?;
-    for _ in 0..last {
-        text.push('b')?;
-    }
-    Ok(text)
+fn long_path(rt: &(impl Abort + AllocGlobal), parts: usize, part: usize, last: usize) -> String {
+    let part = had(rt, "a".repeat(rt.alloc(), part));
+    let part = had(rt, format!(in rt.alloc(); "/{part}"));
+    let front = had(rt, part.as_str().repeat(rt.alloc(), parts));
+    let last = had(rt, "b".repeat(rt.alloc(), last));
+    had(rt, format!(in rt.alloc(); "{front}/{last}"))
 }
 
+/// How many parts of how many bytes a path has, and the bytes of its last one, and whether it is one.
+static LONG_PATHS: [(usize, usize, usize, bool); 6] = [
+    (0, 0, 255, true),
+    (0, 0, 256, false),
+    (3, 255, 255, true),
+    (4, 255, 0, true),
+    (4, 204, 203, true),
+    (4, 204, 204, false),
+];
+
 #[test]
-fn paths_have_a_greatest_length(rt: HostRuntime) -> Result<(), AllocError> {
-    for (parts, part, last, is_path) in [
-        (0u8, 0u16, 255u16, true),
-        (0, 0, 256, false),
-        (3, 255, 255, true),
-        (4, 255, 0, true),
-        (4, 204, 203, true),
-        (4, 204, 204, false),
-    ] {
-        let text = long_path(rt.alloc(), parts, part, last)?;
-        assert!(rt; path_text(text.as_str()).is_some() == is_path, "{text}");
+fn paths_have_a_greatest_length(rt: HostRuntime) {
+    for (parts, part, last, is_path) in LONG_PATHS.iter() {
+        let text = long_path(&rt, *parts, *part, *last);
+        assert!(rt; path_text(text.as_str()).is_some() == *is_path, "{text}");
     }
-    Ok(())
+}
+
+fn id_parts(rt: &(impl Abort + AllocGlobal), id: &ObjectId) -> String {
+    let (kind, domain, run, serial) = (id.kind, id.domain, id.run, id.serial);
+    let again = had(rt, id_text(rt.alloc(), id));
+    had(
+        rt,
+        format!(in rt.alloc(); "{again} {kind:?} {domain} {run} {serial}"),
+    )
 }
 
 /// The parts of an id and its text again.
-fn told_id(alloc: Global, text: &str) -> Result<String, AllocError> {
-    match read_id(text) {
-        Some(id) => {
-            let (kind, domain, run, serial) = (id.kind, id.domain, id.run, id.serial);
-            let again = id_text(alloc, &id)?;
-            format!(in alloc; "{again} {kind:?} {domain} {run} {serial}")
+struct IdRow;
+
+impl Told for IdRow {
+    fn told(rt: &(impl Abort + AllocGlobal), row: &str) -> String {
+        match read_id(column(row, 0)) {
+            Some(id) => id_parts(rt, &id),
+            None => copied(rt, "none"),
         }
-        None => String::from_str(alloc, "none"),
     }
 }
 
 /// A row a line: a text, and its parts where it is an id.
-const IDS: &str =
+static IDS: &str =
     "g-00000000-0001-8000-8000-010000000002|g-00000000-0001-8000-8000-010000000002 Group 1 1 2
 d-00000000-0002-8000-bfff-ffffffffffff|d-00000000-0002-8000-bfff-ffffffffffff Dataset 2 4194303 1099511627775
 t-00000000-0001-8000-8000-000000000000|t-00000000-0001-8000-8000-000000000000 Datatype 1 0 0
@@ -147,18 +154,13 @@ g-{00000000-0001-8000-8000-010000000002}|none
 g-00000000-0001-8000-8000-010000000002 |none";
 
 #[test]
-fn ids_are_read_and_written(rt: HostRuntime) -> Result<(), AllocError> {
-    for row in IDS.lines() {
-        let got = told_id(rt.alloc(), column(row, 0))?;
-        assert!(rt; got.as_str() == column(row, 1), "{row} gave {got}");
-    }
-    Ok(())
+fn ids_are_read_and_written(rt: HostRuntime) {
+    try_rows::<IdRow>(&rt, IDS, 1);
 }
 
 #[test]
-fn maps_keep_the_last_value_of_an_id_or_a_name(rt: HostRuntime) -> Result<(), Fail> {
-    let alloc = rt.alloc();
-    let mut ids = IdMap::new(alloc);
+fn maps_keep_the_last_value_of_an_id(rt: HostRuntime) {
+    let mut ids = IdMap::new(rt.alloc());
     for serial in [7_u64, 3, 7] {
         let id = ObjectId {
             kind: Kind::Group,
@@ -166,15 +168,23 @@ fn maps_keep_the_last_value_of_an_id_or_a_name(rt: HostRuntime) -> Result<(), Fa
             run: 1,
             serial,
         };
-        ids.put(id, serial)?;
+        assert!(rt; ids.put(id, serial).is_ok());
     }
     assert!(rt; ids.len() == 2);
-    let mut names = NameMap::new(alloc);
+}
+
+fn put_name(rt: &(impl Abort + AllocGlobal), names: &mut NameMap<u64>, text: &str) {
+    let name = Name::read(rt.alloc(), text, 9).expect(rt, "a name");
+    assert!(rt; names.put(name, 1).is_ok());
+}
+
+#[test]
+fn maps_keep_the_last_value_of_a_name(rt: HostRuntime) {
+    let mut names = NameMap::new(rt.alloc());
     for text in ["b", "a", "b"] {
-        names.put(Name::read(alloc, text, 9)?, 1_u64)?;
+        put_name(&rt, &mut names, text);
     }
-    let done = names.put_within(3, Name::read(alloc, "c", 9)?, 2);
-    assert!(rt; done == Ok(()));
+    let name = Name::read(rt.alloc(), "c", 9).expect(&rt, "a name");
+    assert!(rt; names.put_within(3, name, 2) == Ok(()));
     assert!(rt; names.len() == 3);
-    Ok(())
 }

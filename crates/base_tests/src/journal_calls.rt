@@ -1,28 +1,27 @@
 //! Calls of journals, each in a function of its own, with batches that a text names.
 
-use crate::tables::unhex;
+use crate::tables::{copied, had, unhex};
 use edge_traits::{Disk, MemDisk};
-use flush_journal::{Batch, Journal, Recovered, Why};
-use std::alloc::{AllocError, Global};
+use flush_journal::{Batch, Journal, Recovered, Report, Why};
+use std::alloc::Global;
 use std::process::Abort;
-use std::test::Fail;
 
 /// A disk with room for so many bytes, of which the calls with these numbers fail.
 pub fn disk_of(
-    alloc: Global,
+    rt: &(impl Abort + AllocGlobal),
     bytes: &[u8],
     room: u64,
     failing: &[u64],
-) -> Result<MemDisk, AllocError> {
-    if bytes.len() as u64 > room {
-        return Err(AllocError);
-    }
-    MemDisk::new(alloc, bytes.to_vec(alloc)?, room, failing.to_vec(alloc)?)
+) -> MemDisk {
+    let image = bytes.to_vec(rt.alloc()).expect(rt, "memory");
+    let failing = failing.to_vec(rt.alloc()).expect(rt, "memory");
+    assert!(rt; image.len() as u64 <= room);
+    MemDisk::new(rt.alloc(), image, room, failing).expect(rt, "memory")
 }
 
 /// What a crash leaves that keeps so many bytes of what wasn't synced.
-pub fn crashed(disk: &MemDisk, kept: u64) -> Result<MemDisk, AllocError> {
-    disk.crash(kept)
+pub fn crashed(rt: &impl Abort, disk: &MemDisk, kept: u64) -> MemDisk {
+    disk.crash(kept).expect(rt, "memory")
 }
 
 /// The journal on a disk, and what it holds.
@@ -69,51 +68,65 @@ fn settled(journal: &mut Journal<MemDisk>, batch: Batch) -> Result<(), Why> {
 }
 
 /// Puts a record into a batch.
-fn put(batch: &mut Batch, key: &[u8], body: &[u8]) -> Result<(), AllocError> {
-    if key.is_empty() || key.len() > 65_535 || body.len() > 1000 {
-        return Err(AllocError);
-    }
-    batch.push(key, body)
+fn put(rt: &impl Abort, batch: &mut Batch, key: &[u8], body: &[u8]) {
+    assert!(rt; !key.is_empty() && key.len() <= 65_535 && body.len() <= 1000);
+    batch.push(key, body).expect(rt, "memory");
 }
 
 /// A batch of records, each a key and a body in hexadecimal digits.
-pub fn batch_of(rt: &(impl Abort + AllocGlobal), records: &str) -> Result<Batch, AllocError> {
+pub fn batch_of(rt: &(impl Abort + AllocGlobal), records: &str) -> Batch {
     let mut batch = Batch::new(rt.alloc());
-    batch.reserve(0)?;
+    batch.reserve(0).expect(rt, "memory");
     for record in records.split(',') {
         if let Some((key, body)) = record.split_once('=') {
-            put(
-                &mut batch,
-                unhex(rt, key).as_slice(),
-                unhex(rt, body).as_slice(),
-            )?;
+            let (key, body) = (unhex(rt, key), unhex(rt, body));
+            put(rt, &mut batch, key.as_slice(), body.as_slice());
         }
     }
-    Ok(batch)
+    batch
+}
+
+/// The word for why a call was refused.
+pub fn why_text(rt: &(impl Abort + AllocGlobal), why: Why) -> String {
+    had(rt, format!(in rt.alloc(); "{why:?}"))
 }
 
 /// The word for what a call did.
-pub fn told(alloc: Global, done: Result<(), Why>) -> Result<String, AllocError> {
+pub fn told(rt: &(impl Abort + AllocGlobal), done: Result<(), Why>) -> String {
     match done {
-        Ok(()) => String::from_str(alloc, "ok"),
-        Err(why) => format!(in alloc; "{why:?}"),
+        Ok(()) => copied(rt, "ok"),
+        Err(why) => why_text(rt, why),
     }
 }
 
+/// A record's key and its body.
+fn record_text(rt: &(impl Abort + AllocGlobal), key: &[u8], body: &[u8]) -> String {
+    had(rt, format!(in rt.alloc(); "{key:?}={body:?} "))
+}
+
 /// Each key and its body, in the order of the keys.
-pub fn records_of(alloc: Global, recovered: &Recovered) -> Result<String, AllocError> {
-    let mut text = String::new(alloc);
-    let mut last: Option<Vec<u8>> = None;
+pub fn records_of(rt: &(impl Abort + AllocGlobal), recovered: &Recovered) -> String {
+    let mut text = String::new(rt.alloc());
+    let mut last: Option<&[u8]> = None;
     for _ in 0..9u8 {
-        let Some(key) = recovered.next_key(last.as_ref().map(Vec::as_slice)) else {
+        let Some(key) = recovered.next_key(last) else {
             break;
         };
         let body = recovered.get(key).unwrap_or(&[]);
-        let record = format!(in alloc; "{key:?}={body:?} ")?;
-        text.push_str(record.as_str())?;
-        last = Some(key.to_vec(alloc)?);
+        let record = record_text(rt, key, body);
+        text.push_str(record.as_str()).expect(rt, "memory");
+        last = Some(key);
     }
-    Ok(text)
+    text
+}
+
+/// A journal's numbers, and whether it owes a batch.
+fn numbers(rt: &(impl Abort + AllocGlobal), report: Report, owes: bool) -> String {
+    let (batches, end) = (report.batches, report.end);
+    had(
+        rt,
+        format!(in rt.alloc(); "{batches} batches to {end}, {owes}"),
+    )
 }
 
 /// Makes a call, and tells what it did.
@@ -122,32 +135,28 @@ fn call(
     journal: &mut Journal<MemDisk>,
     name: &str,
     records: &str,
-) -> Result<String, AllocError> {
-    let alloc = rt.alloc();
-    if name == "append" {
-        let batch = batch_of(rt, records)?;
-        return told(alloc, appended(journal, batch));
+) -> String {
+    match name {
+        "append" => told(rt, appended(journal, batch_of(rt, records))),
+        "settle" => told(rt, journal.settle()),
+        "hold" => told(rt, settled(journal, batch_of(rt, records))),
+        _ => numbers(rt, journal.report(), journal.pending()),
     }
-    if name == "settle" {
-        return told(alloc, journal.settle());
+}
+
+/// The journal that these calls lead, each with what it did.
+fn leads(rt: &(impl Abort + AllocGlobal), journal: &mut Journal<MemDisk>, calls: &str) {
+    for line in calls.split(';') {
+        let (text, wanted) = line.split_once(" -> ").expect(rt, "a call");
+        let (name, records) = text.split_once(' ').unwrap_or((text, ""));
+        let found = call(rt, journal, name, records);
+        assert!(rt; found.as_str() == wanted, "{line} gave {found}");
     }
-    if name == "hold" {
-        let batch = batch_of(rt, records)?;
-        return told(alloc, settled(journal, batch));
-    }
-    let (owes, numbers) = (journal.pending(), journal.report());
-    let (batches, end) = (numbers.batches, numbers.end);
-    format!(in alloc; "{batches} batches to {end}, {owes}")
 }
 
 /// Leads the journal on a disk through calls, each with what it did.
-pub fn lead(rt: &(impl Abort + AllocGlobal), disk: MemDisk, calls: &str) -> Result<MemDisk, Fail> {
-    let (mut journal, _) = opened(rt.alloc(), disk)?;
-    for line in calls.split(';') {
-        let (text, wanted) = line.split_once(" -> ").ok_or("no call")?;
-        let (name, records) = text.split_once(' ').unwrap_or((text, ""));
-        let found = call(rt, &mut journal, name, records)?;
-        assert!(rt; found.as_str() == wanted, "{line} gave {found}");
-    }
-    Ok(journal.into_disk())
+pub fn lead(rt: &(impl Abort + AllocGlobal), disk: MemDisk, calls: &str) -> MemDisk {
+    let (mut journal, _) = opened(rt.alloc(), disk).expect(rt, "a journal");
+    leads(rt, &mut journal, calls);
+    journal.into_disk()
 }

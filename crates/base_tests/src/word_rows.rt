@@ -1,58 +1,88 @@
 //! The words of command lines.
 
+use crate::tables::{copied, had};
 use command_words::{Wanted, WordsFault, wanted};
-use std::alloc::{AllocError, Global};
-use std::test::Fail;
+use std::process::Abort;
 
 /// The words of a line, split at each `|`.
-fn words_of(alloc: Global, line: &str) -> Result<Vec<String>, AllocError> {
-    let mut words = Vec::new(alloc);
+fn words_of(rt: &(impl Abort + AllocGlobal), line: &str) -> Vec<String> {
+    let mut words = Vec::new(rt.alloc());
     for word in line.split('|') {
-        words.push(String::from_str(alloc, word)?)?;
+        words.push(copied(rt, word)).expect(rt, "memory");
     }
-    Ok(words)
+    words
 }
 
 /// What the words are, written out, or that they are refused.
-fn told(alloc: Global, line: &str) -> Result<String, AllocError> {
-    let words = words_of(alloc, line)?;
-    match wanted(alloc, words.as_slice()) {
-        Ok(command) => text_of(alloc, &command),
-        Err(WordsFault::Refused) => String::from_str(alloc, "refused"),
-        Err(WordsFault::NoMemory) => Err(AllocError),
+fn told(rt: &(impl Abort + AllocGlobal), line: &str) -> String {
+    let words = words_of(rt, line);
+    match wanted(rt.alloc(), words.as_slice()) {
+        Ok(command) => text_of(rt, &command),
+        Err(WordsFault::Refused) => copied(rt, "refused"),
+        Err(WordsFault::NoMemory) => copied(rt, "no memory"),
     }
 }
 
-fn text_of(alloc: Global, command: &Wanted) -> Result<String, AllocError> {
+/// A command that has the most words.
+fn serve_text(rt: &(impl Abort + AllocGlobal), command: &Wanted) -> String {
     match command {
-        Wanted::Init {
-            config,
-            journal,
-            lanes,
-        } => format!(in alloc; "init {config} {journal} {lanes}"),
-        Wanted::Session { config, journal } => format!(in alloc; "session {config} {journal}"),
         Wanted::Serve {
             config,
             journal,
             listen,
             workers,
             links,
-        } => format!(in alloc; "serve {config} {journal} {listen} {workers} {links}"),
+        } => had(
+            rt,
+            format!(in rt.alloc(); "serve {config} {journal} {listen} {workers} {links}"),
+        ),
+        _ => copied(rt, "another"),
+    }
+}
+
+/// A command on the document of a domain.
+fn document_text(rt: &(impl Abort + AllocGlobal), command: &Wanted) -> String {
+    match command {
         Wanted::Export { path, journal } => {
-            format!(in alloc; "export {} {journal}", path.text())
+            let path = path.text();
+            had(rt, format!(in rt.alloc(); "export {path} {journal}"))
         }
         Wanted::Import {
             path,
             journal,
             owner,
-        } => { format!(in alloc; "import {} {journal} {}", path.text(), owner.text()) }
-        Wanted::Sample { n } => format!(in alloc; "sample {n}"),
-        Wanted::Verify { journal } => format!(in alloc; "verify {journal}"),
+        } => {
+            let (path, owner) = (path.text(), owner.text());
+            had(
+                rt,
+                format!(in rt.alloc(); "import {path} {journal} {owner}"),
+            )
+        }
+        _ => serve_text(rt, command),
+    }
+}
+
+fn text_of(rt: &(impl Abort + AllocGlobal), command: &Wanted) -> String {
+    match command {
+        Wanted::Init {
+            config,
+            journal,
+            lanes,
+        } => had(
+            rt,
+            format!(in rt.alloc(); "init {config} {journal} {lanes}"),
+        ),
+        Wanted::Session { config, journal } => {
+            had(rt, format!(in rt.alloc(); "session {config} {journal}"))
+        }
+        Wanted::Sample { n } => had(rt, format!(in rt.alloc(); "sample {n}")),
+        Wanted::Verify { journal } => had(rt, format!(in rt.alloc(); "verify {journal}")),
+        _ => document_text(rt, command),
     }
 }
 
 /// A row a line: words, and the command that they are.
-const COMMANDS: &str = "session -> session hsds.toml hsds.journal
+static COMMANDS: &str = "session -> session hsds.toml hsds.journal
 session|--config|a.toml -> session a.toml hsds.journal
 session|--journal=j|--config=a=b -> session a=b j
 session|--config|session|--journal|/a/-b -> session session /a/-b
@@ -90,17 +120,16 @@ init|--lanes|0000000004 -> init hsds.toml hsds.journal 4
 init|--lanes|2|--journal|j|--config=c -> init c j 2";
 
 #[test]
-fn commands_are_read(rt: HostRuntime) -> Result<(), Fail> {
+fn commands_are_read(rt: HostRuntime) {
     for row in COMMANDS.lines() {
-        let (line, wanted) = row.split_once(" -> ").ok_or("no row")?;
-        let got = told(rt.alloc(), line)?;
+        let (line, wanted) = row.split_once(" -> ").expect(&rt, "a row");
+        let got = told(&rt, line);
         assert!(rt; got.as_str() == wanted, "{row} gave {got}");
     }
-    Ok(())
 }
 
 /// A row a line: words that are no command. One row is one empty word.
-const REFUSED: &str = "init|--lanes|0
+static REFUSED: &str = "init|--lanes|0
 init|--lanes|17
 init|--lanes|x
 init|--lanes|4x
@@ -248,28 +277,26 @@ samples|1
 1|sample";
 
 #[test]
-fn other_words_are_refused(rt: HostRuntime) -> Result<(), Fail> {
-    let alloc = rt.alloc();
-    assert!(rt; wanted(alloc, Vec::new(alloc).as_slice()).is_err());
+fn other_words_are_refused(rt: HostRuntime) {
+    assert!(rt; wanted(rt.alloc(), Vec::new(rt.alloc()).as_slice()).is_err());
     for line in REFUSED.lines() {
-        assert!(rt; told(alloc, line)?.as_str() == "refused", "{line}");
+        assert!(rt; told(&rt, line).as_str() == "refused", "{line}");
     }
-    Ok(())
+}
+
+/// What is told of an import whose owner has so many letters.
+fn owned(rt: &(impl Abort + AllocGlobal), letters: usize) -> String {
+    let owner = had(rt, "a".repeat(rt.alloc(), letters));
+    let line = had(rt, format!(in rt.alloc(); "import|/lab|--owner|{owner}"));
+    told(rt, line.as_str())
 }
 
 #[test]
-fn an_owner_has_255_bytes_at_most(rt: HostRuntime) -> Result<(), Fail> {
-    let alloc = rt.alloc();
-    let mut line = String::from_str(alloc, "import|/lab|--owner|")?;
-    for _ in 0..255 {
-        line.push('a')?;
-    }
+fn an_owner_has_255_bytes_at_most(rt: HostRuntime) {
     assert!(rt;
-        told(alloc, line.as_str())?
+        owned(&rt, 255)
             .as_str()
             .starts_with("import /lab hsds.journal aaa")
     );
-    line.push('a')?;
-    assert!(rt; told(alloc, line.as_str())?.as_str() == "refused");
-    Ok(())
+    assert!(rt; owned(&rt, 256).as_str() == "refused");
 }
