@@ -1,12 +1,11 @@
-//! Lists of calls on arrays beside a plain array and a plain list of cells.
+//! Lists of calls on arrays beside a plain array.
 
 use crate::draws::{Draws, drawn_row};
 use crate::trials::lead;
-use std::alloc::AllocError;
 use std::process::Abort;
 
 /// A row a line.
-const CALLS_ON_SCALARS_AND_LISTS: &str = "u8 scalar - - -;slab all a;places 0 b;slab all c
+static CALLS_ON_SCALARS_AND_LISTS: &str = "u8 scalar - - -;slab all a;places 0 b;slab all c
 i32 scalar - - z;cut;slab all a;cut;install [] q;cut;slab all b
 text null - - z;slab all;places 0;cut
 u8 [5] [0] [2] -;slab [1:4] abc;points [0,4,0] xyz;places 3 pq
@@ -18,12 +17,12 @@ u8 [6] [6] [4] z;install [0] abcd;install [1] efzz;refuse [2] zzzz;refuse [1] ef
 u8 [64] [64] [1] -;slab [0:64:9] abcdefgh;places 60 wxyz;resize [3];resize [64];cut";
 
 #[test]
-fn calls_on_scalars_and_lists(rt: HostRuntime) -> Result<(), AllocError> {
-    lead_all(&rt, CALLS_ON_SCALARS_AND_LISTS)
+fn calls_on_scalars_and_lists(rt: HostRuntime) {
+    lead_all(&rt, CALLS_ON_SCALARS_AND_LISTS);
 }
 
 /// A row a line.
-const CALLS_ON_TABLES: &str =
+static CALLS_ON_TABLES: &str =
     "u8 [4,3] [0,0] [2,2] z;slab [0:2,0:3] abcdef;points [[0,0],[3,2],[0,0]] xyw;resize [3,2];resize [4,3];cut
 i32 [3,3] [0,0] [2,2] z;install [1,1] azzz;install [0,1] bzcz;cut;resize [2,2];cut;resize [3,3];slab [:,:] abcdefghi;cut
 text [2,5] [4,0] [3,4] -;places 4 abcd;slab [0:2,0:5:4] wxyz;resize [4,1];resize [4,6];cut;places 0 q
@@ -36,12 +35,12 @@ text [4,4] [0,0] [3,3] y;slab [1:3,1:3] abcd;slab [1:3,1:3] efgh;points [[2,2],[
 pair [3,2] [0,0] [2,2] -;install [1,0] ab\0\0;cut;slab [2,:] cd;resize [2,2];cut;resize [3,2];install [1,0] ef\0\0;cut";
 
 #[test]
-fn calls_on_tables(rt: HostRuntime) -> Result<(), AllocError> {
-    lead_all(&rt, CALLS_ON_TABLES)
+fn calls_on_tables(rt: HostRuntime) {
+    lead_all(&rt, CALLS_ON_TABLES);
 }
 
 /// A row a line.
-const CALLS_ON_MORE_AXES: &str =
+static CALLS_ON_MORE_AXES: &str =
     "u8 [2,2,2] [0,0,0] [1,2,1] z;slab [:,:,:] abcdefgh;resize [2,1,2];resize [2,2,2];cut
 i32 [3,1,2] [0,0,0] [2,1,2] z;points [[2,0,1],[0,0,0],[2,0,1]] abc;install [1,0,0] dezz;cut;resize [2,1,2];cut
 text [2,0,3] [0,0,0] [2,2,2] -;slab [:,:,:];resize [2,1,3];places 2 abc;resize [1,1,3];resize [2,2,3];cut
@@ -54,12 +53,12 @@ pair [0,0,0,0] [0,0,0,0] [1,1,1,1] -;slab [:,:,:,:];resize [1,1,1,1];places 0 a;
 u8 [3,2,2,1] [3,2,2,1] [2,2,2,1] z;slab [0:3:2,1,0:2,0] abcd;install [1,0,0,0] efghzzzz;slab [2,0,0,0] i;resize [2,2,2,1];cut;resize [3,2,2,1]";
 
 #[test]
-fn calls_on_more_axes(rt: HostRuntime) -> Result<(), AllocError> {
-    lead_all(&rt, CALLS_ON_MORE_AXES)
+fn calls_on_more_axes(rt: HostRuntime) {
+    lead_all(&rt, CALLS_ON_MORE_AXES);
 }
 
 /// A row a line.
-const CALLS_IN_TURN: &str =
+static CALLS_IN_TURN: &str =
     "u8 [10,8] [10,8] [4,4] -;slab [1:10:4,0:7:3] abcdefghi;slab [8:10,4:8] jklmnopq;cut;resize [9,5];resize [10,8];cut
 u8 [10] [10] [3] z;places 0 abcdefghij;resize [3];resize [10];cut;resize [4];cut;resize [10];cut
 i32 [4] [4] [4] -;points [1,1,3] abc;cut;points [1] d;points [1,3,1] efg;cut
@@ -72,24 +71,22 @@ text [5,2] [0,0] [2,1] y;slab [0:5:4,:] abcd;resize [3,2];slab [2,:] ef;resize [
 u8 [2,2,2] [0,2,2] [1,1,1] z;points [[0,0,0],[1,1,1],[0,0,0]] abc;resize [4,2,2];slab [3,:,:] defg;resize [1,1,2];resize [4,2,2];cut";
 
 #[test]
-fn calls_in_turn(rt: HostRuntime) -> Result<(), AllocError> {
-    lead_all(&rt, CALLS_IN_TURN)
+fn calls_in_turn(rt: HostRuntime) {
+    lead_all(&rt, CALLS_IN_TURN);
 }
 
 /// Leads arrays through the rows of a text.
-fn lead_all(rt: &(impl Abort + AllocGlobal), rows: &str) -> Result<(), AllocError> {
+fn lead_all(rt: &(impl Abort + AllocGlobal), rows: &str) {
     for row in rows.lines() {
-        lead(rt, row)?;
+        lead(rt, row);
     }
-    Ok(())
 }
 
 #[test]
-fn drawn_calls(rt: HostRuntime) -> Result<(), AllocError> {
+fn drawn_calls(rt: HostRuntime) {
     let mut draws = Draws::new(1);
     for _ in 0..200 {
         let row = drawn_row(&rt, &mut draws, 8);
-        lead(&rt, row.as_str())?;
+        lead(&rt, row.as_str());
     }
-    Ok(())
 }

@@ -4,13 +4,12 @@ ghost use Rattle.std.specs.Prelude.{◌≤◌, length};
 ghost use Rattle.hdf_values.specs.Attributes.{content, IsSoundAttribute};
 ghost use Rattle.attributes.specs.AttributeMaps.{longest_name};
 
-use crate::tables::{column, tree};
+use crate::tables::{Told, column, had, text_of, tree, try_rows};
 use attributes::{Attributes, MAX_ATTRIBUTE_NAME, attribute_json};
 use hdf_types::TypeFault;
 use hdf_values::{Attribute, AttributeFault, read_attribute};
 use object_ids::Name;
 use shapes::Form;
-use std::alloc::AllocError;
 use std::process::Abort;
 
 /// The attribute that a text spells.
@@ -27,21 +26,41 @@ fn name(rt: &(impl Abort + AllocGlobal), text: &str) -> Name
     Name::read(rt.alloc(), text, MAX_ATTRIBUTE_NAME).expect(rt, "a name")
 }
 
-/// The tree of an attribute's copy, as text.
-fn told(rt: &(impl Abort + AllocGlobal), row: &str) -> Result<String, AllocError> {
-    let copy = attribute(rt, column(row, 0)).copy(rt.alloc())?;
-    let form = if column(row, 1) == "rest" {
+/// The tree of an attribute, as text.
+fn printed(
+    rt: &(impl Abort + AllocGlobal),
+    attribute: &Attribute,
+    form: Form,
+    with_value: bool,
+) -> String
+    requires { IsSoundAttribute (content attribute.now) }
+{
+    let tree = attribute_json(rt.alloc(), &name(rt, "unit"), attribute, form, with_value);
+    text_of(rt, &tree.expect(rt, "memory"))
+}
+
+fn form_of(word: &str) -> Form {
+    if word == "rest" {
         Form::Rest
     } else {
         Form::Document
-    };
-    let with_value = column(row, 2) == "true";
-    let tree = attribute_json(rt.alloc(), &name(rt, "unit"), &copy, form, with_value)?;
-    tree.to_string(rt.alloc())
+    }
+}
+
+/// The tree of an attribute's copy, as text.
+struct PrintedRow;
+
+impl Told for PrintedRow {
+    fn told(rt: &(impl Abort + AllocGlobal), row: &str) -> String {
+        let attribute = attribute(rt, column(row, 0));
+        let copy = attribute.copy(rt.alloc()).expect(rt, "memory");
+        let with_value = column(row, 2) == "true";
+        printed(rt, &copy, form_of(column(row, 1)), with_value)
+    }
 }
 
 /// A row a line: an attribute, the form, whether its value is asked for, and its tree.
-const PRINTED: &str =
+static PRINTED: &str =
     r#"{"type":{"class":"H5T_STRING","length":3},"value":"mm"}|rest|false|{"name":"unit","shape":{"class":"H5S_SCALAR"},"type":{"charSet":"H5T_CSET_ASCII","class":"H5T_STRING","length":3,"strPad":"H5T_STR_NULLTERM"}}
 {"type":{"class":"H5T_STRING","length":3},"value":"mm"}|rest|true|{"name":"unit","shape":{"class":"H5S_SCALAR"},"type":{"charSet":"H5T_CSET_ASCII","class":"H5T_STRING","length":3,"strPad":"H5T_STR_NULLTERM"},"value":"mm"}
 {"type":{"class":"H5T_STRING","length":3},"value":"mm"}|document|false|{"name":"unit","shape":{"class":"H5S_SCALAR"},"type":{"charSet":"H5T_CSET_ASCII","class":"H5T_STRING","length":3,"strPad":"H5T_STR_NULLTERM"}}
@@ -52,38 +71,35 @@ const PRINTED: &str =
 {"type":{"class":"H5T_COMPOUND","fields":[{"name":"day","type":"H5T_STD_I32LE"},{"name":"note","type":{"class":"H5T_STRING","length":16}}]},"value":[-7,"dry"]}|document|true|{"name":"unit","shape":{"class":"H5S_SCALAR"},"type":{"class":"H5T_COMPOUND","fields":[{"name":"day","type":{"base":"H5T_STD_I32LE","class":"H5T_INTEGER"}},{"name":"note","type":{"charSet":"H5T_CSET_ASCII","class":"H5T_STRING","length":16,"strPad":"H5T_STR_NULLTERM"}}]},"value":[-7,"dry"]}"#;
 
 #[test]
-fn attributes_are_printed_with_their_names(rt: HostRuntime) -> Result<(), AllocError> {
-    for row in PRINTED.lines() {
-        let got = told(&rt, row)?;
-        assert!(rt; got.as_str() == column(row, 3), "{row} gave {got}");
-    }
-    Ok(())
+fn attributes_are_printed_with_their_names(rt: HostRuntime) {
+    try_rows::<PrintedRow>(&rt, PRINTED, 3);
 }
 
 /// A fault with how deep a type's path is.
-fn fault_text(rt: &impl AllocGlobal, fault: &AttributeFault) -> Result<String, AllocError> {
+fn fault_text(rt: &(impl Abort + AllocGlobal), fault: &AttributeFault) -> String {
     match fault {
         AttributeFault::BadType(TypeFault::Refused { path, cause }) => {
             let depth = path.len();
-            format!(in rt.alloc(); "BadType {depth} {cause:?}")
+            had(rt, format!(in rt.alloc(); "BadType {depth} {cause:?}"))
         }
-        other => format!(in rt.alloc(); "{other:?}"),
+        other => had(rt, format!(in rt.alloc(); "{other:?}")),
     }
 }
 
 /// An attribute with its value as it is printed, or the fault of a tree.
-fn told_attribute(rt: &(impl Abort + AllocGlobal), text: &str) -> Result<String, AllocError> {
-    match read_attribute(rt.alloc(), &tree(rt, text)) {
-        Ok(found) => {
-            let tree = attribute_json(rt.alloc(), &name(rt, "unit"), &found, Form::Rest, true)?;
-            tree.to_string(rt.alloc())
+struct AttributeRow;
+
+impl Told for AttributeRow {
+    fn told(rt: &(impl Abort + AllocGlobal), row: &str) -> String {
+        match read_attribute(rt.alloc(), &tree(rt, column(row, 0))) {
+            Ok(found) => printed(rt, &found, Form::Rest, true),
+            Err(fault) => fault_text(rt, &fault),
         }
-        Err(fault) => fault_text(rt, &fault),
     }
 }
 
 /// A row a line: a tree, and the attribute that it spells or the fault.
-const ATTRIBUTES: &str =
+static ATTRIBUTES: &str =
     r#"{"type":{"class":"H5T_STRING","length":3},"value":"mm"}|{"name":"unit","shape":{"class":"H5S_SCALAR"},"type":{"charSet":"H5T_CSET_ASCII","class":"H5T_STRING","length":3,"strPad":"H5T_STR_NULLTERM"},"value":"mm"}
 {"type":"H5T_STD_U16BE","shape":[2,1],"value":[[1],[2]],"other":1}|{"name":"unit","shape":{"class":"H5S_SIMPLE","dims":[2,1],"maxdims":[2,1]},"type":{"base":"H5T_STD_U16BE","class":"H5T_INTEGER"},"value":[[1],[2]]}
 {"type":"H5T_STD_U8LE","shape":"H5S_NULL","value":null}|{"name":"unit","shape":{"class":"H5S_NULL"},"type":{"base":"H5T_STD_U8LE","class":"H5T_INTEGER"},"value":null}
@@ -99,37 +115,38 @@ const ATTRIBUTES: &str =
 {"type":{"class":"H5T_STRING","length":16385},"shape":[4],"value":["a","","",""]}|TooLarge"#;
 
 #[test]
-fn trees_spell_attributes_or_have_a_fault(rt: HostRuntime) -> Result<(), AllocError> {
-    for row in ATTRIBUTES.lines() {
-        let got = told_attribute(&rt, column(row, 0))?;
-        assert!(rt; got.as_str() == column(row, 1), "{row} gave {got}");
-    }
-    Ok(())
+fn trees_spell_attributes_or_have_a_fault(rt: HostRuntime) {
+    try_rows::<AttributeRow>(&rt, ATTRIBUTES, 1);
 }
 
 /// An attribute of no value.
-const NONE: &str = r#"{"type":"H5T_STD_I8LE","shape":"H5S_NULL","value":null}"#;
+static NONE: &str = r#"{"type":"H5T_STD_I8LE","shape":"H5S_NULL","value":null}"#;
 
 /// A row a line: whether values are asked for, and the list.
-const LISTED: &str =
+static LISTED: &str =
     r#"false|[{"name":"ab","shape":{"class":"H5S_NULL"},"type":{"base":"H5T_STD_I8LE","class":"H5T_INTEGER"}},{"name":"b","shape":{"class":"H5S_NULL"},"type":{"base":"H5T_STD_I8LE","class":"H5T_INTEGER"}}]
 true|[{"name":"ab","shape":{"class":"H5S_NULL"},"type":{"base":"H5T_STD_I8LE","class":"H5T_INTEGER"},"value":null},{"name":"b","shape":{"class":"H5S_NULL"},"type":{"base":"H5T_STD_I8LE","class":"H5T_INTEGER"},"value":null}]"#;
 
+fn put(rt: &(impl Abort + AllocGlobal), attributes: &mut Attributes, text: &str) {
+    let done = attributes.put(name(rt, text), attribute(rt, NONE));
+    assert!(rt; done.is_ok(), "{text}");
+}
+
+/// Whether the list of attributes is that of a row.
+fn is_listed(rt: &(impl Abort + AllocGlobal), attributes: &Attributes, row: &str) -> bool {
+    let with_value = column(row, 0) == "true";
+    let list = attributes.list(rt.alloc(), Form::Rest, with_value);
+    text_of(rt, &list.expect(rt, "memory")).as_str() == column(row, 1)
+}
+
 #[test]
-fn attributes_are_listed_by_their_names(rt: HostRuntime) -> Result<(), AllocError> {
+fn attributes_are_listed_by_their_names(rt: HostRuntime) {
     let mut attributes = Attributes::new(rt.alloc());
     for text in ["b", "a", "ab"] {
-        let done = attributes.put(name(&rt, text), attribute(&rt, NONE));
-        assert!(rt; done.is_ok(), "{text}");
+        put(&rt, &mut attributes, text);
     }
     assert!(rt; attributes.remove(&name(&rt, "a")).is_ok());
     for row in LISTED.lines() {
-        let with_value = column(row, 0) == "true";
-        let list = attributes.list(rt.alloc(), Form::Rest, with_value)?;
-        assert!(rt;
-            list.to_string(rt.alloc())?.as_str() == column(row, 1),
-            "{row}"
-        );
+        assert!(rt; is_listed(&rt, &attributes, row), "{row}");
     }
-    Ok(())
 }

@@ -1,18 +1,27 @@
 //! Chunks of arrays, by default and as properties spell them.
 
 use crate::shape_rows::shape_in;
-use crate::tables::{column, number, tree};
+use crate::tables::{Told, column, had, number, tree, try_rows};
 use chunk_layout::{Layout, default_layout, read_layout};
-use std::alloc::AllocError;
 use std::process::Abort;
 
-fn printed(rt: &impl AllocGlobal, layout: &Layout) -> Result<String, AllocError> {
+fn printed(rt: &(impl Abort + AllocGlobal), layout: &Layout) -> String {
     let dims = layout.chunk.as_slice();
-    format!(in rt.alloc(); "{dims:?}")
+    had(rt, format!(in rt.alloc(); "{dims:?}"))
+}
+
+/// The chunk that a row's shape has by default.
+struct DefaultRow;
+
+impl Told for DefaultRow {
+    fn told(rt: &(impl Abort + AllocGlobal), row: &str) -> String {
+        let shape = shape_in(rt, column(row, 0), "").expect(rt, "a shape");
+        printed(rt, &default_layout(&shape, number(rt, column(row, 1))))
+    }
 }
 
 /// A row a line: dims, the bytes of an element, and the chunk.
-const DEFAULTS: &str = r#"[1000,1000]|4|[125, 125]
+static DEFAULTS: &str = r#"[1000,1000]|4|[125, 125]
 [365,24]|4|[365, 24]
 [2]|4|[2]
 [0]|4|[1]
@@ -30,27 +39,26 @@ const DEFAULTS: &str = r#"[1000,1000]|4|[125, 125]
 "H5S_NULL"|4|[]"#;
 
 #[test]
-fn large_chunks_are_halved(rt: HostRuntime) -> Result<(), AllocError> {
-    for row in DEFAULTS.lines() {
-        let shape = shape_in(&rt, column(row, 0), "").expect(&rt, "a shape");
-        let got = printed(&rt, &default_layout(&shape, number(&rt, column(row, 1))))?;
-        assert!(rt; got.as_str() == column(row, 2), "{row} gave {got}");
-    }
-    Ok(())
+fn large_chunks_are_halved(rt: HostRuntime) {
+    try_rows::<DefaultRow>(&rt, DEFAULTS, 2);
 }
 
 /// The chunk that a row's properties give to its shape, printed, or their fault.
-fn told(rt: &(impl Abort + AllocGlobal), row: &str) -> Result<String, AllocError> {
-    let properties = tree(rt, column(row, 0));
-    let shape = shape_in(rt, column(row, 1), "").expect(rt, "a shape");
-    match read_layout(&properties, &shape, number(rt, column(row, 2))) {
-        Ok(layout) => printed(rt, &layout),
-        Err(fault) => format!(in rt.alloc(); "{fault:?}"),
+struct PropertiesRow;
+
+impl Told for PropertiesRow {
+    fn told(rt: &(impl Abort + AllocGlobal), row: &str) -> String {
+        let properties = tree(rt, column(row, 0));
+        let shape = shape_in(rt, column(row, 1), "").expect(rt, "a shape");
+        match read_layout(&properties, &shape, number(rt, column(row, 2))) {
+            Ok(layout) => printed(rt, &layout),
+            Err(fault) => had(rt, format!(in rt.alloc(); "{fault:?}")),
+        }
     }
 }
 
 /// A row a line: properties, dims, the bytes of an element, and the chunk or the first fault.
-const PROPERTIES: &str = r#"{}|[4,4]|4|[4, 4]
+static PROPERTIES: &str = r#"{}|[4,4]|4|[4, 4]
 {"filters":7}|[4,4]|4|[4, 4]
 {"layout":{"class":"H5D_CONTIGUOUS"}}|[16385]|4|[8193]
 {"layout":{"class":"H5D_COMPACT","dims":"x"}}|[0]|4|[1]
@@ -79,10 +87,6 @@ null|[4]|4|NotALayout
 {"layout":{"class":"H5D_CHUNKED","dims":[1,2]}}|[1,1]|1048576|TooBig"#;
 
 #[test]
-fn properties_give_layouts_or_have_a_first_fault(rt: HostRuntime) -> Result<(), AllocError> {
-    for row in PROPERTIES.lines() {
-        let got = told(&rt, row)?;
-        assert!(rt; got.as_str() == column(row, 3), "{row} gave {got}");
-    }
-    Ok(())
+fn properties_give_layouts_or_have_a_first_fault(rt: HostRuntime) {
+    try_rows::<PropertiesRow>(&rt, PROPERTIES, 3);
 }

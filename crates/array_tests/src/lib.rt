@@ -1,5 +1,5 @@
 //! Tests of the array crates: types, shapes, chunks, selections and values by rows worked out by
-//! hand, and arrays led through lists of calls beside a plain array and a plain list of cells.
+//! hand, and arrays led through lists of calls beside a plain array.
 #![tactic(auto)]
 
 #[cfg(test)]

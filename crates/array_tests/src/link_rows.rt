@@ -1,23 +1,30 @@
 //! Links as trees spell them, and the links of a group.
 
-use crate::tables::column;
+use crate::tables::{Told, column, had, text_of, tree, try_rows};
 use groups_links::{
     LinkFault, LinkTo, Links, MAX_TEXT, MAX_TITLE, good_title, link_json, read_link,
 };
 use object_ids::Name;
-use serde_json::Value;
 use shapes::Form;
-use std::alloc::Global;
-use std::test::Fail;
+use std::process::Abort;
 
-/// The link that a text spells, copied and printed under the title `t`; empty where it spells none.
-fn read_twice(alloc: Global, text: &str, form: Form) -> Result<String, Fail> {
-    let tree = Value::from_str(alloc, text)?;
-    let title = Name::read(alloc, "t", MAX_TITLE)?;
-    match read_link(alloc, &tree) {
-        Ok(link) => Ok(link_json(alloc, &title, &link.copy()?, form)?.to_string(alloc)?),
-        Err(LinkFault::NotALink) => Ok(String::new(alloc)),
-        Err(fault) => Err(fault.into()),
+fn name(rt: &(impl Abort + AllocGlobal), text: &str, most: usize) -> Name {
+    Name::read(rt.alloc(), text, most).expect(rt, "a name")
+}
+
+/// A link copied and printed under the title `t`.
+fn printed(rt: &(impl Abort + AllocGlobal), link: &LinkTo, form: Form) -> String {
+    let copy = link.copy().expect(rt, "memory");
+    let tree = link_json(rt.alloc(), &name(rt, "t", MAX_TITLE), &copy, form);
+    text_of(rt, &tree.expect(rt, "memory"))
+}
+
+/// The link that a text spells, copied and printed; empty where it spells none.
+fn read_twice(rt: &(impl Abort + AllocGlobal), text: &str, form: Form) -> String {
+    match read_link(rt.alloc(), &tree(rt, text)) {
+        Ok(link) => printed(rt, &link, form),
+        Err(LinkFault::NotALink) => String::new(rt.alloc()),
+        Err(LinkFault::NoMemory) => panic!(rt; "no memory"),
     }
 }
 
@@ -29,8 +36,16 @@ fn form_of(word: &str) -> Form {
     }
 }
 
+struct LinkRow;
+
+impl Told for LinkRow {
+    fn told(rt: &(impl Abort + AllocGlobal), row: &str) -> String {
+        read_twice(rt, column(row, 1), form_of(column(row, 0)))
+    }
+}
+
 /// A row a line: the form, a tree, and the link that it spells, if any.
-const LINKS: &str = r#"rest|{"h5path":"/x"}|{"class":"H5L_TYPE_SOFT","h5path":"/x","title":"t"}
+static LINKS: &str = r#"rest|{"h5path":"/x"}|{"class":"H5L_TYPE_SOFT","h5path":"/x","title":"t"}
 rest|{"id":"g-00000000-0001-8000-8000-010000000002"}|{"class":"H5L_TYPE_HARD","collection":"groups","id":"g-00000000-0001-8000-8000-010000000002","title":"t"}
 rest|{"h5domain":"/d","h5path":"/x","id":"d-00000000-0002-8000-bfff-ffffffffffff"}|{"class":"H5L_TYPE_HARD","collection":"datasets","id":"d-00000000-0002-8000-bfff-ffffffffffff","title":"t"}
 rest|{"h5path":7,"id":"t-00000000-0001-8000-8000-000000000000"}|{"class":"H5L_TYPE_HARD","collection":"datatypes","id":"t-00000000-0001-8000-8000-000000000000","title":"t"}
@@ -62,82 +77,79 @@ rest|{"h5path":"/x","h5domain":null,"file":"/f"}|
 rest|{"h5path":"/x","file":1,"domain":"/e"}|"#;
 
 #[test]
-fn links_are_read_and_printed(rt: HostRuntime) -> Result<(), Fail> {
-    for row in LINKS.lines() {
-        let again = read_twice(rt.alloc(), column(row, 1), form_of(column(row, 0)))?;
-        assert!(rt; again.as_str() == column(row, 2), "{row} gave {again}");
-    }
-    Ok(())
+fn links_are_read_and_printed(rt: HostRuntime) {
+    try_rows::<LinkRow>(&rt, LINKS, 2);
 }
 
-#[test]
-fn printed_links_are_read_again(rt: HostRuntime) -> Result<(), Fail> {
-    for row in LINKS.lines() {
+/// What a printed link of a row is read as; a row of another form, or that prints nothing, is as it is.
+struct PrintedRow;
+
+impl Told for PrintedRow {
+    fn told(rt: &(impl Abort + AllocGlobal), row: &str) -> String {
         let printed = column(row, 2);
         if column(row, 0) == "rest" && !printed.is_empty() {
-            let again = read_twice(rt.alloc(), printed, Form::Rest)?;
-            assert!(rt; again.as_str() == printed, "{row} gave {again}");
+            return read_twice(rt, printed, Form::Rest);
         }
+        had(rt, String::from_str(rt.alloc(), printed))
     }
-    Ok(())
-}
-
-/// So many letters.
-fn letters(alloc: Global, count: u16) -> Result<String, Fail> {
-    let mut text = String::new(alloc);
-    for _ in 0..count {
-        text.push('a')?;
-    }
-    Ok(text)
 }
 
 #[test]
-fn paths_and_files_have_a_greatest_length(rt: HostRuntime) -> Result<(), Fail> {
-    let alloc = rt.alloc();
-    for (path, file, is_link) in [
-        (1024u16, 1u16, true),
-        (1025, 1, false),
-        (1, 1024, true),
-        (1, 1025, false),
-    ] {
-        let path = letters(alloc, path)?;
-        let file = letters(alloc, file)?;
-        let text = format!(in alloc; "{{\"h5path\":\"{path}\",\"file\":\"{file}\"}}")?;
-        let printed = read_twice(alloc, text.as_str(), Form::Rest)?;
-        assert!(rt; printed.is_empty() != is_link, "{text}");
+fn printed_links_are_read_again(rt: HostRuntime) {
+    try_rows::<PrintedRow>(&rt, LINKS, 2);
+}
+
+/// The letters of a path and of a file, and whether there is a link with them.
+static LENGTHS: [(usize, usize, bool); 4] = [
+    (1024, 1, true),
+    (1025, 1, false),
+    (1, 1024, true),
+    (1, 1025, false),
+];
+
+/// Whether a link with so many letters is read.
+fn is_link(rt: &(impl Abort + AllocGlobal), path: usize, file: usize) -> bool {
+    let path = had(rt, "a".repeat(rt.alloc(), path));
+    let file = had(rt, "a".repeat(rt.alloc(), file));
+    let text = format!(in rt.alloc(); "{{\"h5path\":\"{path}\",\"file\":\"{file}\"}}");
+    !read_twice(rt, had(rt, text).as_str(), Form::Rest).is_empty()
+}
+
+#[test]
+fn paths_and_files_have_a_greatest_length(rt: HostRuntime) {
+    for (path, file, wanted) in LENGTHS.iter() {
+        assert!(rt; is_link(&rt, *path, *file) == *wanted, "{path} {file}");
     }
-    Ok(())
 }
 
 /// Puts a soft link at a title.
-fn put_soft(alloc: Global, links: &mut Links, title: &str, path: &str) -> Result<(), Fail> {
-    let title = Name::read(alloc, title, MAX_TITLE)?;
-    let path = Name::read(alloc, path, MAX_TEXT)?;
+fn put_soft(rt: &(impl Abort + AllocGlobal), links: &mut Links, title: &str, path: &str) {
+    let title = name(rt, title, MAX_TITLE);
+    let path = Name::read(rt.alloc(), path, MAX_TEXT).expect(rt, "a path");
     if good_title(&title) {
-        links.put(title, LinkTo::Soft(path))?;
+        assert!(rt; links.put(title, LinkTo::Soft(path)).is_ok());
     }
-    Ok(())
 }
 
+/// A row a line: a title and a path. There is no link at the last title.
+static SOFT: &str = "b|/1
+a|/2
+B|/4
+\u{e9}|/5
+/|/6";
+
 #[test]
-fn links_are_listed_by_their_titles(rt: HostRuntime) -> Result<(), Fail> {
-    let alloc = rt.alloc();
-    let mut links = Links::new(alloc);
-    for (title, path) in [
-        ("b", "/1"),
-        ("a", "/2"),
-        ("B", "/4"),
-        ("\u{e9}", "/5"),
-        ("/", "/6"),
-    ] {
-        put_soft(alloc, &mut links, title, path)?;
+fn links_are_listed_by_their_titles(rt: HostRuntime) {
+    let mut links = Links::new(rt.alloc());
+    for row in SOFT.lines() {
+        put_soft(&rt, &mut links, column(row, 0), column(row, 1));
     }
-    assert!(rt; links.remove(&Name::read(alloc, "a", MAX_TITLE)?).is_ok());
-    let listed = links.list(alloc, Form::Document)?.to_string(alloc)?;
-    assert_eq!(rt; listed.as_str(), LISTED);
-    Ok(())
+    assert!(rt; links.remove(&name(&rt, "a", MAX_TITLE)).is_ok());
+    let listed = links.list(rt.alloc(), Form::Document);
+    let listed = text_of(&rt, &listed.expect(&rt, "memory"));
+    assert!(rt; listed.as_str() == LISTED, "{listed}");
 }
 
 /// The links that are left.
-const LISTED: &str =
+static LISTED: &str =
     r#"[{"class":"H5L_TYPE_SOFT","h5path":"/4","title":"B"},{"class":"H5L_TYPE_SOFT","h5path":"/1","title":"b"},{"class":"H5L_TYPE_SOFT","h5path":"/5","title":"é"}]"#;

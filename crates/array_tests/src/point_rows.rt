@@ -1,32 +1,44 @@
 //! Points as trees spell them.
 
 use crate::shape_rows::shape_in;
-use crate::tables::{column, tree};
+use crate::tables::{Told, column, had, tree, try_rows};
 use point_select::{Points, read_points};
 use shapes::Dims;
-use std::alloc::{AllocError, Global};
 use std::process::Abort;
 
 /// The points that a tree spells on a shape, each printed as its coordinates, or their fault.
-fn told(rt: &(impl Abort + AllocGlobal), shape: &str, points: &str) -> Result<String, AllocError> {
+fn told(rt: &(impl Abort + AllocGlobal), shape: &str, points: &str) -> String {
     let shape = shape_in(rt, shape, "").expect(rt, "a shape");
     match read_points(rt.alloc(), &tree(rt, points), &shape) {
-        Ok(points) => printed(rt.alloc(), &points),
-        Err(fault) => format!(in rt.alloc(); "{fault:?}"),
+        Ok(points) => printed(rt, &points),
+        Err(fault) => had(rt, format!(in rt.alloc(); "{fault:?}")),
     }
 }
 
-fn printed(alloc: Global, points: &Points) -> Result<String, AllocError> {
-    let mut text = String::new(alloc);
+fn coords_text(rt: &(impl Abort + AllocGlobal), at: &Dims) -> String {
+    let coords = at.as_slice();
+    had(rt, format!(in rt.alloc(); "{coords:?}"))
+}
+
+fn printed(rt: &(impl Abort + AllocGlobal), points: &Points) -> String {
+    let mut text = String::new(rt.alloc());
     for at in points.as_slice() {
-        let coords = at.as_slice();
-        text.push_str(format!(in alloc; "{coords:?}")?.as_str())?;
+        text.push_str(coords_text(rt, at).as_str())
+            .expect(rt, "memory");
     }
-    Ok(text)
+    text
+}
+
+struct PointsRow;
+
+impl Told for PointsRow {
+    fn told(rt: &(impl Abort + AllocGlobal), row: &str) -> String {
+        told(rt, column(row, 0), column(row, 1))
+    }
 }
 
 /// A row a line: a shape, points, and what they spell or the first fault.
-const POINTS: &str = r#"[2,3]|[]|
+static POINTS: &str = r#"[2,3]|[]|
 [2,3]|[[1,2]]|[1, 2]
 [2,3]|[[1,2],[0,0],[1,2]]|[1, 2][0, 0][1, 2]
 [4]|[1,1,3]|[1][1][3]
@@ -58,41 +70,38 @@ const POINTS: &str = r#"[2,3]|[]|
 "H5S_SCALAR"|null|Syntax { index: 0 }"#;
 
 #[test]
-fn trees_spell_points_or_have_a_first_fault(rt: HostRuntime) -> Result<(), AllocError> {
-    for row in POINTS.lines() {
-        let got = told(&rt, column(row, 0), column(row, 1))?;
-        assert!(rt; got.as_str() == column(row, 2), "{row} gave {got}");
-    }
-    Ok(())
+fn trees_spell_points_or_have_a_first_fault(rt: HostRuntime) {
+    try_rows::<PointsRow>(&rt, POINTS, 2);
 }
 
 #[test]
-fn a_vector_of_points_goes_in_and_out(rt: HostRuntime) -> Result<(), AllocError> {
-    let list = Points::new(vec![in rt.alloc(); Dims::new(), Dims::new()]?).into_vec();
-    assert_eq!(rt; list.len(), 2);
-    Ok(())
+fn a_vector_of_points_goes_in_and_out(rt: HostRuntime) {
+    let points = vec![in rt.alloc(); Dims::new(), Dims::new()].expect(&rt, "memory");
+    assert!(rt; Points::new(points).into_vec().len() == 2);
 }
 
-/// A list of `n` zeros.
-fn zeros(alloc: Global, n: u32) -> Result<String, AllocError> {
-    let mut text = String::from_str(alloc, "[0")?;
-    for _ in 1..n {
-        text.push_str(",0")?;
+/// A list of a zero and so many more.
+fn zeros(rt: &(impl Abort + AllocGlobal), more: usize) -> String {
+    let zeros = had(rt, ",0".repeat(rt.alloc(), more));
+    had(rt, format!(in rt.alloc(); "[0{zeros}]"))
+}
+
+/// How many points a list of a zero and so many more has on a shape of four cells.
+fn count_of_zeros(rt: &(impl Abort + AllocGlobal), more: usize) -> usize {
+    let shape = shape_in(rt, "[4]", "").expect(rt, "a shape");
+    let tree = tree(rt, zeros(rt, more).as_str());
+    match read_points(rt.alloc(), &tree, &shape) {
+        Ok(points) => points.len(),
+        Err(_) => 0,
     }
-    text.push_str("]")?;
-    Ok(text)
 }
 
 #[test]
-fn points_are_counted_first(rt: HostRuntime) -> Result<(), AllocError> {
-    let shape = shape_in(&rt, "[4]", "").expect(&rt, "a shape");
-    let most = zeros(rt.alloc(), 65_536)?;
-    let read = read_points(rt.alloc(), &tree(&rt, most.as_str()), &shape);
-    assert!(rt; read.map(|points| points.len()) == Ok(65_536));
-    let more = zeros(rt.alloc(), 65_537)?;
+fn points_are_counted_first(rt: HostRuntime) {
+    assert!(rt; count_of_zeros(&rt, 65_535) == 65_536);
+    let more = zeros(&rt, 65_536);
     for shape in ["[4]", "[2,3]", "\"H5S_NULL\"", "\"H5S_SCALAR\""] {
-        let got = told(&rt, shape, more.as_str())?;
+        let got = told(&rt, shape, more.as_str());
         assert!(rt; got.as_str() == "TooMany { count: 65537 }", "{shape}");
     }
-    Ok(())
 }

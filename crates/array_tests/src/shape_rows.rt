@@ -3,10 +3,9 @@
 ghost use Rattle.std.specs.Prelude.{IfOk};
 ghost use Rattle.shapes.specs.Shapes.{IsSound};
 
-use crate::tables::{column, tree};
+use crate::tables::{Told, column, had, text_of, tree, try_rows};
 use serde_json::Value;
 use shapes::{Form, Shape, ShapeFault, count, read_dims, read_shape, resized, shape_json};
-use std::alloc::{AllocError, Global};
 use std::process::Abort;
 
 /// The shape of a tree and of another for its limits. An empty text is no tree.
@@ -30,15 +29,26 @@ fn some_tree(rt: &(impl Abort + AllocGlobal), text: &str) -> Option<Value> {
 }
 
 /// A shape printed, or the name of its fault.
-fn printed(alloc: Global, read: Result<Shape, ShapeFault>) -> Result<String, AllocError> {
+fn printed(rt: &(impl Abort + AllocGlobal), read: Result<Shape, ShapeFault>) -> String {
     match read {
-        Ok(shape) => shape_json(alloc, &shape, Form::Rest)?.to_string(alloc),
-        Err(fault) => format!(in alloc; "{fault:?}"),
+        Ok(shape) => {
+            let tree = shape_json(rt.alloc(), &shape, Form::Rest);
+            text_of(rt, &tree.expect(rt, "memory"))
+        }
+        Err(fault) => had(rt, format!(in rt.alloc(); "{fault:?}")),
+    }
+}
+
+struct ShapeRow;
+
+impl Told for ShapeRow {
+    fn told(rt: &(impl Abort + AllocGlobal), row: &str) -> String {
+        printed(rt, shape_in(rt, column(row, 0), column(row, 1)))
     }
 }
 
 /// A row a line: a shape, its limits, and what they spell or the first fault.
-const SHAPES: &str = r#"||{"class":"H5S_SCALAR"}
+static SHAPES: &str = r#"||{"class":"H5S_SCALAR"}
 "H5S_SCALAR"||{"class":"H5S_SCALAR"}
 {"class":"H5S_SCALAR"}||{"class":"H5S_SCALAR"}
 "H5S_NULL"||{"class":"H5S_NULL"}
@@ -88,38 +98,44 @@ true||NotAShape
 [65536,65536,65537]|[0,0,5]|DimOverMax { axis: 2 }"#;
 
 #[test]
-fn trees_spell_shapes_or_have_a_first_fault(rt: HostRuntime) -> Result<(), AllocError> {
-    for row in SHAPES.lines() {
-        let got = printed(rt.alloc(), shape_in(&rt, column(row, 0), column(row, 1)))?;
-        assert!(rt; got.as_str() == column(row, 2), "{row} gave {got}");
-    }
-    Ok(())
+fn trees_spell_shapes_or_have_a_first_fault(rt: HostRuntime) {
+    try_rows::<ShapeRow>(&rt, SHAPES, 2);
 }
 
-/// A list of `n` ones.
-fn ones(alloc: Global, n: u8) -> Result<String, AllocError> {
-    let mut text = String::from_str(alloc, "[1")?;
-    for _ in 1..n {
-        text.push_str(",1")?;
-    }
-    text.push_str("]")?;
-    Ok(text)
+/// A list of a one and so many more.
+fn ones(rt: &(impl Abort + AllocGlobal), more: usize) -> String {
+    let ones = had(rt, ",1".repeat(rt.alloc(), more));
+    had(rt, format!(in rt.alloc(); "[1{ones}]"))
+}
+
+/// A shape of a one and so many more, and whether these are dims.
+fn has_rank(rt: &(impl Abort + AllocGlobal), more: usize, cells: Result<u64, ShapeFault>) -> bool {
+    let text = ones(rt, more);
+    let shape = shape_in(rt, text.as_str(), "");
+    let dims = read_dims(&tree(rt, text.as_str()));
+    dims.is_some() == cells.is_ok() && shape.map(|shape| count(&shape)) == cells
 }
 
 #[test]
-fn ranks_end_at_thirty_two(rt: HostRuntime) -> Result<(), AllocError> {
-    for (rank, cells) in [(1u8, Ok(1)), (32, Ok(1)), (33, Err(ShapeFault::Rank))] {
-        let text = ones(rt.alloc(), rank)?;
-        let shape = shape_in(&rt, text.as_str(), "");
-        assert!(rt; shape.map(|shape| count(&shape)) == cells, "rank {rank}");
-        let dims = read_dims(&tree(&rt, text.as_str()));
-        assert!(rt; dims.is_some() == cells.is_ok(), "rank {rank}");
+fn ranks_end_at_thirty_two(rt: HostRuntime) {
+    assert!(rt; has_rank(&rt, 0, Ok(1)));
+    assert!(rt; has_rank(&rt, 31, Ok(1)));
+    assert!(rt; has_rank(&rt, 32, Err(ShapeFault::Rank)));
+}
+
+/// The shape of a row with other dims.
+struct ResizedRow;
+
+impl Told for ResizedRow {
+    fn told(rt: &(impl Abort + AllocGlobal), row: &str) -> String {
+        let shape = shape_in(rt, column(row, 0), column(row, 1)).expect(rt, "a shape");
+        let dims = read_dims(&tree(rt, column(row, 2))).expect(rt, "dims");
+        printed(rt, resized(&shape, &dims))
     }
-    Ok(())
 }
 
 /// A row a line: a shape, its limits, other dims, and the shape with these or the fault.
-const RESIZED: &str =
+static RESIZED: &str =
     r#"[2,3,4]|[0,4,0]|[9,4,1]|{"class":"H5S_SIMPLE","dims":[9,4,1],"maxdims":[0,4,0]}
 [2,3,4]|[0,4,0]|[0,0,0]|{"class":"H5S_SIMPLE","dims":[0,0,0],"maxdims":[0,4,0]}
 [2,3,4]|[0,4,0]|[0,5,0]|DimOverMax { axis: 1 }
@@ -131,22 +147,17 @@ const RESIZED: &str =
 "H5S_SCALAR"||1|Rank"#;
 
 #[test]
-fn shapes_take_other_dims(rt: HostRuntime) -> Result<(), AllocError> {
-    for row in RESIZED.lines() {
-        let shape = shape_in(&rt, column(row, 0), column(row, 1)).expect(&rt, "a shape");
-        let dims = read_dims(&tree(&rt, column(row, 2))).expect(&rt, "dims");
-        let got = printed(rt.alloc(), resized(&shape, &dims))?;
-        assert!(rt; got.as_str() == column(row, 3), "{row} gave {got}");
-    }
-    Ok(())
+fn shapes_take_other_dims(rt: HostRuntime) {
+    try_rows::<ResizedRow>(&rt, RESIZED, 3);
 }
 
+/// A shape without a limit, in the document's words.
+static UNLIMITED: &str = r#"{"class":"H5S_SIMPLE","dims":[0],"maxdims":["H5S_UNLIMITED"]}"#;
+
 #[test]
-fn the_document_has_a_word_for_no_limit(rt: HostRuntime) -> Result<(), AllocError> {
+fn the_document_has_a_word_for_no_limit(rt: HostRuntime) {
     let shape = shape_in(&rt, "[0]", "").expect(&rt, "a shape");
-    let text = shape_json(rt.alloc(), &shape, Form::Document)?.to_string(rt.alloc())?;
-    assert!(rt;
-        text.as_str() == r#"{"class":"H5S_SIMPLE","dims":[0],"maxdims":["H5S_UNLIMITED"]}"#
-    );
-    Ok(())
+    let tree = shape_json(rt.alloc(), &shape, Form::Document);
+    let text = text_of(&rt, &tree.expect(&rt, "memory"));
+    assert!(rt; text.as_str() == UNLIMITED);
 }

@@ -1,35 +1,57 @@
 //! Selections as texts and lists spell them.
 
+ghost use Rattle.shapes.specs.Shapes.{IsSound};
+
 use crate::shape_rows::shape_in;
-use crate::tables::{column, tree};
+use crate::tables::{Told, column, had, tree, try_rows};
 use hyperslab::{Slab, SlabFault, from_lists, read_select, whole};
-use std::alloc::{AllocError, Global};
+use shapes::Shape;
 use std::process::Abort;
 
 /// Each axis, or the name of the fault.
-fn shown(alloc: Global, read: Result<Slab, SlabFault>) -> Result<String, AllocError> {
+fn shown(rt: &(impl Abort + AllocGlobal), read: Result<Slab, SlabFault>) -> String {
     match read {
-        Ok(slab) => axes_text(alloc, &slab),
-        Err(fault) => format!(in alloc; "{fault:?}"),
+        Ok(slab) => axes_text(rt, &slab),
+        Err(fault) => had(rt, format!(in rt.alloc(); "{fault:?}")),
     }
 }
 
-fn axes_text(alloc: Global, slab: &Slab) -> Result<String, AllocError> {
+fn axis_text(rt: &(impl Abort + AllocGlobal), start: u64, stop: u64, step: u64) -> String {
+    had(rt, format!(in rt.alloc(); "{start}:{stop}:{step}"))
+}
+
+fn axes_text(rt: &(impl Abort + AllocGlobal), slab: &Slab) -> String {
     let starts = slab.start.as_slice().iter();
     let stops = slab.stop.as_slice().iter();
-    let mut text = String::new(alloc);
-    for ((a, b), c) in starts.zip(stops).zip(slab.step.as_slice()) {
+    let mut text = String::new(rt.alloc());
+    for ((start, stop), step) in starts.zip(stops).zip(slab.step.as_slice()) {
         if !text.is_empty() {
-            text.push(' ')?;
+            text.push(' ').expect(rt, "memory");
         }
-        let axis = format!(in alloc; "{a}:{b}:{c}")?;
-        text.push_str(axis.as_str())?;
+        let axis = axis_text(rt, *start, *stop, *step);
+        text.push_str(axis.as_str()).expect(rt, "memory");
     }
-    Ok(text)
+    text
+}
+
+/// The shape of a row.
+fn shape_of(rt: &(impl Abort + AllocGlobal), row: &str) -> Shape
+    ensures { IsSound result }
+{
+    shape_in(rt, column(row, 0), "").expect(rt, "a shape")
+}
+
+/// What a text selects of its row's shape.
+struct TextRow;
+
+impl Told for TextRow {
+    fn told(rt: &(impl Abort + AllocGlobal), row: &str) -> String {
+        shown(rt, read_select(column(row, 1), &shape_of(rt, row)))
+    }
 }
 
 /// A row a line: dims, a text, and what it selects or the first fault.
-const TEXTS: &str = "[10,8]|[1:10:4,0:7:3]|1:10:4 0:7:3
+static TEXTS: &str = "[10,8]|[1:10:4,0:7:3]|1:10:4 0:7:3
 [10,8]|[8:10,4:8]|8:10:1 4:8:1
 [10,8]|[:,:]|0:10:1 0:8:1
 [10,8]|[::2,::3]|0:10:2 0:8:3
@@ -104,30 +126,28 @@ const TEXTS: &str = "[10,8]|[1:10:4,0:7:3]|1:10:4 0:7:3
 [10]|[0:12345678901]|Syntax { byte: 13 }";
 
 #[test]
-fn texts_spell_selections_or_have_a_first_fault(rt: HostRuntime) -> Result<(), AllocError> {
-    for row in TEXTS.lines() {
-        let shape = shape_in(&rt, column(row, 0), "").expect(&rt, "a shape");
-        let got = shown(rt.alloc(), read_select(column(row, 1), &shape))?;
-        assert!(rt; got.as_str() == column(row, 2), "{row} gave {got}");
-    }
-    Ok(())
+fn texts_spell_selections_or_have_a_first_fault(rt: HostRuntime) {
+    try_rows::<TextRow>(&rt, TEXTS, 2);
 }
 
-/// What the lists of a row select of its shape, or the first fault.
-fn told_lists(rt: &(impl Abort + AllocGlobal), row: &str) -> Result<String, AllocError> {
-    let keys = tree(rt, column(row, 1));
-    let shape = shape_in(rt, column(row, 0), "").expect(rt, "a shape");
-    let slab = from_lists(
-        keys.get("start"),
-        keys.get("stop"),
-        keys.get("step"),
-        &shape,
-    );
-    shown(rt.alloc(), slab)
+/// What the lists of a row select of its shape.
+struct ListsRow;
+
+impl Told for ListsRow {
+    fn told(rt: &(impl Abort + AllocGlobal), row: &str) -> String {
+        let keys = tree(rt, column(row, 1));
+        let slab = from_lists(
+            keys.get("start"),
+            keys.get("stop"),
+            keys.get("step"),
+            &shape_of(rt, row),
+        );
+        shown(rt, slab)
+    }
 }
 
 /// A row a line: dims, lists, and what they select or the first fault.
-const LISTS: &str = r#"[10,8]|{"start":[1,0],"stop":[10,7],"step":[4,3]}|1:10:4 0:7:3
+static LISTS: &str = r#"[10,8]|{"start":[1,0],"stop":[10,7],"step":[4,3]}|1:10:4 0:7:3
 [10,8]|{}|0:10:1 0:8:1
 [10,8]|{"start":[3,5]}|3:10:1 5:8:1
 [10,8]|{"stop":[4,3],"step":[1,2]}|0:4:1 0:3:2
@@ -148,27 +168,27 @@ const LISTS: &str = r#"[10,8]|{"start":[1,0],"stop":[10,7],"step":[4,3]}|1:10:4 
 [2000000]|{}|TooMany { count: 2000000 }"#;
 
 #[test]
-fn lists_spell_selections_or_have_a_first_fault(rt: HostRuntime) -> Result<(), AllocError> {
-    for row in LISTS.lines() {
-        let got = told_lists(&rt, row)?;
-        assert!(rt; got.as_str() == column(row, 2), "{row} gave {got}");
+fn lists_spell_selections_or_have_a_first_fault(rt: HostRuntime) {
+    try_rows::<ListsRow>(&rt, LISTS, 2);
+}
+
+/// The selection of every cell of a row's shape.
+struct WholeRow;
+
+impl Told for WholeRow {
+    fn told(rt: &(impl Abort + AllocGlobal), row: &str) -> String {
+        shown(rt, whole(&shape_of(rt, row)))
     }
-    Ok(())
 }
 
 /// A row a line: dims, and the selection of every cell or the fault.
-const WHOLES: &str = r#"[10,8]|0:10:1 0:8:1
+static WHOLES: &str = r#"[10,8]|0:10:1 0:8:1
 [0,5]|0:0:1 0:5:1
 "H5S_SCALAR"|
 "H5S_NULL"|0:0:1
 [0,2000000]|TooMany { count: 2000000 }"#;
 
 #[test]
-fn every_cell_is_selected(rt: HostRuntime) -> Result<(), AllocError> {
-    for row in WHOLES.lines() {
-        let shape = shape_in(&rt, column(row, 0), "").expect(&rt, "a shape");
-        let got = shown(rt.alloc(), whole(&shape))?;
-        assert!(rt; got.as_str() == column(row, 1), "{row} gave {got}");
-    }
-    Ok(())
+fn every_cell_is_selected(rt: HostRuntime) {
+    try_rows::<WholeRow>(&rt, WHOLES, 1);
 }

@@ -22,3 +22,34 @@ pub fn number(rt: &(impl Abort + AllocGlobal), text: &str) -> u32 {
     let number = tree(rt, text).as_u64().expect(rt, "a number");
     u32::try_from(number).expect(rt, "a small number")
 }
+
+/// The text, where there was memory for it.
+pub fn had<E: Drop>(rt: &impl Abort, text: Result<String, E>) -> String {
+    match text {
+        Ok(text) => text,
+        Err(_) => panic!(rt; "no text"),
+    }
+}
+
+/// A copy of a text.
+pub fn copied(rt: &(impl Abort + AllocGlobal), text: &str) -> String {
+    had(rt, String::from_str(rt.alloc(), text))
+}
+
+/// A tree as a text.
+pub fn text_of(rt: &(impl Abort + AllocGlobal), tree: &Value) -> String {
+    had(rt, tree.to_string(rt.alloc()))
+}
+
+/// What is told of a row of a table.
+pub trait Told {
+    fn told(rt: &(impl Abort + AllocGlobal), row: &str) -> String;
+}
+
+/// What is told of each row of a table stands in its column at this place.
+pub fn try_rows<T: Told>(rt: &(impl Abort + AllocGlobal), rows: &str, place: u8) {
+    for row in rows.lines() {
+        let got = T::told(rt, row);
+        assert!(rt; got.as_str() == column(row, place), "{row} gave {got}");
+    }
+}

@@ -2,19 +2,20 @@
 
 ghost use Rattle.hdf_types.specs.Types.{IsSoundType};
 ghost use Rattle.hdf_types.specs.Views.{elem};
+ghost use Rattle.hdf_values.specs.Nested.{AreEncoded};
+ghost use Rattle.shapes.specs.Shapes.{count_of};
 
 use crate::shape_rows::shape_in;
-use crate::tables::{column, tree};
+use crate::tables::{Told, column, copied, had, text_of, tree, try_rows};
 use hdf_types::{ElemType, read_type};
 use hdf_values::{decode, first_unencoded, is_encoded, pieces_of_joins, read_value, write_value};
 use shapes::Shape;
-use std::alloc::{AllocError, Global};
 use std::process::Abort;
 
 /// A row a line: the name of a type here, and its tree. The texts `term` and `full` have 4 bytes, with
 /// and without a byte behind, `spaced` 3 with spaces behind, and `utf8` 2 of UTF-8; a `pair` is a number
 /// of 16 bits and a text of 4 bytes.
-const TYPES: &str = r#"i8|"H5T_STD_I8LE"
+static TYPES: &str = r#"i8|"H5T_STD_I8LE"
 u8|"H5T_STD_U8LE"
 u16|"H5T_STD_U16BE"
 i32|"H5T_STD_I32LE"
@@ -43,38 +44,55 @@ pub fn kind_of(rt: &(impl Abort + AllocGlobal), name: &str) -> ElemType
     read_type(rt.alloc(), &tree(rt, type_text(name))).expect(rt, "a type")
 }
 
+fn digits(rt: &(impl Abort + AllocGlobal), byte: u8) -> String {
+    had(rt, format!(in rt.alloc(); "{byte:02x}"))
+}
+
 /// Bytes in hexadecimal digits.
-pub fn hex(alloc: Global, bytes: &[u8]) -> Result<String, AllocError> {
-    let mut out = String::new(alloc);
+pub fn hex(rt: &(impl Abort + AllocGlobal), bytes: &[u8]) -> String {
+    let mut out = String::new(rt.alloc());
     for byte in bytes {
-        let digits = format!(in alloc; "{byte:02x}")?;
-        out.push_str(digits.as_str())?;
+        out.push_str(digits(rt, *byte).as_str())
+            .expect(rt, "memory");
     }
-    Ok(out)
+    out
+}
+
+/// What bytes read back as.
+fn back(rt: &(impl Abort + AllocGlobal), kind: &ElemType, shape: &Shape, bytes: &[u8]) -> String
+    requires encoded { AreEncoded (elem kind.now) (count_of shape.now) bytes.now }
+    requires sound { IsSoundType (elem kind.now) }
+{
+    let tree = write_value(rt.alloc(), kind, shape, bytes);
+    text_of(rt, &tree.expect(rt, "memory"))
 }
 
 /// The bytes of a value and what they read back as, or its fault.
-fn told(
-    rt: &(impl Abort + AllocGlobal),
-    kind: &ElemType,
-    shape: &Shape,
-    value: &str,
-) -> Result<String, AllocError>
+fn told(rt: &(impl Abort + AllocGlobal), kind: &ElemType, shape: &Shape, value: &str) -> String
     requires { IsSoundType (elem kind.now) }
 {
     match read_value(rt.alloc(), kind, shape, &tree(rt, value)) {
         Ok(bytes) => {
-            let back = write_value(rt.alloc(), kind, shape, bytes.as_slice())?;
-            let back = back.to_string(rt.alloc())?;
-            let bytes = hex(rt.alloc(), bytes.as_slice())?;
-            format!(in rt.alloc(); "{bytes} {back}")
+            let back = back(rt, kind, shape, bytes.as_slice());
+            let bytes = hex(rt, bytes.as_slice());
+            had(rt, format!(in rt.alloc(); "{bytes} {back}"))
         }
-        Err(fault) => format!(in rt.alloc(); "{fault:?}"),
+        Err(fault) => had(rt, format!(in rt.alloc(); "{fault:?}")),
+    }
+}
+
+/// The bytes of a row's value.
+struct ValueRow;
+
+impl Told for ValueRow {
+    fn told(rt: &(impl Abort + AllocGlobal), row: &str) -> String {
+        let shape = shape_in(rt, column(row, 1), "").expect(rt, "a shape");
+        told(rt, &kind_of(rt, column(row, 0)), &shape, column(row, 2))
     }
 }
 
 /// A row a line: a type, a shape, a value, and its bytes and what they read back as, or the first fault.
-const VALUES: &str = r#"i8|[3]|[-128,127,128]|OutOfRange { place: 2 }
+static VALUES: &str = r#"i8|[3]|[-128,127,128]|OutOfRange { place: 2 }
 i8|[3]|[-128,127,0]|807f00 [-128,127,0]
 u8|[2]|[0,255]|00ff [0,255]
 u16|[2]|[258,65535]|0102ffff [258,65535]
@@ -110,33 +128,34 @@ pair||[70000,"abcde"]|OutOfRange { place: 0 }
 pair|[2]|[[1,"a"],[2,3]]|NotOfType { place: 1 }"#;
 
 #[test]
-fn values_have_bytes_or_a_first_fault(rt: HostRuntime) -> Result<(), AllocError> {
-    for row in VALUES.lines() {
-        let shape = shape_in(&rt, column(row, 1), "").expect(&rt, "a shape");
-        let got = told(&rt, &kind_of(&rt, column(row, 0)), &shape, column(row, 2))?;
-        assert!(rt; got.as_str() == column(row, 3), "{row} gave {got}");
+fn values_have_bytes_or_a_first_fault(rt: HostRuntime) {
+    try_rows::<ValueRow>(&rt, VALUES, 3);
+}
+
+/// The element that bytes are, if they are one.
+fn element(rt: &(impl Abort + AllocGlobal), kind: &ElemType, bytes: &[u8]) -> String
+    requires { IsSoundType (elem kind.now) }
+{
+    if is_encoded(kind, bytes) {
+        text_of(rt, &decode(rt.alloc(), kind, bytes).expect(rt, "memory"))
+    } else {
+        copied(rt, "no bytes")
     }
-    Ok(())
 }
 
 /// Where bytes begin with no element, or the last element that they are.
-fn last_of(alloc: Global, kind: &ElemType, bytes: &[u8]) -> Result<String, AllocError>
+fn last_of(rt: &(impl Abort + AllocGlobal), kind: &ElemType, bytes: &[u8]) -> String
     requires { IsSoundType (elem kind.now) }
 {
     if let Some(index) = first_unencoded(kind, bytes) {
-        return format!(in alloc; "none at {index}");
+        return had(rt, format!(in rt.alloc(); "none at {index}"));
     }
     let before = bytes.len().saturating_sub(kind.size() as usize);
-    let last = bytes.get(before..).unwrap_or(&[]);
-    if is_encoded(kind, last) {
-        decode(alloc, kind, last)?.to_string(alloc)
-    } else {
-        String::from_str(alloc, "no bytes")
-    }
+    element(rt, kind, bytes.get(before..).unwrap_or(&[]))
 }
 
 /// The bytes that hexadecimal digits spell.
-fn unhex(rt: &(impl Abort + AllocGlobal), digits: &str) -> Result<Vec<u8>, AllocError> {
+fn unhex(rt: &(impl Abort + AllocGlobal), digits: &str) -> Vec<u8> {
     let mut bytes = Vec::new(rt.alloc());
     let mut front = None;
     for digit in digits.chars() {
@@ -144,16 +163,26 @@ fn unhex(rt: &(impl Abort + AllocGlobal), digits: &str) -> Result<Vec<u8>, Alloc
         match front {
             None => front = Some(half),
             Some(high) => {
-                bytes.push(high << 4 | half)?;
+                bytes.push(high << 4 | half).expect(rt, "memory");
                 front = None;
             }
         }
     }
-    Ok(bytes)
+    bytes
+}
+
+/// What the bytes of a row are.
+struct BytesRow;
+
+impl Told for BytesRow {
+    fn told(rt: &(impl Abort + AllocGlobal), row: &str) -> String {
+        let bytes = unhex(rt, column(row, 1));
+        last_of(rt, &kind_of(rt, column(row, 0)), bytes.as_slice())
+    }
 }
 
 /// A row a line: a type, bytes, and the last element that they are, or where they begin with none.
-const BYTES: &str = r#"u16||no bytes
+static BYTES: &str = r#"u16||no bytes
 u16|01020103|259
 u16|010201|none at 1
 full|6162000061626364|"abcd"
@@ -166,13 +195,8 @@ pair|fffe61620000|[-2,"ab"]
 pair|fffe00620000|none at 0"#;
 
 #[test]
-fn bytes_are_elements_or_not(rt: HostRuntime) -> Result<(), AllocError> {
-    for row in BYTES.lines() {
-        let bytes = unhex(&rt, column(row, 1))?;
-        let got = last_of(rt.alloc(), &kind_of(&rt, column(row, 0)), bytes.as_slice())?;
-        assert!(rt; got.as_str() == column(row, 2), "{row} gave {got}");
-    }
-    Ok(())
+fn bytes_are_elements_or_not(rt: HostRuntime) {
+    try_rows::<BytesRow>(&rt, BYTES, 2);
 }
 
 #[test]
