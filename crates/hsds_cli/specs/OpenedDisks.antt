@@ -48,6 +48,11 @@ abbrev pub has_stopped : {D : Type 0} → (D → Type 0) → OpenedDisk D → Ty
 has_stopped stopped (Opened disk) = stopped disk
 has_stopped stopped (Missing count) = Unit {0}
 
+-- none was opened
+abbrev pub IsMissing : {D : Type 0} → OpenedDisk D → Type 0
+IsMissing (Opened disk) = ⊥
+IsMissing (Missing count) = Unit {0}
+
 -- ---- the rules of a disk, where they hold of the one that was opened
 
 pub it_fits : {D : Type 0} (reads : D → List ℕ) (most : D → ℕ) → ((disk : D) → length (reads disk) ≤ most disk)

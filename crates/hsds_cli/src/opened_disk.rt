@@ -1,8 +1,10 @@
 //! A disk that may not have been opened.
 
-ghost use Rattle.std.specs.Prelude.{◌≡◌, Option, IsErr};
-ghost use Rattle.edge_traits.specs.Causes.{Rose};
-ghost use Rattle.hsds_cli.specs.OpenedDisks.{around_of, beside_of, faults_of, has_stopped, image_of};
+ghost use Rattle.std.specs.Prelude.{◌≡◌, ◌≤◌, ℕ, Option, IfOk, IsErr, length};
+ghost use Rattle.edge_traits.specs.Causes.{HasCause, Rose};
+ghost use Rattle.edge_traits.specs.Disks.{Elapses, LeavesNoMore};
+ghost use Rattle.hsds_cli.specs.OpenedDisks.{IsMissing, around_of, beside_of, faults_of, has_stopped};
+ghost use Rattle.hsds_cli.specs.OpenedDisks.{image_of};
 ghost use Rattle.hsds_cli.specs.OpenedDisks.{it_fits, left_of, moment_of, most_of, now_counts};
 ghost use Rattle.hsds_cli.specs.OpenedDisks.{now_is_all, opened, reads_are_left, reads_of};
 
@@ -62,7 +64,31 @@ impl<D: Disk> Disk for OpenedDisk<D> {
 
     ghost stopped = { λ d. has_stopped D.stopped d };
 
-    fn length(&mut self) -> Result<u64, Failed> {
+    fn length(&mut self) -> Result<u64, Failed>
+        ensures length { D.honest → IfOk result (λ n. n ≡ length (reads_of D.reads self.old)) }
+        ensures within { D.honest → IfOk result (λ n. n ≤ most_of D.most self.old) }
+        ensures reads { D.honest → reads_of D.reads self.new ≡ reads_of D.reads self.old }
+        ensures images { D.honest → LeavesNoMore (⟦<OpenedDisk<D> as Disk>⟧.images self.old)
+            (⟦<OpenedDisk<D> as Disk>⟧.images self.new) }
+        ensures time { D.honest → Elapses
+            (⟦<OpenedDisk<D> as Disk>⟧.moment self.old) (⟦<OpenedDisk<D> as Disk>⟧.moment self.new)
+            (⟦<OpenedDisk<D> as Disk>⟧.left_since self.old)
+            (⟦<OpenedDisk<D> as Disk>⟧.left_since self.new)
+            (⟦<OpenedDisk<D> as Disk>⟧.images self.new) }
+        ensures most { most_of D.most self.new ≡ most_of D.most self.old }
+        ensures beside { beside_of D.beside self.new ≡ beside_of D.beside self.old }
+        ensures around { D.honest → (t : ℕ) (o : Option D.Others)
+            → t ≤ ⟦<OpenedDisk<D> as Disk>⟧.moment self.old
+            → ⟦<OpenedDisk<D> as Disk>⟧.beside_since self.new t o
+            → ⟦<OpenedDisk<D> as Disk>⟧.beside_since self.old t o }
+        ensures stopped { ⟦<OpenedDisk<D> as Disk>⟧.stopped self.old
+            → ⟦<OpenedDisk<D> as Disk>⟧.stopped self.new }
+        ensures cause { HasCause (⟦<OpenedDisk<D> as Disk>⟧.faults self.old)
+            (⟦<OpenedDisk<D> as Disk>⟧.faults self.new) result }
+
+        // One that was not opened has no length, so no journal is found there.
+        ensures missing { IsMissing self.old → IsErr result }
+    {
         match self {
             OpenedDisk::Opened(disk) => disk.length(),
             OpenedDisk::Missing(count) => missed(count),

@@ -1,4 +1,7 @@
-ghost use Rattle.std.specs.Prelude.{◌≡◌, option_and_then};
+ghost use Rattle.std.specs.Prelude.{◌≡◌, IsErr, None, option_and_then};
+ghost use Rattle.std.specs.Io.{ReadsAtMost};
+ghost use Rattle.std.specs.Io.KnownBytes.{ReadConsumes};
+ghost use Rattle.edge_traits.specs.Causes.{HasCause};
 
 use edge_traits::{Failed, FaultCount, Source};
 use std::io::Read;
@@ -31,7 +34,20 @@ impl<R: Read> Source for OptionalFile<R> {
 
     ghost faults = { λ s. s.count };
 
-    fn read(&mut self, buf: &mut [u8]) -> Result<usize, Failed> {
+    fn read(&mut self, buf: &mut [u8]) -> Result<usize, Failed>
+        ensures bound { ReadsAtMost result buf.old }
+        ensures bytes { ReadConsumes (⟦<OptionalFile<R> as Source>⟧.left self.old)
+            (⟦<OptionalFile<R> as Source>⟧.left self.new) result buf.new }
+        ensures beside { ⟦<OptionalFile<R> as Source>⟧.beside self.new
+            ≡ ⟦<OptionalFile<R> as Source>⟧.beside self.old }
+        ensures names { ⟦<OptionalFile<R> as Source>⟧.names self.new
+            ≡ ⟦<OptionalFile<R> as Source>⟧.names self.old }
+        ensures cause { HasCause (⟦<OptionalFile<R> as Source>⟧.faults self.old)
+            (⟦<OptionalFile<R> as Source>⟧.faults self.new) result }
+
+        // A file that was not opened gives nothing, not even an end.
+        ensures missing { self.old.reader ≡ None → IsErr result }
+    {
         let Some(reader) = &mut self.reader else {
             self.count.rise();
             return Err(Failed);

@@ -1,6 +1,9 @@
 //! Doors at a port of TCP.
 
-ghost use Rattle.std.specs.Prelude.{◌≡◌, ◌≤◌, IfOk, None, vec_len};
+ghost use Rattle.std.specs.Prelude.{◌≡◌, ◌+◌, ◌≤◌, IfOk, IsSome, None, vec_len};
+ghost use Rattle.edge_traits.specs.Causes.{HasCause};
+ghost use Rattle.edge_traits.specs.Doors.{given_count};
+ghost use Rattle.edge_traits.specs.Told.{GivesFirst, KeepsTold};
 
 use crate::tcp_link::TcpLink;
 use edge_traits::{Door, Failed, FaultCount};
@@ -100,7 +103,19 @@ impl<C: Clock + Copy> Door for TcpDoor<C> {
 
     ghost faults = { λ d. d.count };
 
-    fn next(&mut self) -> Result<Option<TcpLink>, Failed> {
+    fn next(&mut self) -> Result<Option<TcpLink>, Failed>
+        ensures links { GivesFirst (⟦<TcpDoor<C> as Door>⟧.left self.old)
+            (⟦<TcpDoor<C> as Door>⟧.left self.new) result }
+        ensures out { ⟦<TcpDoor<C> as Door>⟧.out self.new
+            ≡ ⟦<TcpDoor<C> as Door>⟧.out self.old + given_count result }
+        ensures ended { KeepsTold (⟦<TcpDoor<C> as Door>⟧.ended self.old)
+            (⟦<TcpDoor<C> as Door>⟧.ended self.new) }
+        ensures cause { HasCause (⟦<TcpDoor<C> as Door>⟧.faults self.old)
+            (⟦<TcpDoor<C> as Door>⟧.faults self.new) result }
+
+        // It always has one more: that none comes is a fault.
+        ensures more { IfOk result (λ found. IsSome found) }
+    {
         match self.accept() {
             Some(link) if self.out < u64::MAX => {
                 self.out += 1;
