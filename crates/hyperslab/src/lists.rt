@@ -1,7 +1,6 @@
 //! Selections by lists of numbers.
 
 ghost use Rattle.std.specs.Prelude.{◌≡◌, ◌<◌, ◌^◌, ◌⊎◌, ℕ, List, [], All, Option, None, Ok, Err, IfOk};
-ghost use Rattle.json_trees.specs.Shown.{shown};
 ghost use Rattle.shapes.specs.Shapes.{IsSound, dims_of};
 ghost use Rattle.serde_json.specs.Data.{Data};
 ghost use Rattle.shapes.specs.declared.Shape.{Shape};
@@ -16,34 +15,37 @@ ghost use Rattle.hyperslab.specs.Judged.{is_scalar as scalar, judged as judged_b
 use crate::all_cells::whole;
 use crate::judging::judged;
 use crate::{Slab, SlabFault};
-use serde_json::Value;
-use shapes::{Dims, Shape, read_dims};
+use json_trees::KeptTree;
+use shapes::{Dims, Shape, read_kept_dims};
+use std::alloc::{AllocError, Global};
 
-/// The selection by lists of starts, stops and steps. An absent list is a 0 for each axis, the dims
-/// or a 1 for each axis. A scalar's one cell is selected where all three are absent.
+/// The selection by lists of starts, stops and steps, which are read token by token: no more of a list
+/// is held than a number for each axis. An absent list is a 0 for each axis, the dims or a 1 for each
+/// axis. A scalar's one cell is selected where all three are absent.
 ///
 /// # Errors
 ///
-/// The first fault in the order of [`SlabFault`], as its text says.
+/// The first fault in the order of [`SlabFault`], as its text says; outside of that, want of memory.
 pub fn from_lists(
-    start: Option<&Value>,
-    stop: Option<&Value>,
-    step: Option<&Value>,
+    alloc: Global,
+    start: &Option<KeptTree>,
+    stop: &Option<KeptTree>,
+    step: &Option<KeptTree>,
     shape: &Shape,
-) -> Result<Slab, SlabFault>
+) -> Result<Result<Slab, SlabFault>, AllocError>
     requires { IsSound shape.now }
-    ensures first { result
-        ≡ lists_slab shape.now (shown start.entry) (shown stop.entry) (shown step.entry) }
-    ensures within { IfOk result (λ s. SlabIn s shape.now) }
-    ensures steps { IfOk result (λ s. All (λ c. c < 10 ^ 10) s.step) }
-    ensures sound { IfOk result IsSlab }
+    ensures first { IfOk result
+        (λ slab. slab ≡ lists_slab shape.now start.now stop.now step.now) }
+    ensures within { IfOk result (λ slab. IfOk slab (λ s. SlabIn s shape.now)) }
+    ensures steps { IfOk result (λ slab. IfOk slab (λ s. All (λ c. c < 10 ^ 10) s.step)) }
+    ensures sound { IfOk result (λ slab. IfOk slab IsSlab) }
 {
     if is_scalar(shape) && is_absent(start) && is_absent(stop) && is_absent(step) {
-        return whole(shape);
+        return Ok(whole(shape));
     }
-    match lists(&shape.dims(), start, stop, step) {
-        None => Err(SlabFault::Syntax { byte: 0 }),
-        Some(slab) => judged(shape, &slab),
+    match lists(alloc, &shape.dims(), start, stop, step)? {
+        None => Ok(Err(SlabFault::Syntax { byte: 0 })),
+        Some(slab) => Ok(judged(shape, &slab)),
     }
 }
 
@@ -74,8 +76,8 @@ fn is_scalar(shape: &Shape) -> bool
     }
 }
 
-fn is_absent(tree: Option<&Value>) -> bool
-    ensures { result ≡ absent (shown tree.entry) }
+fn is_absent(tree: &Option<KeptTree>) -> bool
+    ensures { result ≡ absent tree.now }
 {
     match tree {
         None => true,
@@ -84,24 +86,35 @@ fn is_absent(tree: Option<&Value>) -> bool
 }
 
 fn lists(
+    alloc: Global,
     dims: &Dims,
-    start: Option<&Value>,
-    stop: Option<&Value>,
-    step: Option<&Value>,
-) -> Option<Slab>
-    ensures { result ≡ lists_in dims.now (shown start.entry) (shown stop.entry) (shown step.entry) }
+    start: &Option<KeptTree>,
+    stop: &Option<KeptTree>,
+    step: &Option<KeptTree>,
+) -> Result<Option<Slab>, AllocError>
+    ensures { IfOk result (λ slab. slab ≡ lists_in dims.now start.now stop.now step.now) }
 {
-    let start = list_or(Dims::repeated(0, dims.len()), start)?;
-    let stop = list_or(*dims, stop)?;
-    let step = list_or(Dims::repeated(1, dims.len()), step)?;
-    Some(Slab { start, stop, step })
+    let Some(start) = list_or(alloc, Dims::repeated(0, dims.len()), start)? else {
+        return Ok(None);
+    };
+    let Some(stop) = list_or(alloc, *dims, stop)? else {
+        return Ok(None);
+    };
+    let Some(step) = list_or(alloc, Dims::repeated(1, dims.len()), step)? else {
+        return Ok(None);
+    };
+    Ok(Some(Slab { start, stop, step }))
 }
 
-fn list_or(absent: Dims, tree: Option<&Value>) -> Option<Dims>
-    ensures { result ≡ list_from absent (shown tree.entry) }
+fn list_or(
+    alloc: Global,
+    absent: Dims,
+    tree: &Option<KeptTree>,
+) -> Result<Option<Dims>, AllocError>
+    ensures { IfOk result (λ dims. dims ≡ list_from absent tree.now) }
 {
     match tree {
-        None => Some(absent),
-        Some(tree) => read_dims(tree),
+        None => Ok(Some(absent)),
+        Some(tree) => read_kept_dims(alloc, tree),
     }
 }

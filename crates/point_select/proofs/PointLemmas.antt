@@ -1,50 +1,29 @@
 -- The tests in order find the points that the grammar relates to the tree, and no other.
-use Rattle.std.proofs.Common.{◌≡◌, ℕ, suc, ◌+◌, ◌<◌, ◌≤◌, false, cond, inl, inr, ◌⊎◌, List, [], ◌∷◌, ◌++◌, length, All, Option, Some, None, option_and_then, Result, Ok, Err, IfOk, nat_le, nat_lt, nat_eq, refl, sym, ap, subst, ◌∙◌, arith, add-one}
+use Rattle.std.proofs.Common.{◌≡◌, ℕ, suc, ◌+◌, ◌<◌, ◌≤◌, false, cond, inl, inr, List, [], ◌∷◌, ◌++◌, length, All, Option, Some, None, Result, Ok, Err, IfOk, IsErrAnd, OnOk, nat_lt, nat_eq, refl, sym, ap, subst, ◌∙◌, arith, add-one, append-nil}
 use Rattle.std.specs.List.{AllZip}
-use Rattle.std.proofs.Math.Bool.{and-false}
 use Rattle.std.proofs.lemmas.Bool.{eqb-true, false≢true, eq-eqb}
 use Rattle.std.proofs.lemmas.Bool.Decides.{nat_tests}
 use Rattle.std.proofs.lemmas.List.{append_assoc}
 use Rattle.std.proofs.lemmas.List.Elements.{All-nil, All-cons}
 use Rattle.serde_json.specs.Data.{Data, Items, array}
-use Rattle.json_trees.specs.Trees.{list_of, list_in, all_in}
-use Rattle.json_trees.proofs.TreeLemmas.{list_in_array, length-AllZip, AllZip-all_in}
-use Rattle.json_trees.specs.Faults.{◌>>=◌}
+use Rattle.json.specs.Token.{Token}
+use Rattle.json_trees.specs.Kept.{Begins}
+use Rattle.json_trees.specs.Trees.{list_of, list_in}
+use Rattle.json_trees.proofs.TreeLemmas.{list_in_array, length-AllZip}
+use Rattle.json_trees.specs.Faults.{◌>>=◌, Fails}
 use Rattle.json_trees.proofs.FaultLemmas.{chosen, test_ok, bind_ok}
 use Rattle.shapes.specs.declared.Shape.{Shape}
 use Rattle.shapes.specs.declared.Shape.TheVariants.{Null, Scalar, Simple}
 use Rattle.shapes.specs.RowMajor.{IsInside, is_inside}
 use Rattle.shapes.specs.Shapes.{IsDims, LiesIn}
 use Rattle.shapes.proofs.ShapeLemmas.{dims_alone_told, dims_alone_read}
-use Rattle.shapes.specs.declared.TheConstants.{MAX_RANK}
-use Rattle.shapes.specs.Spelled.{few_of}
+use Rattle.shapes.proofs.StreamLemmas.{IsLeft, left_more, left_next, left_some}
 use Rattle.point_select.specs.declared.TheConstants.{MAX_POINTS}
 use Rattle.point_select.specs.declared.PointFault.{PointFault}
-use Rattle.point_select.specs.declared.PointFault.TheVariants.{Syntax, TooMany, Rank, Past}
+use Rattle.point_select.specs.declared.PointFault.TheVariants.{Syntax, TooMany, Rank, Past, NoMemory}
 use Rattle.point_select.specs.Points.{IsPoint, SpellsPoints, IsBadPoint, IsFirstBad}
 use Rattle.shapes.proofs.InsideLemmas.{inside_told, inside_read}
-use Rattle.point_select.specs.Faults.{coords_in, point_at, point_of, followed, points_from, points_in, counted_points, points_of, GivesPoints}
-
--- ---- the coordinates of one point
-
--- a list without numbers, or with more than a shape may have axes
-pub not_few : (f : Data → Option ℕ) (ds : List Data) → (length ds ≡ 0) ⊎ (MAX_RANK < length ds) → None ≡ option_and_then few_of (all_in f ds)
-not_few f ds wrong = by_found (all_in f ds) refl
-  where
-    refused : (ns : List ℕ) → length ns ≡ length ds → (length ds ≡ 0) ⊎ (MAX_RANK < length ds) → few_of ns ≡ None
-    refused ns same (inl none) =
-        let fails : nat_le 1 (length ns) ≡ false = grind (arith, nat_tests, same, none) in
-        rw fails refl
-    refused ns same (inr many) =
-        let fails : nat_le (length ns) MAX_RANK ≡ false = grind (arith, nat_tests, same, many) in
-        rw (fails, and-false (nat_le 1 (length ns))) refl
-
-    by_found : (o : Option (List ℕ)) → all_in f ds ≡ o → None ≡ option_and_then few_of (all_in f ds)
-    by_found None is = rw is refl
-    by_found (Some ns) is =
-        let each = AllZip-all_in f (λ x y. f x ≡ Some y) (λ x y e. e) ds ns is in
-        let same = length-AllZip (λ x y. f x ≡ Some y) ds ns each in
-        rw is (sym (refused ns same wrong))
+use Rattle.point_select.specs.Faults.{coords_in, point_at, point_of, followed, points_from, points_in, counted_points, points_of, GivesPoint, GivesPoints}
 
 -- ---- one point
 
@@ -239,3 +218,68 @@ answer_same r want also e a =
 
 pub same_points : (ps qs : List (List ℕ)) (r : Result (List (List ℕ)) PointFault) → r ≡ Ok ps → r ≡ Ok qs → ps ≡ qs
 same_points ps qs r e k = cc
+
+-- ---- from item to item
+
+-- what one point is read as
+given : (r s : Result (List ℕ) PointFault) → r ≡ s → GivesPoint r s
+given (Ok at) s e = sym e
+given (Err f) s e = inr (sym e)
+
+pub point_given : (r : Result (List ℕ) PointFault) (dims : List ℕ) (k : ℕ) (d : Data) (o : Option (List ℕ)) → r ≡ point_at dims k o → o ≡ coords_in d → GivesPoint r (point_of dims k d)
+unfolding point_of
+point_given r dims k d o e is = given r (point_at dims k (coords_in d)) (e ∙ ap (point_at dims k) is)
+
+pub where_ok : {A E : Type 0} {P : Type 0} (r : Result A E) → P → OnOk r P
+where_ok (Ok x) h = h
+where_ok (Err e) h = tt
+
+-- of so many items these are left, behind those that are points
+abbrev pub AreBehind : List ℕ → List Data → ℕ → List (List ℕ) → ℕ → List Data → Type 0
+AreBehind dims all count points k ds = (length ds + k ≡ count) × (points_from dims 0 all ≡ followed points (points_from dims k ds))
+
+pub behind_first : (dims : List ℕ) (all : List Data) (count : ℕ) → length all ≡ count → AreBehind dims all count [] 0 all
+behind_first dims all count many = (omega (arith, many), begun (points_from dims 0 all))
+  where
+    begun : (r : Result (List (List ℕ)) PointFault) → r ≡ followed [] r
+    begun (Ok points) = refl
+    begun (Err f) = refl
+
+some_behind : (dims : List ℕ) (all : List Data) (count : ℕ) (points : List (List ℕ)) (k : ℕ) → k < count → AreBehind dims all count points k [] → ⊥
+some_behind dims all count points k more h = omega (arith, more, h.0)
+
+pub behind_more : (dims : List ℕ) (all : List Data) (count : ℕ) (points : List (List ℕ)) (k : ℕ) (at : List ℕ) (from after rest : List Token) → k < count → IsLeft (AreBehind dims all count points k) from rest
+    → ((tree : Data) (mid : List Token) → Begins from tree mid → (point_of dims k tree ≡ Ok at) × (after ≡ mid)) → IsLeft (AreBehind dims all count (points ++ at ∷ []) (k + 1)) after rest
+behind_more dims all count points k at from after rest more u told =
+    let P = AreBehind dims all count points k in
+    left_more P (AreBehind dims all count (points ++ at ∷ []) (k + 1)) from after rest u (left_some P from rest u (some_behind dims all count points k more))
+    (λ tree mid begun. let t = told tree mid begun in (t.1, λ ds h. (omega (arith, h.0), h.1 ∙ point_next dims k tree ds at points t.0)))
+
+stopped : (dims : List ℕ) (k : ℕ) (d : Data) (ds : List Data) (f : PointFault) (points : List (List ℕ)) (all : Result (List (List ℕ)) PointFault) → all ≡ followed points (points_from dims k (d ∷ ds))
+    → Fails NoMemory f (point_of dims k d) → Fails NoMemory f all
+stopped dims k d ds f points all is (inl none) = inl none
+stopped dims k d ds f points all is (inr bad) = inr (is ∙ point_stop dims k d ds f points bad)
+
+pub behind_stop : (dims : List ℕ) (all : List Data) (count : ℕ) (points : List (List ℕ)) (k : ℕ) (f : PointFault) (from rest : List Token) → k < count → IsLeft (AreBehind dims all count points k) from rest
+    → ((tree : Data) (mid : List Token) → Begins from tree mid → Fails NoMemory f (point_of dims k tree)) → Fails NoMemory f (points_from dims 0 all)
+behind_stop dims all count points k f from rest more u told =
+    let P = AreBehind dims all count points k in
+    let next = left_next P from rest u (left_some P from rest u (some_behind dims all count points k more)) in
+    stopped dims k next.tree (list_of next.others) f points (points_from dims 0 all) next.holds.1 (told next.tree next.mid next.first)
+
+none_behind : (dims : List ℕ) (all : List Data) (count : ℕ) (points : List (List ℕ)) (k : ℕ) (ds : List Data) → count ≤ k → AreBehind dims all count points k ds → points_from dims 0 all ≡ Ok points
+none_behind dims all count points k [] over h = h.1 ∙ ap Ok (append-nil points)
+none_behind dims all count points k (d ∷ ds) over h = absurd (omega (arith, over, h.0))
+
+pub behind_over : (dims : List ℕ) (all : List Data) (count : ℕ) (points : List (List ℕ)) (k : ℕ) (from rest : List Token) → count ≤ k → IsLeft (AreBehind dims all count points k) from rest → points_from dims 0 all ≡ Ok points
+behind_over dims all count points k from rest over u = none_behind dims all count points k (list_of u.left) over u.holds
+
+-- a fault that is handed on
+pub handed : (r all : Result (List (List ℕ)) PointFault) (f : PointFault) → IsErrAnd r (λ e. e ≡ f) → Fails NoMemory f all → GivesPoints r all
+handed (Ok points) all f is h = absurd is
+handed (Err e) all f is h = subst (λ g. Fails NoMemory g all) (sym is) h
+
+-- no coordinates
+pub point_unread : (dims : List ℕ) (k : ℕ) (d : Data) → coords_in d ≡ None → point_of dims k d ≡ Err (Syntax k)
+unfolding point_of
+point_unread dims k d none = ap (point_at dims k) none

@@ -1,40 +1,37 @@
-//! How JSON trees spell points.
+//! How JSON spells points, read from kept trees token by token: no more of a tree is held than its
+//! points.
 
-ghost use Rattle.std.specs.Prelude.{◌≡◌, ◌≤◌, ◌↔◌, ℕ, List, [], All, length, map, Ok, Err, IfOk};
-ghost use Rattle.std.specs.Prelude.{option_map, option_and_then, IsErrOf};
+ghost use Rattle.std.specs.Prelude.{◌≡◌, ◌≤◌, ◌+◌, ◌↔◌, ℕ, List, All, Some, length, option_map, Ok, Err, IfOk, OnOk};
+ghost use Rattle.json.specs.Token.{Token as SpecToken};
 ghost use Rattle.serde_json.specs.Data.{Data, Items, array};
-ghost use Rattle.serde_json.specs.View.{view};
 ghost use Rattle.shapes.specs.declared.Shape.{Shape};
 ghost use Rattle.shapes.specs.declared.Shape.TheVariants.{Simple};
 ghost use Rattle.shapes.specs.RowMajor.{is_inside};
 ghost use Rattle.shapes.specs.Shapes.{LiesIn, lies_in, dims_of};
-ghost use Rattle.shapes.specs.Extents.{extent_in};
-ghost use Rattle.shapes.specs.Spelled.{few_of};
-ghost use Rattle.json_trees.specs.Faults.{◌>>=◌ as followed_by};
-ghost use Rattle.json_trees.specs.Trees.{list_of, list_in, all_in};
+ghost use Rattle.json_trees.specs.Begun.{AreTrees};
+ghost use Rattle.json_trees.specs.Kept.{Begins};
+ghost use Rattle.json_trees.specs.Trees.{list_of, list_in};
 ghost use Rattle.point_select.specs.Points.{SpellsPoints, IsFirstBad};
-ghost use Rattle.point_select.specs.Faults.{coords_in, point_of, points_from, points_of, GivesPoints, IsRead};
+ghost use Rattle.point_select.specs.Faults.{point_at, point_of, points_from, points_of, GivesPoint, GivesPoints};
 ghost use Rattle.point_select.specs.declared.PointFault.{PointFault};
 
 use crate::{MAX_POINTS, PointFault, Points};
-use json_trees::{list_items, whole_number};
-use serde_json::Value;
-use shapes::{Dims, MAX_EXTENT, MAX_RANK, Shape};
-use std::alloc::Global;
+use json::{Reader, Scratch, Token};
+use json_trees::{KeptTree, pass_value};
+use shapes::{Dims, Shape, next_dims};
+use std::alloc::{AllocError, Global};
 
-/// The points of a shape that a tree spells: a list of at most [`MAX_POINTS`] points, each a list
-/// of coordinates, or one coordinate where the shape has one axis.
+/// The points of a shape that a kept tree spells: a list of at most [`MAX_POINTS`] points, each a
+/// list of coordinates, or one coordinate where the shape has one axis.
 ///
 /// # Errors
 ///
-/// The first fault in the order of [`PointFault`]; or want of memory, which comes only of a list of at
-/// most [`MAX_POINTS`] members on a shape with axes.
-pub fn read_points(alloc: Global, tree: &Value, shape: &Shape) -> Result<Points, PointFault>
-    ensures spelled { IfOk result (SpellsPoints (view tree.now) shape.now) }
-    ensures only { (points : List (List ℕ)) → SpellsPoints (view tree.now) shape.now points
+/// The first fault in the order of [`PointFault`], or want of memory.
+pub fn read_points(alloc: Global, tree: &KeptTree, shape: &Shape) -> Result<Points, PointFault>
+    ensures spelled { IfOk result (SpellsPoints tree.now shape.now) }
+    ensures only { (points : List (List ℕ)) → SpellsPoints tree.now shape.now points
         → GivesPoints result (Ok points) }
-    ensures first { GivesPoints result (points_of (view tree.now) shape.now) }
-    ensures memory { IsErrOf result PointFault.NoMemory → IsRead shape.now (list_in (view tree.now)) }
+    ensures first { GivesPoints result (points_of tree.now shape.now) }
     ensures inside { IfOk result (All (λ at. LiesIn at shape.now)) }
     ensures few { IfOk result (λ points. length points ≤ 65536) }
 {
@@ -56,103 +53,136 @@ pub fn points_or_fault()
 {}
 
 #[tactic(auto, unfolding(crate::specs::Faults::points_of))]
-fn first_of(alloc: Global, tree: &Value, shape: &Shape) -> Result<Points, PointFault>
-    ensures first { GivesPoints result (points_of (view tree.now) shape.now) }
-    ensures memory { IsErrOf result PointFault.NoMemory → IsRead shape.now (list_in (view tree.now)) }
+fn first_of(alloc: Global, tree: &KeptTree, shape: &Shape) -> Result<Points, PointFault>
+    ensures { GivesPoints result (points_of tree.now shape.now) }
 {
-    let Some(items) = list_items(tree) else {
+    let mut scratch = Scratch::new(alloc);
+    let Some(count) = count_items(tree, &mut scratch)? else {
         return Err(PointFault::Syntax { index: 0 });
     };
-    if MAX_POINTS < items.len() {
+    if MAX_POINTS < count {
         return Err(PointFault::TooMany {
-            count: items.len() as u64,
+            count: count as u64,
         });
     }
     match shape {
-        Shape::Simple { dims, .. } => all_points(alloc, items, shape, dims.len()),
+        Shape::Simple { dims, .. } => {
+            all_points(alloc, tree, &mut scratch, shape, dims.len(), count)
+        }
         Shape::Null => Err(PointFault::Rank { index: 0 }),
         Shape::Scalar => Err(PointFault::Rank { index: 0 }),
     }
 }
 
+/// How many items a kept tree has that is a list; all of them are passed over.
+fn count_items(tree: &KeptTree, scratch: &mut Scratch) -> Result<Option<usize>, AllocError>
+    ensures { IfOk result (λ count. count ≡ option_map length (list_in tree.now)) }
+{
+    let mut reader = tree.reader(scratch)?;
+    let Some(first) = reader.next() else {
+        return Err(AllocError);
+    };
+    match first {
+        Token::BeginArray => Ok(Some(count_left(&mut reader)?)),
+        _ => Ok(None),
+    }
+}
+
+/// How many items are left of a list.
+fn count_left(reader: &mut Reader<'_>) -> Result<usize, AllocError>
+    ensures { IfOk result (λ count. (trees : Items) (rest : List SpecToken)
+        → AreTrees reader.old trees rest → count ≡ length (list_of trees)) }
+{
+    let mut count = 0usize;
+    'items: while !reader.take_end_array() {
+        pass_value(reader)?;
+        count = one_more(count)?;
+    }
+    Ok(count)
+}
+
+/// The next number. Where it is too large for any text, it fails.
+fn one_more(count: usize) -> Result<usize, AllocError>
+    ensures { IfOk result (λ more. more ≡ count + 1) }
+{
+    count.checked_add(1).ok_or(AllocError)
+}
+
+/// The points of a list with so many items.
 fn all_points(
     alloc: Global,
-    items: &[Value],
+    tree: &KeptTree,
+    scratch: &mut Scratch,
     shape: &Shape,
     rank: usize,
+    count: usize,
 ) -> Result<Points, PointFault>
-    requires few { length items.now ≤ 65536 }
+    requires few { count ≤ 65536 }
     requires rank { rank ≡ length (dims_of shape.now) }
     requires axes { (at : List ℕ) → lies_in at shape.now ≡ is_inside at (dims_of shape.now) }
-    ensures { GivesPoints result (points_from (dims_of shape.now) 0 (map view items.now)) }
+    ensures { (ds : List Data) → list_in tree.now ≡ Some ds → length ds ≡ count
+        → GivesPoints result (points_from (dims_of shape.now) 0 ds) }
 {
-    let mut list = Vec::with_capacity(alloc, items.len())?;
-    for (index, item) in items.iter().enumerate() {
-        let mut at = Dims::new();
-        read_point(item, shape, rank, index as u64, &mut at)?;
+    let mut reader = tree.reader(scratch)?;
+    match reader.next() {
+        Some(Token::BeginArray) => each_point(alloc, &mut reader, shape, rank, count),
+        _ => Err(PointFault::NoMemory),
+    }
+}
+
+/// [`all_points`], of a list whose bracket was taken.
+fn each_point(
+    alloc: Global,
+    reader: &mut Reader<'_>,
+    shape: &Shape,
+    rank: usize,
+    count: usize,
+) -> Result<Points, PointFault>
+    requires few { count ≤ 65536 }
+    requires rank { rank ≡ length (dims_of shape.now) }
+    requires axes { (at : List ℕ) → lies_in at shape.now ≡ is_inside at (dims_of shape.now) }
+    ensures { (trees : Items) (rest : List SpecToken) → AreTrees reader.old trees rest
+        → length (list_of trees) ≡ count
+        → GivesPoints result (points_from (dims_of shape.now) 0 (list_of trees)) }
+{
+    let mut list = Vec::with_capacity(alloc, count)?;
+    for index in 0..count {
+        let at = next_point(reader, shape, rank, index as u64)?;
         list.push_reserved(at);
     }
     Ok(Points::new(list))
 }
 
-/// Writes the coordinates of a point, which has a number, into an empty list.
-#[tactic(auto, unfolding(crate::specs::Faults::point_of))]
-fn read_point(
-    item: &Value,
+/// The point that comes next, which has a number.
+fn next_point(
+    reader: &mut Reader<'_>,
     shape: &Shape,
     rank: usize,
     index: u64,
-    at: &mut Dims,
-) -> Result<(), PointFault>
-    requires empty { at.old ≡ [] }
+) -> Result<Dims, PointFault>
     requires rank { rank ≡ length (dims_of shape.now) }
     requires axes { (at : List ℕ) → lies_in at shape.now ≡ is_inside at (dims_of shape.now) }
-    ensures { followed_by result (λ _. Ok at.new)
-        ≡ point_of (dims_of shape.now) index (view item.now) }
+    ensures { (tree : Data) (rest : List SpecToken) → Begins reader.old tree rest
+        → GivesPoint result (point_of (dims_of shape.now) index tree)
+        × OnOk result (reader.new ≡ rest) }
 {
-    if read_coords(item, at).is_none() {
+    let Some(at) = next_dims(reader)? else {
         return Err(PointFault::Syntax { index });
-    }
+    };
+    judged(at, shape, rank, index)
+}
+
+fn judged(at: Dims, shape: &Shape, rank: usize, index: u64) -> Result<Dims, PointFault>
+    requires rank { rank ≡ length (dims_of shape.now) }
+    requires axes { (at : List ℕ) → lies_in at shape.now ≡ is_inside at (dims_of shape.now) }
+    ensures { result ≡ point_at (dims_of shape.now) index (Some at) }
+{
     if at.len() != rank {
         return Err(PointFault::Rank { index });
     }
-    if shape.contains(at) {
-        Ok(())
+    if shape.contains(&at) {
+        Ok(at)
     } else {
         Err(PointFault::Past { index })
     }
-}
-
-fn read_coords(item: &Value, at: &mut Dims) -> Option<()>
-    requires { at.old ≡ [] }
-    ensures { option_map (λ _. at.new) result ≡ coords_in (view item.now) }
-{
-    match list_items(item) {
-        Some(items) => read_list(items, at),
-        None => {
-            at.push(coordinate(item)?);
-            Some(())
-        }
-    }
-}
-
-fn read_list(items: &[Value], at: &mut Dims) -> Option<()>
-    requires { at.old ≡ [] }
-    ensures { option_map (λ _. at.new) result
-        ≡ option_and_then few_of (all_in extent_in (map view items.now)) }
-{
-    if items.is_empty() || MAX_RANK < items.len() {
-        return None;
-    }
-    for item in items {
-        at.push(coordinate(item)?);
-    }
-    Some(())
-}
-
-fn coordinate(tree: &Value) -> Option<u64>
-    ensures { result ≡ extent_in (view tree.now) }
-{
-    let n = whole_number(tree)?;
-    if n <= MAX_EXTENT { Some(n) } else { None }
 }

@@ -7,3 +7,5 @@ pub mod InsideLemmas
 pub mod CellLemmas
 pub mod CapLemmas
 pub mod ChunkDimLemmas
+pub mod StreamLemmas
+pub mod KeptDimLemmas

@@ -1,5 +1,5 @@
 -- A spelled list of which the first numbers are kept, and the tests of shapes over such lists.
-use Rattle.std.specs.Prelude.{ℕ, ◌+◌, ◌&&◌, List, ◌++◌, length, take, Option, Some, None, option_map, Result, Err, nat_le, nat_eq, if◌then◌else◌}
+use Rattle.std.specs.Prelude.{ℕ, ◌+◌, ◌&&◌, List, [], ◌∷◌, ◌++◌, length, take, Option, Some, None, option_map, Result, Err, nat_le, nat_lt, nat_eq, if◌then◌else◌}
 use Rattle.shapes.specs.declared.Shape.{Shape}
 use Rattle.shapes.specs.declared.ShapeFault.{ShapeFault}
 use Rattle.shapes.specs.declared.ShapeFault.TheVariants.{NotAShape, Rank}
@@ -25,6 +25,12 @@ number_in Limit = limit_in
 -- at most as many numbers as a shape has axes
 abbrev pub few_of : List ℕ → Option (List ℕ)
 few_of ns = if nat_le 1 (length ns) && nat_le (length ns) MAX_RANK then Some ns else None
+
+-- dims with one extent more; none where there are none, where it is none, or where there is no room
+abbrev pub dims_with : Option (List ℕ) → Option ℕ → Option (List ℕ)
+dims_with None n = None
+dims_with (Some ns) None = None
+dims_with (Some ns) (Some n) = if nat_lt (length ns) MAX_RANK then Some (ns ++ n ∷ []) else None
 
 abbrev pub kept_grid : Spelled → Spelled → Result Shape ShapeFault
 kept_grid dims limits = if nat_le 1 dims.count && nat_le dims.count MAX_RANK && nat_eq dims.count limits.count then fitted_of dims.kept limits.kept else Err Rank

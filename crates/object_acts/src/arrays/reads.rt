@@ -128,8 +128,7 @@ fn cells_reply(alloc: Global, array: &Array, slab: &Slab) -> Result<Reply, Alloc
 fn points_reply(alloc: Global, array: &Array, points: &KeptTree) -> Result<Reply, Stop>
     ensures { IfOk (settled result) (λ r. r ≡ points_read points.now array.now.grid) }
 {
-    let tree = points.to_value(alloc)?;
-    let points = point_select::read_points(alloc, &tree, array.shape())?;
+    let points = point_select::read_points(alloc, points, array.shape())?;
     Ok(elements_reply(alloc, array, &points)?)
 }
 

@@ -1,11 +1,8 @@
 //! What requests write to an array.
 
-ghost use Rattle.std.specs.Prelude.{◌≡◌, ◌≤◌, ℕ, List, All, IfOk, nat_le, option_map, true};
-ghost use Rattle.serde_json.specs.View.{view};
-ghost use Rattle.json_trees.specs.Shown.{shown};
+ghost use Rattle.std.specs.Prelude.{◌≡◌, ◌≤◌, ℕ, List, All, IfOk, nat_le, true};
 ghost use Rattle.json_trees.specs.Faults.{Gives};
 ghost use Rattle.shapes.specs.RowMajor.{cell_count};
-ghost use Rattle.shapes.specs.Shapes.{IsSound};
 ghost use Rattle.shapes.specs.declared.TheConstants.{MAX_EXTENT};
 ghost use Rattle.hyperslab.specs.declared.TheConstants.{MAX_SELECTED};
 ghost use Rattle.hyperslab.specs.Judged.{lists_slab};
@@ -28,13 +25,12 @@ use crate::arrays::{MAX_BYTES, MAX_NEW_BYTES};
 use crate::fault::ChangeFault;
 use chunk_store::Array;
 use hdf_values::read_kept;
-use hyperslab::{Slab, SlabFault, from_lists};
+use hyperslab::{Slab, from_lists};
 use json_trees::KeptTree;
 use object_ops::{Part, Reply};
 use point_select::read_points;
-use serde_json::Value;
-use shapes::{Dims, Shape, resized};
-use std::alloc::{AllocError, Global};
+use shapes::{Dims, resized};
+use std::alloc::Global;
 
 /// Other elements in a part of an array: a tree nested by how many numbers are selected on each axis, or a list with
 /// one element for each point, of which the last of a repeated point counts. The reply is refused, and nothing is
@@ -88,44 +84,6 @@ pub fn change_shape(array: &mut Array, alloc: Global, dims: &Dims) -> Reply
     }
 }
 
-/// The value of a tree that may be absent.
-fn value_of(alloc: Global, tree: &Option<KeptTree>) -> Result<Option<Value>, AllocError>
-    ensures { IfOk result (λ value. option_map view value ≡ tree.now) }
-{
-    match tree {
-        None => Ok(None),
-        Some(tree) => Ok(Some(tree.to_value(alloc)?)),
-    }
-}
-
-fn lent(value: &Option<Value>) -> Option<&Value>
-    ensures { shown result ≡ option_map view value.now }
-{
-    match value {
-        None => None,
-        Some(value) => Some(value),
-    }
-}
-
-/// The selection that kept lists spell on a shape, or why they spell none.
-fn slab_of(
-    alloc: Global,
-    shape: &Shape,
-    start: &Option<KeptTree>,
-    stop: &Option<KeptTree>,
-    step: &Option<KeptTree>,
-) -> Result<Result<Slab, SlabFault>, AllocError>
-    requires { IsSound shape.now }
-    ensures first { IfOk result (λ slab. slab ≡ lists_slab shape.now start.now stop.now step.now) }
-    ensures within { IfOk result (λ slab. IfOk slab (λ s. SlabIn s shape.now)) }
-    ensures sound { IfOk result (λ slab. IfOk slab IsSlab) }
-{
-    let start = value_of(alloc, start)?;
-    let stop = value_of(alloc, stop)?;
-    let step = value_of(alloc, step)?;
-    Ok(from_lists(lent(&start), lent(&stop), lent(&step), shape))
-}
-
 fn write_lists(
     alloc: Global,
     array: &mut Array,
@@ -150,7 +108,7 @@ fn write_lists(
         (lists_slab array.old.grid.shape start.now stop.now step.now)).0 ≡ true) }
 {
     array.is_whole();
-    match slab_of(alloc, array.shape(), start, stop, step)? {
+    match from_lists(alloc, start, stop, step, array.shape())? {
         Ok(slab) => settle(write_slab(alloc, array, &slab, value)),
         Err(fault) => Ok(Reply::Refused(refused_slab(fault))),
     }
@@ -209,8 +167,7 @@ fn write_points(
     ensures judged { IfTooMany (settled result) (was_done (points_written array.old.grid
         value.now (points_of points.now array.old.grid.shape)).0 ≡ true) }
 {
-    let tree = points.to_value(alloc)?;
-    let points = read_points(alloc, &tree, array.shape())?;
+    let points = read_points(alloc, points, array.shape())?;
     let many = points.len() as u64;
     let bytes = elements(alloc, array, many, &Dims::repeated(many, 1), value)?;
     let new = array.points_add(alloc, &points)?;

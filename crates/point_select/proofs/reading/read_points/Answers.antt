@@ -1,6 +1,5 @@
 -- The tests agree with the relation.
 use Rattle.std.proofs.Common.{◌≤◌, Ok, All, length}
-use Rattle.serde_json.specs.View.{view}
 use Rattle.shapes.specs.Shapes.{LiesIn}
 use Rattle.point_select.specs.Points.{SpellsPoints}
 use Rattle.point_select.specs.Faults.{points_of}
@@ -9,16 +8,16 @@ use Rattle.point_select.proofs.reading.read_points.Goals as goal
 
 pub returns-clause-spelled : goal.returns-clause-spelled
 returns-clause-spelled c =
-    answer_told c.first_of.result (points_of (view c.args.tree.now) c.args.shape.now) (SpellsPoints (view c.args.tree.now) c.args.shape.now) (points_told (view c.args.tree.now) c.args.shape.now) c.first_of.ensures.first
+    answer_told c.first_of.result (points_of c.args.tree.now c.args.shape.now) (SpellsPoints c.args.tree.now c.args.shape.now) (points_told c.args.tree.now c.args.shape.now) c.first_of.ensures
 
 pub returns-clause-only : goal.returns-clause-only
 returns-clause-only c = λ points h.
-    answer_same c.first_of.result (points_of (view c.args.tree.now) c.args.shape.now) (Ok points) (points_read (view c.args.tree.now) c.args.shape.now points h) c.first_of.ensures.first
+    answer_same c.first_of.result (points_of c.args.tree.now c.args.shape.now) (Ok points) (points_read c.args.tree.now c.args.shape.now points h) c.first_of.ensures
 
 pub returns-clause-inside : goal.returns-clause-inside
 returns-clause-inside c =
-    answer_told c.first_of.result (points_of (view c.args.tree.now) c.args.shape.now) (All (λ at. LiesIn at c.args.shape.now)) (λ points e. points_inside (view c.args.tree.now) c.args.shape.now points (points_told (view c.args.tree.now) c.args.shape.now points e)) c.first_of.ensures.first
+    answer_told c.first_of.result (points_of c.args.tree.now c.args.shape.now) (All (λ at. LiesIn at c.args.shape.now)) (λ points e. points_inside c.args.tree.now c.args.shape.now points (points_told c.args.tree.now c.args.shape.now points e)) c.first_of.ensures
 
 pub returns-clause-few : goal.returns-clause-few
 returns-clause-few c =
-    answer_told c.first_of.result (points_of (view c.args.tree.now) c.args.shape.now) (λ points. length points ≤ 65536) (λ points e. points_few (view c.args.tree.now) c.args.shape.now points (points_told (view c.args.tree.now) c.args.shape.now points e)) c.first_of.ensures.first
+    answer_told c.first_of.result (points_of c.args.tree.now c.args.shape.now) (λ points. length points ≤ 65536) (λ points e. points_few c.args.tree.now c.args.shape.now points (points_told c.args.tree.now c.args.shape.now points e)) c.first_of.ensures
