@@ -3,7 +3,7 @@
 ghost use Rattle.std.specs.Prelude.{◌≡◌, length};
 ghost use Rattle.hyperslab.specs.Selected.{IsSlab, SlabIn};
 
-use crate::tables::{number, text_of, tree};
+use crate::tables::{kept, kept_at, number, text_of, tree};
 use crate::trials::{are_elements, made, points_of, slab_of};
 use crate::value_rows::hex;
 use chunk_store::Array;
@@ -27,14 +27,15 @@ fn shown(rt: &(impl Abort + AllocGlobal), array: &Array, slab: &Slab) -> String
 /// Writes a value by the selection that lists spell.
 fn put_lists(rt: &(impl Abort + AllocGlobal), array: &mut Array, keys: &str, value: &str) {
     array.is_whole();
-    let keys = tree(rt, keys);
+    let keys = kept(rt, keys);
     let slab = from_lists(
-        keys.get("start"),
-        keys.get("stop"),
-        keys.get("step"),
+        rt.alloc(),
+        &kept_at(rt, &keys, "start"),
+        &kept_at(rt, &keys, "stop"),
+        &kept_at(rt, &keys, "step"),
         array.shape(),
     );
-    let slab = slab.expect(rt, "a selection");
+    let slab = slab.expect(rt, "memory").expect(rt, "a selection");
     let bytes = read_nested(rt.alloc(), array.elem(), &slab.extents(), &tree(rt, value));
     let bytes = bytes.expect(rt, "a value");
     assert!(rt; are_elements(array.elem(), slab.count(), bytes.as_slice()));

@@ -1,7 +1,7 @@
 //! Points as trees spell them.
 
 use crate::shape_rows::shape_in;
-use crate::tables::{Told, column, had, tree, try_rows};
+use crate::tables::{Told, column, had, kept, try_rows};
 use point_select::{Points, read_points};
 use shapes::Dims;
 use std::process::Abort;
@@ -9,7 +9,7 @@ use std::process::Abort;
 /// The points that a tree spells on a shape, each printed as its coordinates, or their fault.
 fn told(rt: &(impl Abort + AllocGlobal), shape: &str, points: &str) -> String {
     let shape = shape_in(rt, shape, "").expect(rt, "a shape");
-    match read_points(rt.alloc(), &tree(rt, points), &shape) {
+    match read_points(rt.alloc(), &kept(rt, points), &shape) {
         Ok(points) => printed(rt, &points),
         Err(fault) => had(rt, format!(in rt.alloc(); "{fault:?}")),
     }
@@ -74,22 +74,48 @@ fn trees_spell_points_or_have_a_first_fault(rt: HostRuntime) {
     try_rows::<PointsRow>(&rt, POINTS, 2);
 }
 
+/// A row a line, as before: what is no coordinate stands deep, late or among others.
+static JUNK: &str = r#"[2,3]|[[0,{"":0}],[1,2]]|Syntax { index: 0 }
+[2,3]|[[1,2],[0,{"":[9,{"a":[[]]}]}],[9,9]]|Syntax { index: 1 }
+[2,3]|[[[0,0]],[0,0]]|Syntax { index: 0 }
+[2,3]|[[0,[0]],[0,0]]|Syntax { index: 0 }
+[2,3]|[[1,2],[[]],{}]|Syntax { index: 1 }
+[2,3]|{"a":[0,0]}|Syntax { index: 0 }
+[2,3]|[[1,1099511627777]]|Syntax { index: 0 }
+[2,3]|[[1,18446744073709551616]]|Syntax { index: 0 }
+[4]|[3,1e0]|Syntax { index: 1 }
+[4]|[3,2,-0]|Syntax { index: 2 }
+[4]|[3,true]|Syntax { index: 1 }
+[4]|["\u0033"]|Syntax { index: 0 }
+[4]|[3,[2],[4],[5]]|Past { index: 2 }
+[4]|[[3],[2,2],[4]]|Rank { index: 1 }
+[4]|[[3],4,5]|Past { index: 1 }
+[2,3]|[[1,2],1,[9,9]]|Rank { index: 1 }
+[2,3]|[[0,0,0,0,0,0,0,0,0,0,0,0,0,0,0,0,0,0,0,0,0,0,0,0,0,0,0,0,0,0,0,0]]|Rank { index: 0 }
+[2,3]|[[0,0,0,0,0,0,0,0,0,0,0,0,0,0,0,0,0,0,0,0,0,0,0,0,0,0,0,0,0,0,0,0,0]]|Syntax { index: 0 }"#;
+
+#[test]
+fn junk_among_points_is_passed_over(rt: HostRuntime) {
+    try_rows::<PointsRow>(&rt, JUNK, 2);
+}
+
 #[test]
 fn a_vector_of_points_goes_in_and_out(rt: HostRuntime) {
     let points = vec![in rt.alloc(); Dims::new(), Dims::new()].expect(&rt, "memory");
     assert!(rt; Points::new(points).into_vec().len() == 2);
 }
 
-/// A list of a zero and so many more.
-fn zeros(rt: &(impl Abort + AllocGlobal), more: usize) -> String {
-    let zeros = had(rt, ",0".repeat(rt.alloc(), more));
-    had(rt, format!(in rt.alloc(); "[0{zeros}]"))
+/// A list of an item and so many more of the same.
+fn list_of(rt: &(impl Abort + AllocGlobal), item: &str, more: usize) -> String {
+    let next = had(rt, format!(in rt.alloc(); ",{item}"));
+    let others = had(rt, next.as_str().repeat(rt.alloc(), more));
+    had(rt, format!(in rt.alloc(); "[{item}{others}]"))
 }
 
 /// How many points a list of a zero and so many more has on a shape of four cells.
 fn count_of_zeros(rt: &(impl Abort + AllocGlobal), more: usize) -> usize {
     let shape = shape_in(rt, "[4]", "").expect(rt, "a shape");
-    let tree = tree(rt, zeros(rt, more).as_str());
+    let tree = kept(rt, list_of(rt, "0", more).as_str());
     match read_points(rt.alloc(), &tree, &shape) {
         Ok(points) => points.len(),
         Err(_) => 0,
@@ -99,9 +125,16 @@ fn count_of_zeros(rt: &(impl Abort + AllocGlobal), more: usize) -> usize {
 #[test]
 fn points_are_counted_first(rt: HostRuntime) {
     assert!(rt; count_of_zeros(&rt, 65_535) == 65_536);
-    let more = zeros(&rt, 65_536);
-    for shape in ["[4]", "[2,3]", "\"H5S_NULL\"", "\"H5S_SCALAR\""] {
-        let got = told(&rt, shape, more.as_str());
-        assert!(rt; got.as_str() == "TooMany { count: 65537 }", "{shape}");
+    for item in ["0", "[[0]]", "{\"\":[0]}"] {
+        let more = list_of(&rt, item, 65_536);
+        for shape in ["[4]", "[2,3]", "\"H5S_NULL\"", "\"H5S_SCALAR\""] {
+            let got = told(&rt, shape, more.as_str());
+            assert!(rt;
+                got.as_str() == "TooMany { count: 65537 }",
+                "{shape} {item}"
+            );
+        }
     }
+    let more = list_of(&rt, "[]", 99_999);
+    assert!(rt; told(&rt, "[4]", more.as_str()).as_str() == "TooMany { count: 100000 }");
 }

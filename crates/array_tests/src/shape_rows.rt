@@ -3,9 +3,12 @@
 ghost use Rattle.std.specs.Prelude.{IfOk};
 ghost use Rattle.shapes.specs.Shapes.{IsSound};
 
-use crate::tables::{Told, column, had, text_of, tree, try_rows};
+use crate::tables::{Told, column, had, kept, text_of, tree, try_rows};
 use serde_json::Value;
-use shapes::{Form, Shape, ShapeFault, count, read_dims, read_shape, resized, shape_json};
+use shapes::{
+    Dims, Form, Shape, ShapeFault, count, read_dims, read_kept_dims, read_shape, resized,
+    shape_json,
+};
 use std::process::Abort;
 
 /// The shape of a tree and of another for its limits. An empty text is no tree.
@@ -102,6 +105,50 @@ fn trees_spell_shapes_or_have_a_first_fault(rt: HostRuntime) {
     try_rows::<ShapeRow>(&rt, SHAPES, 2);
 }
 
+/// The dims that a text spells, as those of its tree and as those of the text that is kept.
+fn both_dims(rt: &(impl Abort + AllocGlobal), text: &str) -> Option<Dims> {
+    let dims = read_kept_dims(rt.alloc(), &kept(rt, text)).expect(rt, "memory");
+    assert!(rt; dims == read_dims(&tree(rt, text)), "{text}");
+    dims
+}
+
+struct DimsRow;
+
+impl Told for DimsRow {
+    fn told(rt: &(impl Abort + AllocGlobal), row: &str) -> String {
+        let dims = both_dims(rt, column(row, 0)).map(|dims| dims.len());
+        had(rt, format!(in rt.alloc(); "{dims:?}"))
+    }
+}
+
+/// A row a line: a tree, and how many dims it spells, kept or not.
+static DIMS: &str = r#"[0]|Some(1)
+7|Some(1)
+[2147483647,0,1]|Some(3)
+2147483648|None
+[1,2147483648]|None
+1099511627777|None
+[18446744073709551616,1]|None
+-1|None
+-0|None
+[1.0]|None
+1e0|None
+[]|None
+[[1]]|None
+[1,[2],3]|None
+[1,{"":2}]|None
+[{"":[[1],1]},1]|None
+{"dims":[1]}|None
+["1",1]|None
+"H5S_UNLIMITED"|None
+[1,null]|None
+true|None"#;
+
+#[test]
+fn kept_dims_are_those_of_their_trees(rt: HostRuntime) {
+    try_rows::<DimsRow>(&rt, DIMS, 1);
+}
+
 /// A list of a one and so many more.
 fn ones(rt: &(impl Abort + AllocGlobal), more: usize) -> String {
     let ones = had(rt, ",1".repeat(rt.alloc(), more));
@@ -112,7 +159,7 @@ fn ones(rt: &(impl Abort + AllocGlobal), more: usize) -> String {
 fn has_rank(rt: &(impl Abort + AllocGlobal), more: usize, cells: Result<u64, ShapeFault>) -> bool {
     let text = ones(rt, more);
     let shape = shape_in(rt, text.as_str(), "");
-    let dims = read_dims(&tree(rt, text.as_str()));
+    let dims = both_dims(rt, text.as_str());
     dims.is_some() == cells.is_ok() && shape.map(|shape| count(&shape)) == cells
 }
 

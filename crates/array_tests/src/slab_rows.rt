@@ -3,7 +3,7 @@
 ghost use Rattle.shapes.specs.Shapes.{IsSound};
 
 use crate::shape_rows::shape_in;
-use crate::tables::{Told, column, had, tree, try_rows};
+use crate::tables::{Told, column, had, kept, kept_at, try_rows};
 use hyperslab::{Slab, SlabFault, from_lists, read_select, whole};
 use shapes::Shape;
 use std::process::Abort;
@@ -135,14 +135,15 @@ struct ListsRow;
 
 impl Told for ListsRow {
     fn told(rt: &(impl Abort + AllocGlobal), row: &str) -> String {
-        let keys = tree(rt, column(row, 1));
+        let keys = kept(rt, column(row, 1));
         let slab = from_lists(
-            keys.get("start"),
-            keys.get("stop"),
-            keys.get("step"),
+            rt.alloc(),
+            &kept_at(rt, &keys, "start"),
+            &kept_at(rt, &keys, "stop"),
+            &kept_at(rt, &keys, "step"),
             &shape_of(rt, row),
         );
-        shown(rt, slab)
+        shown(rt, slab.expect(rt, "memory"))
     }
 }
 
@@ -165,6 +166,17 @@ static LISTS: &str = r#"[10,8]|{"start":[1,0],"stop":[10,7],"step":[4,3]}|1:10:4
 [10,8]|{"stop":[]}|Syntax { byte: 0 }
 [10,8]|{"step":[1,2147483648]}|Syntax { byte: 0 }
 [10,8]|{"start":null}|Syntax { byte: 0 }
+[10]|{"start":[]}|Syntax { byte: 0 }
+[10]|{"start":[[0]]}|Syntax { byte: 0 }
+[10,8]|{"stop":[0,{"":0}]}|Syntax { byte: 0 }
+[10]|{"stop":{"":[[0],0]}}|Syntax { byte: 0 }
+[10]|{"step":1.0}|Syntax { byte: 0 }
+[10]|{"stop":1099511627777}|Syntax { byte: 0 }
+[10]|{"step":[0,1099511627777]}|Syntax { byte: 0 }
+"H5S_SCALAR"|{"stop":[]}|Syntax { byte: 0 }
+"H5S_NULL"|{"stop":[[]]}|Syntax { byte: 0 }
+[10]|{"start":[0,0,0,0,0,0,0,0,0,0,0,0,0,0,0,0,0,0,0,0,0,0,0,0,0,0,0,0,0,0,0,0]}|Rank
+[10]|{"start":[0,0,0,0,0,0,0,0,0,0,0,0,0,0,0,0,0,0,0,0,0,0,0,0,0,0,0,0,0,0,0,0,0]}|Syntax { byte: 0 }
 [2000000]|{}|TooMany { count: 2000000 }"#;
 
 #[test]

@@ -1,5 +1,6 @@
 //! Rows of tables: columns parted by strokes.
 
+use json_trees::{KeptTree, member_at};
 use serde_json::Value;
 use std::process::Abort;
 
@@ -15,6 +16,16 @@ pub fn column(row: &str, place: u8) -> &str {
 /// The tree that a text is.
 pub fn tree(rt: &(impl Abort + AllocGlobal), text: &str) -> Value {
     Value::from_str(rt.alloc(), text).expect(rt, "JSON")
+}
+
+/// The tree that a text is, kept.
+pub fn kept(rt: &(impl Abort + AllocGlobal), text: &str) -> KeptTree {
+    KeptTree::read(rt.alloc(), text.as_bytes()).expect(rt, "JSON")
+}
+
+/// What stands at a key of an object.
+pub fn kept_at(rt: &(impl Abort + AllocGlobal), tree: &KeptTree, key: &str) -> Option<KeptTree> {
+    member_at(rt.alloc(), tree, key).expect(rt, "memory")
 }
 
 /// The number that a text is.

@@ -106,11 +106,7 @@ fn lists(
     Ok(Some(Slab { start, stop, step }))
 }
 
-fn list_or(
-    alloc: Global,
-    absent: Dims,
-    tree: &Option<KeptTree>,
-) -> Result<Option<Dims>, AllocError>
+fn list_or(alloc: Global, absent: Dims, tree: &Option<KeptTree>) -> Result<Option<Dims>, AllocError>
     ensures { IfOk result (λ dims. dims ≡ list_from absent tree.now) }
 {
     match tree {

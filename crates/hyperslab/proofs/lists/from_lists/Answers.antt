@@ -1,7 +1,6 @@
 -- What is judged of a shape lies in it.
 use Rattle.std.proofs.Common.{subst, sym, ◌∙◌}
 use Rattle.std.specs.Prelude.{◌<◌, ◌^◌, All, Result, IfOk}
-use Rattle.json_trees.specs.Shown.{shown}
 use Rattle.hyperslab.specs.declared.Slab.{Slab}
 use Rattle.hyperslab.specs.declared.SlabFault.{SlabFault}
 use Rattle.hyperslab.specs.Selected.{SlabIn}
@@ -17,5 +16,5 @@ returns-in-Some-clause-within c =
 pub returns-in-Some-clause-steps : goal.returns-in-Some-clause-steps
 returns-in-Some-clause-steps c =
     let P = λ (r : Result Slab SlabFault). IfOk r (λ s. All (λ n. n < 10 ^ 10) s.step) in
-    let made = sym c.lists.ensures ∙ c.in-Some.is in
-    subst P (sym c.judged.ensures.first) (given_short c.args.shape.now c.dims.result (shown c.args.start) (shown c.args.stop) (shown c.args.step) c.in-Some.slab c.dims.ensures made)
+    let made = sym c.in_ok-lists.ensures ∙ c.in-Some.is in
+    subst P (sym c.judged.ensures.first) (given_short c.args.shape.now c.dims.result c.args.start.now c.args.stop.now c.args.step.now c.in-Some.slab c.dims.ensures made)
