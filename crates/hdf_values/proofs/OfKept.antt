@@ -1,3 +1,4 @@
 pub mod StreamLemmas
 pub mod MemberLemmas
 pub mod ValueLemmas
+pub mod PartLemmas

@@ -3,7 +3,7 @@ use Rattle.std.proofs.Common.{◌≡◌, ◌≢◌, ℕ, zero, suc, ◌+◌, ◌
 use Rattle.std.specs.Prelude.{IsUtf8, IsTrue, ◌↔◌}
 use Rattle.std.specs.List.{AllByRecursion, list_any}
 use Rattle.std.proofs.lemmas.Bool.{ltb-false, le-ltb, leb-false, lt-leb, eqb-false, eq-eqb, ne_eqb, or_parts, or_from, cases_eq}
-use Rattle.std.proofs.lemmas.List.{append-nil, length-append, length-replicate, get_or_at, take_at, take_more}
+use Rattle.std.proofs.lemmas.List.{append-nil, append_assoc, length-append, length-replicate, get_or_at, take_all, take_at, take_more}
 use Rattle.std.proofs.lemmas.Str.{IsUtf8-take, IsCharBoundary-before_ascii}
 use Rattle.serde_json.specs.Data.{Data, null, boolean, number, string, array, object}
 use Rattle.serde_json.specs.Find.{as_str}
@@ -247,3 +247,13 @@ kept_whole f n bs h l e =
     let same : n - 1 + 1 ≡ n = omega arith in
     let front : take n bs ≡ take (n - 1) bs ++ get_or bs (n - 1) 0 ∷ [] = sym (ap (λ m. take m bs) same) ∙ take_more bs (n - 1) 0 (omega arith) in
     front ∙ sym (end_kept f (get_or bs (n - 1) 0) (take (n - 1) bs) e) ∙ sym (ap (without_end f) front)
+
+-- behind what stands there a text, and behind it what fills it up
+pub text_behind : (t : TextType) (old given mid new : List ℕ) (from len f : ℕ) → text_misfit t given ≡ None → from ≡ length old → len ≡ length mid → f ≡ fill t.pad → mid ≡ old ++ given
+    → new ≡ take (from + t.len) mid ++ replicate (from + t.len - len) f → new ≡ old ++ padded t given
+text_behind t old given mid new from len f none start many fills put is =
+    let long : length mid ≡ length old + length given = ap length put ∙ length-append old given in
+    let whole : take (from + t.len) mid ≡ mid = take_all (from + t.len) mid (omega (arith, text_short t given none, start, long)) in
+    let left : from + t.len - len ≡ t.len - length given = omega (arith, start, many, long) in
+    is ∙ ap (λ x. x ++ replicate (from + t.len - len) f) whole ∙ ap (λ k. mid ++ replicate k f) left ∙ ap (λ b. mid ++ replicate (t.len - length given) b) fills ∙ ap (λ x. x ++ replicate (t.len - length given) (fill t.pad)) put
+    ∙ append_assoc old given (replicate (t.len - length given) (fill t.pad))

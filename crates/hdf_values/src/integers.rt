@@ -1,6 +1,6 @@
 //! Whole numbers as two's complement bytes, in either order.
 
-ghost use Rattle.std.specs.Prelude.{◌≡◌, true, ◌<◌, ◌-◌, ◌*◌, ◌/◌, ◌^◌, ◌≤ℤ◌, ◌++◌, [], pos, negsuc, length, map, take, reverse, IfOk};
+ghost use Rattle.std.specs.Prelude.{◌≡◌, true, ◌<◌, ◌-◌, ◌*◌, ◌/◌, ◌^◌, ◌≤ℤ◌, ◌++◌, [], pos, negsuc, length, map, take, reverse, Some, IfOk};
 ghost use Rattle.std.specs.List.{AllByRecursion};
 ghost use Rattle.serde_json.specs.Data.{number};
 ghost use Rattle.serde_json.specs.Find.{of_integer};
@@ -13,6 +13,7 @@ ghost use Rattle.hdf_values.specs.Integers.{greatest as greatest_of, int_bytes, 
 ghost use Rattle.hdf_values.specs.Integers.{in_order, number_of, signed_of};
 ghost use Rattle.hdf_values.specs.Elements.{Fits, IsNumberIn, decoded, int_encoded, outcome};
 ghost use Rattle.hdf_values.specs.Nested.{Appends, AppendsEach, pieces};
+ghost use Rattle.hdf_values.specs.Streamed.{Told};
 
 use crate::{Misfit, ValueFault};
 use hdf_types::IntType;
@@ -116,6 +117,23 @@ fn read_int(int: &IntType, tree: &Value, place: u64, out: &mut Vec<u8>) -> Resul
         Err(misfit) => return Err(misfit.at(place)),
     }
     Ok(place + 1)
+}
+
+/// Appends the bytes of a whole number, or tells why it is none of this type.
+pub(crate) fn push_number(
+    int: &IntType,
+    value: i128,
+    out: &mut Vec<u8>,
+) -> Result<Option<Misfit>, AllocError>
+    requires { IsWidth int.now.bits }
+    ensures { IfOk result (λ misfit. Told misfit out.old.items out.new.items
+        (int_encoded int.now (Some value))) }
+{
+    if !in_range(int, value) {
+        return Ok(Some(Misfit::OutOfRange));
+    }
+    push_int(int, value, out)?;
+    Ok(None)
 }
 
 fn push_int(int: &IntType, value: i128, out: &mut Vec<u8>) -> Result<(), AllocError>

@@ -1,7 +1,7 @@
-//! Values from kept trees: with no tree in memory where the elements are whole numbers.
+//! Values from kept trees, element by element, with no tree of the value in memory.
 
-mod ints;
 mod nested;
-mod numbers;
+mod parts;
+mod streams;
 
 pub use nested::read_kept;

@@ -1,7 +1,7 @@
 //! Texts of a fixed length: their bytes, and what fills them up.
 
 ghost use Rattle.std.specs.Prelude.{◌≡◌, ◌≤◌, ◌↔◌, ◌*◌, ℕ, List, [], length, map, take, replicate};
-ghost use Rattle.std.specs.Prelude.{Ok, IsTrue, IfOk, IsUtf8, nat_le, nat_eq};
+ghost use Rattle.std.specs.Prelude.{Ok, Some, IsTrue, IfOk, IsUtf8, nat_le, nat_eq};
 ghost use Rattle.serde_json.specs.Data.{string};
 ghost use Rattle.std.specs.List.{AllByRecursion, list_any};
 ghost use Rattle.hdf_types.specs.Elems.{text};
@@ -10,6 +10,7 @@ ghost use Rattle.serde_json.specs.View.{view};
 ghost use Rattle.hdf_values.specs.Texts.{fill as fill_of, most_of, FitsText, text_misfit, padded, without_end};
 ghost use Rattle.hdf_values.specs.Nested.{Appends, AppendsEach, AreEncoded, pieces};
 ghost use Rattle.hdf_values.specs.Elements.{text_encoded, outcome, Fits, IsEncoded, decoded};
+ghost use Rattle.hdf_values.specs.Streamed.{Told};
 
 use crate::{Misfit, ValueFault};
 use hdf_types::{Pad, TextType};
@@ -136,6 +137,25 @@ fn read_text(
         Ok(()) => Ok(place + 1),
         Err(misfit) => Err(misfit.at(place)),
     }
+}
+
+/// Appends the bytes of a text, or tells why it is none of this type.
+pub(crate) fn push_text(
+    kind: &TextType,
+    given: &str,
+    out: &mut Vec<u8>,
+) -> Result<Option<Misfit>, AllocError>
+    ensures { IfOk result (λ misfit. Told misfit out.old.items out.new.items
+        (text_encoded kind.now (Some given.now))) }
+{
+    let bytes = given.as_bytes();
+    if let Some(misfit) = misfit(kind, bytes) {
+        return Ok(Some(misfit));
+    }
+    let end = out.len() + kind.len as usize;
+    out.extend_from_slice(bytes)?;
+    out.resize(end, fill(kind.pad))?;
+    Ok(None)
 }
 
 /// How many bytes stand in front of those that fill up.

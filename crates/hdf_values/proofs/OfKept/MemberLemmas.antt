@@ -99,6 +99,9 @@ none_left from rest r trees (json.item j js) is e closed =
     let none = ap after_end_array (is ∙ item_begins j js rest) ∙ not_end j (items_tokens js ++ rest) in
     absurd (cc)
 
+pub none_more : (from rest r : List Token) (trees : Items) → AreTrees from trees rest → after_end_array from ≡ Some r → (r ≡ rest) × (trees ≡ no_items)
+none_more from rest r trees h closed = none_left from rest r trees h.items h.tokens h.reads closed
+
 -- ---- the walk
 
 pub record IsUnderway (e : Elem) (dims : List ℕ) (want p : ℕ) (trees : Items) (rest : List Token) (old : List ℕ) (from : List Token) (fault : Option ValueFault) (got next : ℕ) (now : List ℕ) : Type 0 where

@@ -1,28 +1,25 @@
 -- Values that begin with a token, and the trees that they read as.
-use Rattle.std.proofs.Common.{◌≡◌, ◌≤◌, ◌++◌, ◌∷◌, ℕ, List, [], Option, Some, None, Result, Ok, Err, option_map, refl, sym, ap, ◌∙◌, arith}
+use Rattle.std.proofs.Common.{◌≡◌, ◌≤◌, ◌++◌, ◌∷◌, ℕ, List, [], Option, Some, None, Err, option_map, refl, sym, ap, ◌∙◌, arith}
 use Rattle.std.specs.Borrow.{Bor}
 use Rattle.json.specs.Json as json
 use Rattle.json.specs.Reads.{token_of}
 use Rattle.json.specs.declared.token.Token.{Token as Handed}
 use Rattle.json.specs.declared.token.Token.TheVariants as read
-use Rattle.json.specs.Token.{Token, begin_array, number as number_token, bad}
+use Rattle.json.specs.Token.{Token, begin_array, number as number_token, string as string_token, bad}
 use Rattle.json.specs.Tree.{json_tokens, items_tokens, depth, items_depth}
 use Rattle.json.proofs.Found.{Some_inj}
 use Rattle.serde_json.specs.Data.{Data, Num, null, boolean, number, string, array, object, Items, Members, no_members}
+use Rattle.serde_json.specs.Find.{as_str}
 use Rattle.serde_json.specs.Read.{max_depth, number_of, of_json, of_items, of_members}
 use Rattle.json_trees.specs.Trees.{list_in}
-use Rattle.hdf_types.specs.Elems.{Elem}
-use Rattle.hdf_values.specs.declared.faults.Misfit.{Misfit}
-use Rattle.hdf_values.specs.declared.faults.Misfit.TheVariants as misfits
-use Rattle.hdf_values.specs.declared.faults.ValueFault.{ValueFault}
-use Rattle.hdf_values.specs.declared.faults.ValueFault.TheVariants.{NotOfType}
-use Rattle.hdf_values.specs.Faults.{at_place}
+use Rattle.hdf_types.specs.declared.IntType.{IntType}
+use Rattle.hdf_types.specs.declared.TextType.{TextType}
+use Rattle.hdf_types.specs.Elems.{int as int_type, text as text_type}
+use Rattle.hdf_values.specs.declared.faults.Misfit.TheVariants.{NotOfType}
 use Rattle.hdf_values.specs.Integers.{integer_in}
-use Rattle.hdf_values.specs.Elements.{encoded}
-use Rattle.hdf_values.specs.Nested.{placed}
+use Rattle.hdf_values.specs.Elements.{encoded, int_encoded, text_encoded}
 use Rattle.json_trees.specs.Kept.{Begins}
-use Rattle.json_trees.specs.Begun.{IsValue, AreTrees}
-use Rattle.hdf_values.specs.Streamed.{IsInt}
+use Rattle.json_trees.specs.Begun.{AreTrees}
 
 -- ---- what begins with a token
 
@@ -37,6 +34,10 @@ first_or d (t ∷ ts) = t
 number_in : Token → List ℕ
 number_in (number_token s) = s
 number_in t = []
+
+string_in : Token → List ℕ
+string_in (string_token s) = s
+string_in t = []
 
 -- a list
 pub record AList (ts : List Token) (tree : Data) (rest : List Token) : Type 0 where
@@ -77,6 +78,19 @@ number_begun s ts rest tree (json.object ms) e r = absurd (cc)
 pub a_number : (s : List ℕ) (ts rest : List Token) (tree : Data) → Begins (number_token s ∷ ts) tree rest → (ts ≡ rest) × ((x : Num) × (number_of s ≡ Some x) × (tree ≡ number x))
 a_number s ts rest tree h = number_begun s ts rest tree h.value h.tokens h.reads
 
+-- a text
+string_begun : (s : List ℕ) (ts rest : List Token) (tree : Data) (j : json.Json) → string_token s ∷ ts ≡ json_tokens j ++ rest → of_json j ≡ Some tree → (ts ≡ rest) × (tree ≡ string s)
+unfolding tail first_or string_in
+string_begun s ts rest tree json.null e r = absurd (cc)
+string_begun s ts rest tree (json.boolean b) e r = absurd (cc)
+string_begun s ts rest tree (json.number x) e r = absurd (cc)
+string_begun s ts rest tree (json.string x) e r = (ap tail e, Some_inj tree (string x) (sym r) ∙ ap string (sym (ap (λ l. string_in (first_or bad l)) e)))
+string_begun s ts rest tree (json.array js) e r = absurd (cc)
+string_begun s ts rest tree (json.object ms) e r = absurd (cc)
+
+pub a_string : (s : List ℕ) (ts rest : List Token) (tree : Data) → Begins (string_token s ∷ ts) tree rest → (ts ≡ rest) × (tree ≡ string s)
+a_string s ts rest tree h = string_begun s ts rest tree h.value h.tokens h.reads
+
 -- neither
 no_list_found : (o : Option Members) (tree : Data) → option_map object o ≡ Some tree → list_in tree ≡ None
 no_list_found None tree e = absurd (cc)
@@ -115,10 +129,32 @@ other_number t ts rest tree (json.string x) other e r = ap integer_in (Some_inj 
 other_number t ts rest tree (json.array js) other e r = no_number_items (of_items js) tree r
 other_number t ts rest tree (json.object ms) other e r = no_number_members (of_members ms no_members) tree r
 
-pub no_number : (e : Elem) (p : ℕ) (t : Token) (ts rest : List Token) (tree : Data) → IsInt e → ((s : List ℕ) → t ≡ number_token s → ⊥) → Begins (t ∷ ts) tree rest → placed p (encoded e tree) ≡ Err (NotOfType p)
-no_number e p t ts rest tree whole other h =
-    let none = other_number t ts rest tree h.value other h.tokens h.reads in
-    rw (whole.1, none) refl
+pub no_number : (int : IntType) (t : Token) (ts rest : List Token) (tree : Data) → ((s : List ℕ) → t ≡ number_token s → ⊥) → Begins (t ∷ ts) tree rest → encoded (int_type int) tree ≡ Err NotOfType
+no_number int t ts rest tree other h = ap (int_encoded int) (other_number t ts rest tree h.value other h.tokens h.reads)
+
+no_string_number : (o : Option Num) (tree : Data) → option_map number o ≡ Some tree → as_str tree ≡ None
+no_string_number None tree e = absurd (cc)
+no_string_number (Some n) tree e = ap as_str (Some_inj tree (number n) (sym e))
+
+no_string_items : (o : Option Items) (tree : Data) → option_map array o ≡ Some tree → as_str tree ≡ None
+no_string_items None tree e = absurd (cc)
+no_string_items (Some ds) tree e = ap as_str (Some_inj tree (array ds) (sym e))
+
+no_string_members : (o : Option Members) (tree : Data) → option_map object o ≡ Some tree → as_str tree ≡ None
+no_string_members None tree e = absurd (cc)
+no_string_members (Some ms) tree e = ap as_str (Some_inj tree (object ms) (sym e))
+
+other_string : (t : Token) (ts rest : List Token) (tree : Data) (j : json.Json) → ((s : List ℕ) → t ≡ string_token s → ⊥) → t ∷ ts ≡ json_tokens j ++ rest → of_json j ≡ Some tree → as_str tree ≡ None
+unfolding first_or
+other_string t ts rest tree json.null other e r = ap as_str (Some_inj tree null (sym r))
+other_string t ts rest tree (json.boolean b) other e r = ap as_str (Some_inj tree (boolean b) (sym r))
+other_string t ts rest tree (json.number x) other e r = no_string_number (number_of x) tree r
+other_string t ts rest tree (json.string x) other e r = absurd (other x (ap (first_or bad) e))
+other_string t ts rest tree (json.array js) other e r = no_string_items (of_items js) tree r
+other_string t ts rest tree (json.object ms) other e r = no_string_members (of_members ms no_members) tree r
+
+pub no_string : (kind : TextType) (t : Token) (ts rest : List Token) (tree : Data) → ((s : List ℕ) → t ≡ string_token s → ⊥) → Begins (t ∷ ts) tree rest → encoded (text_type kind) tree ≡ Err NotOfType
+no_string kind t ts rest tree other h = ap (text_encoded kind) (other_string t ts rest tree h.value other h.tokens h.reads)
 
 -- the tokens of `src`
 pub other_token : (t : Handed) → ((x : Bor (List ℕ)) → t ≡ read.Number x → ⊥) → (s : List ℕ) → token_of t ≡ number_token s → ⊥
@@ -132,3 +168,15 @@ other_token (read.Number x) h s e = h x refl
 other_token (read.Bool b) h s e = cc
 other_token read.Null h s e = cc
 other_token read.Bad h s e = cc
+
+pub other_word : (t : Handed) → ((x : Bor (List ℕ)) → t ≡ read.String x → ⊥) → (s : List ℕ) → token_of t ≡ string_token s → ⊥
+other_word read.BeginObject h s e = cc
+other_word read.EndObject h s e = cc
+other_word read.BeginArray h s e = cc
+other_word read.EndArray h s e = cc
+other_word (read.Key x) h s e = cc
+other_word (read.String x) h s e = h x refl
+other_word (read.Number x) h s e = cc
+other_word (read.Bool b) h s e = cc
+other_word read.Null h s e = cc
+other_word read.Bad h s e = cc

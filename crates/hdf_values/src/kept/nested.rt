@@ -8,8 +8,7 @@ ghost use Rattle.shapes.specs.RowMajor.{cell_count};
 ghost use Rattle.hdf_values.specs.Nested.{AreEncoded, FitsNested, nested_bytes, nested_from};
 
 use crate::ValueFault;
-use crate::kept::ints::read_ints;
-use crate::nested::read_nested;
+use crate::kept::streams::read_cells;
 use hdf_types::ElemType;
 use json_trees::KeptTree;
 use shapes::Dims;
@@ -38,38 +37,5 @@ pub fn read_kept(
         (λ v. AreEncoded (elem kind.now) (cell_count extents.now) v.items) }
 {
     tree.has_texts();
-    read_by_type(alloc, kind, extents, tree)
-}
-
-/// [`read_kept`], whose first fault decides.
-fn read_by_type(
-    alloc: Global,
-    kind: &ElemType,
-    extents: &Dims,
-    tree: &KeptTree,
-) -> Result<Vec<u8>, ValueFault>
-    requires sound { IsSoundType (elem kind.now) }
-    ensures { Gives (Fails ValueFault.NoMemory) (λ v. v.items) result
-        (nested_from (elem kind.now) extents.now 0 tree.now) }
-{
-    match kind {
-        ElemType::Int(_) => read_ints(alloc, kind, extents, tree),
-        ElemType::Text(_) => read_tree(alloc, kind, extents, tree),
-        ElemType::Compound(_) => read_tree(alloc, kind, extents, tree),
-    }
-}
-
-/// [`read_kept`], by way of the whole tree.
-fn read_tree(
-    alloc: Global,
-    kind: &ElemType,
-    extents: &Dims,
-    tree: &KeptTree,
-) -> Result<Vec<u8>, ValueFault>
-    requires sound { IsSoundType (elem kind.now) }
-    ensures first { Gives (Fails ValueFault.NoMemory) (λ v. v.items) result
-        (nested_from (elem kind.now) extents.now 0 tree.now) }
-{
-    let value = tree.to_value(alloc)?;
-    read_nested(alloc, kind, extents, &value)
+    read_cells(alloc, kind, extents, tree)
 }

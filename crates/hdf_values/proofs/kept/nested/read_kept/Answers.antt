@@ -7,10 +7,10 @@ pub returns : goal.returns
 returns c =
     let e = elem c.args.kind.now in
     let dims = c.args.extents.now in
-    let fits = read_fits (λ v. v.items) c.read_by_type.result e dims c.args.tree.now c.has_texts.ensures c.read_by_type.ensures in
+    let fits = read_fits (λ v. v.items) c.read_cells.result e dims c.args.tree.now c.has_texts.ensures c.read_cells.ensures in
     record {
       fits = fits;
-      only = read_only (λ v. v.items) c.read_by_type.result e dims c.args.tree.now c.read_by_type.ensures;
-      first = c.read_by_type.ensures;
-      encoded = read_encoded (λ v. v.items) c.read_by_type.result e dims c.args.tree.now c.requires.sound fits;
+      only = read_only (λ v. v.items) c.read_cells.result e dims c.args.tree.now c.read_cells.ensures;
+      first = c.read_cells.ensures;
+      encoded = read_encoded (λ v. v.items) c.read_cells.result e dims c.args.tree.now c.requires.sound fits;
     }

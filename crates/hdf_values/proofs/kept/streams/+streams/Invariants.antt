@@ -4,7 +4,7 @@ use Rattle.serde_json.specs.Data.{Items}
 use Rattle.hdf_types.specs.Views.{elem}
 use Rattle.json_trees.specs.Begun.{AreTrees}
 use Rattle.hdf_values.proofs.OfKept.MemberLemmas.{IsUnderway}
-use Rattle.hdf_values.proofs.kept.ints.+streams.Given as goal
+use Rattle.hdf_values.proofs.kept.streams.+streams.Given as goal
 
 abbrev pub decreases-read_axes : goal.decreases-read_axes
 decreases-read_axes l = 3 * length l.extents.now

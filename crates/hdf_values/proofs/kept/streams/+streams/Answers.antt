@@ -14,7 +14,7 @@ use Rattle.hdf_values.specs.Streamed.{MemberTold, Told}
 use Rattle.json_trees.proofs.OfKept.PassLemmas.{no_array, is_value}
 use Rattle.hdf_values.proofs.OfKept.StreamLemmas.{a_list, no_list}
 use Rattle.hdf_values.proofs.OfKept.MemberLemmas.{underway_first, underway_more, underway_over, wrong_count, right_count, list_told, no_extent, unwanted}
-use Rattle.hdf_values.proofs.kept.ints.+streams.Goals as goal
+use Rattle.hdf_values.proofs.kept.streams.+streams.Goals as goal
 
 pub read_axes-returns-then-is_empty-clause-told : goal.read_axes-returns-then-is_empty-clause-told
 read_axes-returns-then-is_empty-clause-told t c =

@@ -1,52 +1,46 @@
-//! Whole numbers, nested by the extents of an array in row-major order, from a reader.
+//! Elements, nested by the extents of an array in row-major order, from a reader.
 
 ghost use Rattle.std.specs.Prelude.{◌≡◌, ◌≤◌, ◌<◌, ◌+◌, [], ◌∷◌, List, length, Ok, Some, IfOk, OnOk, IsTrue};
 ghost use Rattle.json.specs.Reads.{token_of};
 ghost use Rattle.json.specs.Token.{Token as SpecToken};
-ghost use Rattle.serde_json.specs.Data.{Data, Items, Num, number};
-ghost use Rattle.serde_json.specs.Read.{number_of as number_read};
+ghost use Rattle.serde_json.specs.Data.{Data, Items};
 ghost use Rattle.json_trees.specs.Faults.{Fails, Gives};
 ghost use Rattle.json_trees.specs.Trees.{list_of};
-ghost use Rattle.hdf_types.specs.Reading.{size_of};
 ghost use Rattle.hdf_types.specs.Types.{IsSoundType};
 ghost use Rattle.hdf_types.specs.Views.{elem};
 ghost use Rattle.shapes.specs.RowMajor.{cell_count};
-ghost use Rattle.hdf_values.specs.Elements.{encoded};
-ghost use Rattle.hdf_values.specs.Nested.{nested_from, placed};
+ghost use Rattle.hdf_values.specs.Nested.{nested_from};
 ghost use Rattle.json_trees.specs.Kept.{Begins};
 ghost use Rattle.json_trees.specs.Begun.{AreTrees};
-ghost use Rattle.hdf_values.specs.Streamed.{IsInt, MemberTold, Told, members_from};
+ghost use Rattle.hdf_values.specs.Streamed.{MemberTold, Told, members_from};
 
 use crate::ValueFault;
-use crate::kept::numbers::push_element;
+use crate::kept::parts::read_part;
 use hdf_types::ElemType;
 use json::{Reader, Scratch, Token};
-use json_trees::{KeptTree, negative_of, pass_rest, pass_value, unsigned_of};
-use serde_json::Value;
+use json_trees::{KeptTree, pass_rest, pass_value};
 use shapes::Dims;
 use std::alloc::{AllocError, Global};
 
-/// The bytes of the whole numbers of a kept tree that nests by the extents, in row-major order.
+/// The bytes of the elements of a kept tree that nests by the extents, in row-major order.
 ///
 /// # Errors
 ///
 /// The first fault in row-major order, as [`crate::read_nested`] tells it of the tree.
-pub(crate) fn read_ints(
+pub(crate) fn read_cells(
     alloc: Global,
     kind: &ElemType,
     extents: &Dims,
     tree: &KeptTree,
 ) -> Result<Vec<u8>, ValueFault>
-    requires sound { IsSoundType (elem kind.now) }
-    requires int { IsInt (elem kind.now) }
-    ensures first { Gives (Fails ValueFault.NoMemory) (λ v. v.items) result
+    requires { IsSoundType (elem kind.now) }
+    ensures { Gives (Fails ValueFault.NoMemory) (λ v. v.items) result
         (nested_from (elem kind.now) extents.now 0 tree.now) }
 {
-    let size = kind.size() as usize;
     let mut out = Vec::new(alloc);
     let mut scratch = Scratch::new(alloc);
     let mut reader = tree.reader(&mut scratch)?;
-    match read_axes(kind, size, extents.as_slice(), &mut reader, 0, &mut out)? {
+    match read_axes(kind, extents.as_slice(), &mut reader, 0, &mut out)? {
         None => Ok(out),
         Some(fault) => Err(fault),
     }
@@ -57,15 +51,12 @@ pub(crate) fn read_ints(
 #[cycle(streams)]
 fn read_axes(
     kind: &ElemType,
-    size: usize,
     extents: &[u64],
     reader: &mut Reader<'_>,
     place: u64,
     out: &mut Vec<u8>,
 ) -> Result<Option<ValueFault>, AllocError>
-    requires sound { IsSoundType (elem kind.now) }
-    requires int { IsInt (elem kind.now) }
-    requires size { size ≡ size_of (elem kind.now) }
+    requires { IsSoundType (elem kind.now) }
     ensures told { IfOk result (λ fault. (tree : Data) (rest : List SpecToken)
         → Begins reader.old tree rest → (reader.new ≡ rest)
         × Told fault out.old.items out.new.items
@@ -76,12 +67,10 @@ fn read_axes(
         return Err(AllocError);
     };
     if extents.is_empty() {
-        return read_element(kind, size, first, reader, place, out);
+        return read_element(kind, first, reader, place, out);
     }
     match first {
-        Token::BeginArray => {
-            read_members(kind, size, extents[0], &extents[1..], reader, place, out)
-        }
+        Token::BeginArray => read_members(kind, extents[0], &extents[1..], reader, place, out),
         _ => {
             pass_rest(first, reader)?;
             Ok(Some(ValueFault::NotOfType { place }))
@@ -93,16 +82,13 @@ fn read_axes(
 #[cycle(streams)]
 fn read_members(
     kind: &ElemType,
-    size: usize,
     want: u64,
     extents: &[u64],
     reader: &mut Reader<'_>,
     place: u64,
     out: &mut Vec<u8>,
 ) -> Result<Option<ValueFault>, AllocError>
-    requires sound { IsSoundType (elem kind.now) }
-    requires int { IsInt (elem kind.now) }
-    requires size { size ≡ size_of (elem kind.now) }
+    requires { IsSoundType (elem kind.now) }
     ensures told { IfOk result (λ fault. (trees : Items) (rest : List SpecToken)
         → AreTrees reader.old trees rest → (reader.new ≡ rest)
         × Told fault out.old.items out.new.items
@@ -114,7 +100,7 @@ fn read_members(
     let mut got = 0u64;
     let mut next = place;
     'items: while !reader.take_end_array() {
-        fault = read_member(kind, size, extents, fault, got < want, reader, next, out)?;
+        fault = read_member(kind, extents, fault, got < want, reader, next, out)?;
         got = sum(got, 1)?;
         next = sum(next, step)?;
     }
@@ -128,7 +114,6 @@ fn read_members(
 #[cycle(streams)]
 fn read_member(
     kind: &ElemType,
-    size: usize,
     extents: &[u64],
     fault: Option<ValueFault>,
     is_wanted: bool,
@@ -136,9 +121,7 @@ fn read_member(
     place: u64,
     out: &mut Vec<u8>,
 ) -> Result<Option<ValueFault>, AllocError>
-    requires sound { IsSoundType (elem kind.now) }
-    requires int { IsInt (elem kind.now) }
-    requires size { size ≡ size_of (elem kind.now) }
+    requires { IsSoundType (elem kind.now) }
     ensures told { IfOk result (λ found. (tree : Data) (rest : List SpecToken)
         → Begins reader.old tree rest → (reader.new ≡ rest)
         × (IsTrue is_wanted → MemberTold fault found out.old.items out.new.items
@@ -153,56 +136,27 @@ fn read_member(
         pass_value(reader)?;
         return Ok(None);
     }
-    read_axes(kind, size, extents, reader, place, out)
+    read_axes(kind, extents, reader, place, out)
 }
 
 /// [`read_axes`], for one element, whose first token was taken.
 fn read_element(
     kind: &ElemType,
-    size: usize,
     first: Token<'_>,
     reader: &mut Reader<'_>,
     place: u64,
     out: &mut Vec<u8>,
 ) -> Result<Option<ValueFault>, AllocError>
-    requires sound { IsSoundType (elem kind.now) }
-    requires int { IsInt (elem kind.now) }
-    requires size { size ≡ size_of (elem kind.now) }
+    requires { IsSoundType (elem kind.now) }
     ensures told { IfOk result (λ fault. (tree : Data) (rest : List SpecToken)
         → Begins (token_of first.entry ∷ reader.old) tree rest → (reader.new ≡ rest)
         × Told fault out.old.items out.new.items
         (nested_from (elem kind.now) [] place tree)) }
     ensures not_longer { OnOk result (length reader.new ≤ length reader.old) }
 {
-    match first {
-        Token::Number(text) => read_number(kind, size, text, place, out),
-        _ => {
-            pass_rest(first, reader)?;
-            Ok(Some(ValueFault::NotOfType { place }))
-        }
-    }
-}
-
-fn read_number(
-    kind: &ElemType,
-    size: usize,
-    text: &str,
-    place: u64,
-    out: &mut Vec<u8>,
-) -> Result<Option<ValueFault>, AllocError>
-    requires sound { IsSoundType (elem kind.now) }
-    requires int { IsInt (elem kind.now) }
-    requires size { size ≡ size_of (elem kind.now) }
-    ensures { IfOk result (λ fault. (n : Num) → number_read text.now ≡ Some n
-        → Told fault out.old.items out.new.items
-        (placed place (encoded (elem kind.now) (number n)))) }
-{
-    if let Some(n) = unsigned_of(text) {
-        return push_element(kind, size, &Value::from(n), place, out);
-    }
-    match negative_of(text) {
-        Some(n) => push_element(kind, size, &Value::from(n), place, out),
-        None => Ok(Some(ValueFault::NotOfType { place })),
+    match read_part(kind, first, reader, out)? {
+        None => Ok(None),
+        Some(misfit) => Ok(Some(misfit.at(place))),
     }
 }
 
