@@ -73,7 +73,7 @@ module _ {D : Type 0} {met : Ghosts D} (old new : Journal D met) (rs : List Reco
   may_refuse : (e : Why) → Tries old new rs (Err e) → MayRefuseKeeping old new e
   may_refuse DiskFault t = t.cause
   may_refuse (JournalFull end need room) t = (rs, t.pending, t.cause.0 ∙ sym (ap (λ n. n.end) t.numbers), t.cause.1, t.cause.2 ∙ sym same.most, omega (arith, t.cause.0, t.cause.1, t.cause.2, t.cause.3))
-  may_refuse NoMemory t = tt
+  may_refuse NoMemory t = absurd t.cause
   may_refuse (NotAJournal at) t = absurd t.cause
   may_refuse Exists t = absurd t.cause
 
@@ -150,7 +150,7 @@ module _ {D W : Type 0} {met : Ghosts D} (tells : Held → W → Type 0) (old ne
     from : (e : Why) → MayRefuseKeeping new last e → MayRefuseKeeping old last e
     from DiskFault rose = rose_since (met.faults (disk_of old)) (met.faults (disk_of new)) (met.faults (disk_of last)) same.faults rose
     from (JournalFull end need room) h = h
-    from NoMemory h = tt
+    from NoMemory h = h
     from (NotAJournal at) h = h
     from Exists h = h
 
@@ -171,7 +171,7 @@ module _ {D W : Type 0} {met : Ghosts D} (tells : Held → W → Type 0) (old ne
     crash = λ honest ws backed. still tells old building said (now ∷ ws) (λ c left. only_now (disk_of old) c honest left) (more_worlds tells old building said ws now backed);
     idle = tt;
     disk = same_here met (disk_of old);
-    cause = tt;
+    cause = idle;
     full = λ rs pending full. none_some (pending_of old) rs (Err NoMemory ≡ Err (JournalFull (end_of old) (need_of rs) (met.most (disk_of old)))) idle pending;
   }
 

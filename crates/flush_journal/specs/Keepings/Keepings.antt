@@ -53,13 +53,13 @@ abbrev pub worlds_after : {W T E : Type 0} → List W → W → Result T E → L
 worlds_after ws now (Ok done) = now ∷ []
 worlds_after ws now (Err refusal) = now ∷ ws
 
--- why a keeping may be refused: by a fault only where the disk's count rose; and for want of room only where the batch that is pending then
--- doesn't fit behind the journal's end
+-- why a keeping may be refused: by a fault only where the disk's count rose; for want of room only where the batch that is pending then
+-- doesn't fit behind the journal's end; and for want of memory only where nothing is pending
 abbrev pub MayRefuseKeeping : {D : Type 0} {met : Ghosts D} → Journal D met → Journal D met → Why → Type 0
 MayRefuseKeeping {met} old new DiskFault = Rose (met.faults (disk_of old)) (met.faults (disk_of new))
 MayRefuseKeeping {met} old new (JournalFull end need room) =
     (rs : List Record) × (pending_of new ≡ Some rs) × (end ≡ end_of new) × (need ≡ need_of rs) × (room ≡ met.most (disk_of new)) × (room < end + need)
-MayRefuseKeeping old new NoMemory = Unit {0}
+MayRefuseKeeping old new NoMemory = pending_of new ≡ None
 MayRefuseKeeping old new (NotAJournal at) = ⊥
 MayRefuseKeeping old new Exists = ⊥
 
