@@ -1,4 +1,5 @@
 pub mod ImageLemmas
+pub mod OwedLemmas
 pub mod DeskLemmas
 pub mod ContinueLemmas
 pub mod RefusalLemmas

@@ -1,7 +1,7 @@
 -- A desk at the opening.
 use Rattle.std.proofs.Common.{◌≡◌, inl, ℕ, List, [], Option, Some, None, refl, sym, subst, arith}
 use Rattle.edge_traits.specs.declared.disk.Disk.{Ghosts}
-use Rattle.flush_journal.specs.Standing.{disk_of}
+use Rattle.flush_journal.specs.Standing.{disk_of, pending_of}
 use Rattle.flush_journal.specs.declared.journal.Journal.{Journal}
 use Rattle.lane_histories.specs.Services.{World}
 use Rattle.lane_histories.specs.Histories.{History}
@@ -12,9 +12,10 @@ use Rattle.lane_histories.proofs.SaidCuts.{said_cuts_tell}
 use Rattle.journal_desk.specs.KeptServices.{KeptService}
 use Rattle.journal_desk.specs.Desks.{IsDesk, IsOnDisk, Opens, IsSoundDesk, no_history, settled}
 use Rattle.journal_desk.proofs.ImageLemmas.{as_far, image_kept}
+use Rattle.journal_desk.proofs.OwedLemmas.{owes_none}
 
 module _ (k : KeptService) (start : World k.service) (was : ℕ → k.marking.Marked) {D : Type 0} {met : Ghosts D} (j : Journal D met)
-    (all : SaysAll k.marking) (opens : met.honest → Opens k start was j) where
+    (idle : pending_of j ≡ None) (all : SaysAll k.marking) (opens : met.honest → Opens k start was j) where
   nothing_legal : IsLegal k.service start (no_history k.service)
   nothing_legal = record { register = tt; lanes = λ l. tt; in_order = λ l. ([], refl); pairs = λ a b place task next x y here there. absurd here }
 
@@ -60,6 +61,8 @@ module _ (k : KeptService) (start : World k.service) (was : ℕ → k.marking.Ma
     kept_cuts = record { c = inl refl; p = inl refl };
     far = as_far nowhere;
     keepings = tt;
+    owes = owes_none k start (no_history k.service) was (pending_of j) nowhere idle
+        (record { cut = inl refl; last = λ number e whole. absurd whole.drawn }) refl;
     on_disk = λ honest. on_disk (opens honest);
   }
 

@@ -39,7 +39,7 @@ module _ {D N : Type 0} (met : Ghosts D) (lanes : ℕ) (old new : Journal D met)
     tr.cause.2 ∙ sym same.most,
     omega (arith, tr.cause.0, tr.cause.1, tr.cause.2, tr.cause.3),
   )
-  may_refuse NoMemory tr = tt
+  may_refuse NoMemory tr = absurd tr.cause
   may_refuse (NotAJournal at) tr = absurd tr.cause
   may_refuse Exists tr = absurd tr.cause
 

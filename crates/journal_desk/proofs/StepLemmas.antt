@@ -21,7 +21,7 @@ use Rattle.lane_histories.proofs.LaneLists.{at_each}
 use Rattle.lane_histories.proofs.CutLemmas.{register_cut_push, register_cut_stays}
 use Rattle.lane_histories.proofs.SaidCuts.{cuts_stay_said, said_at_register, said_with_lane, said_with_register, said_with_short}
 use Rattle.journal_desk.specs.KeptServices.{KeptService}
-use Rattle.journal_desk.specs.Cuts.{Adds, Advances, CutsEach, DrawsCut, TakesCut, TakesRegisterCut}
+use Rattle.journal_desk.specs.Cuts.{AddCuts, Adds, Advances, CutsEach, DrawsCut, TakesCut, TakesRegisterCut, then_drawn, then_lane, then_register}
 use Rattle.journal_desk.proofs.ImageLemmas.{prefix_both, prefix_itself}
 
 module _ (s : Service) where
@@ -143,7 +143,7 @@ module _ (k : KeptService) (start : World k.service) where
 
   pub advances_none : (h : History k.service) (was : ℕ → k.marking.Marked) (rs : List Record) → IsLegal k.service start h
       → Advances k start h h was was rs rs
-  advances_none h was rs legal = record { longer = prefix_itself h; legal = legal; keepings = refl; built = λ x b. b }
+  advances_none h was rs legal = record { longer = prefix_itself h; legal = legal; keepings = refl; built = λ x b. b; adds = λ since a. a }
 
   pub advances_both : (h m g : History k.service) (was mid later : ℕ → k.marking.Marked) (old between new : List Record)
       → Advances k start h m was mid old between → Advances k start m g mid later between new → Advances k start h g was later old new
@@ -152,6 +152,7 @@ module _ (k : KeptService) (start : World k.service) where
     legal = more.legal;
     keepings = more.keepings ∙ first.keepings;
     built = λ x b. more.built x (first.built x b);
+    adds = λ since a. more.adds since (first.adds since a);
   }
 
   -- ---- a drawn cut
@@ -166,6 +167,7 @@ module _ (k : KeptService) (start : World k.service) where
         let there = cuts_stay_said k.marking start h step.mid (put_all rs x) was legal step.others b in
         said_by _ g was later _ _ (sym step.added) (sym same) refl
         (said_at_register k.marking start step.mid step.before was (DrawnCut number c) (put_all rs x) refl there);
+    adds = λ since a. subst (λ (w : ℕ → k.marking.Marked). AddCuts k start since g w rs) (sym same) (then_drawn h g was number c rs a cut);
   }
 
   -- ---- a lane's cut
@@ -185,6 +187,7 @@ module _ (k : KeptService) (start : World k.service) where
             said_by _ g (changed_at l cut.now was) later _ _ (sym step.added) (sym cut.later_is) (with_added old new cut.added x cut.appended)
             (said_with_lane k.marking start step.mid step.before was l number c cut.now (put_all old x) (put_all cut.added (put_all old x))
             cut.still cut.objects_are (λ below. cut.writes.own _ (there.says l below)) (cut.writes.others _) (cut.writes.catalogue _) there);
+        adds = λ since a. then_lane h g was later l number c true old new a taken;
       }
   takes_advance h g was later l number c false old new legal taken =
       let step = taken.step in
@@ -197,6 +200,7 @@ module _ (k : KeptService) (start : World k.service) where
             let there = cuts_stay_said k.marking start h step.mid (put_all old x) was legal step.others b in
             said_by _ g was later _ _ (sym step.added) (sym cut.later_is) (sym (ap (λ (rs : List Record). put_all rs x) cut.appended))
             (said_with_short k.marking start step.mid step.before was l number c (put_all old x) there);
+        adds = λ since a. then_lane h g was later l number c false old new a taken;
       }
 
   -- ---- each lane's cut
@@ -283,6 +287,7 @@ module _ (k : KeptService) (start : World k.service) where
             (with_added old new added x taken.cut.1)
             (said_with_register k.marking start step.mid step.before was (put_all old x) (put_all added (put_all old x)) (writes.lanes _)
             (writes.own _ there.catalogue) there);
+        adds = λ since a. subst (λ (w : ℕ → k.marking.Marked). AddCuts k start since g w new) (sym same) (then_register h g was p true old new a taken);
       }
   registers_advance h g was later p false old new legal same taken =
       let step = taken.step in
@@ -294,6 +299,7 @@ module _ (k : KeptService) (start : World k.service) where
             let there = cuts_stay_said k.marking start h step.mid (put_all old x) was legal step.others b in
             said_by _ g was later _ _ (sym step.added) (sym same) (sym (ap (λ (rs : List Record). put_all rs x) taken.cut))
             (said_at_register k.marking start step.mid step.before was (RegisterCut p false) (put_all old x) refl there);
+        adds = λ since a. subst (λ (w : ℕ → k.marking.Marked). AddCuts k start since g w new) (sym same) (then_register h g was p false old new a taken);
       }
 
   module _ (h g : History k.service) (p : ℕ) (old new : List Record) where

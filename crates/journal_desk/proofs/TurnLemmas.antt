@@ -28,6 +28,7 @@ use Rattle.journal_desk.specs.Keepings.{Continues}
 use Rattle.journal_desk.specs.declared.note.Note.{Ghosts as Notes}
 use Rattle.journal_desk.proofs.ImageLemmas.{as_far, image_kept, longer_image}
 use Rattle.journal_desk.proofs.ContinueLemmas.{continues_by}
+use Rattle.journal_desk.proofs.OwedLemmas.{owes_cut, owes_on}
 use Rattle.journal_desk.proofs.DeskLemmas.{grown_desk}
 use Rattle.journal_desk.proofs.StepLemmas.{advances_both, draws_advance, draws_it, draws_register, drawn_cut_before, drawn_earlier, drawn_last}
 use Rattle.journal_desk.proofs.StepLemmas.{not_both, places_at, register_before, register_in, register_last, register_now, register_same}
@@ -87,7 +88,8 @@ module _ {D N : Type 0} {met : Ghosts D} (notes : NoteOf N) (j : Journal D met) 
       (λ x b. cuts_stay_said notes.kept.marking (notes.start before) (notes.history before) (notes.history after) _ (notes.was before) inv.legal more.others b)
       (cuts_longer notes.kept.service (contents notes.kept) (notes.start before) (notes.history before) (notes.history after) here more.others.longer cut inv.cut_cuts)
       (λ number e whole. inv.last_lanes number e (whole_before notes.kept.service (notes.history before) (notes.history after) number e more.others whole))
-      (inv.last_register ∙ sym (register_before notes.kept.service (notes.history before) (notes.history after) more.others)) inv.far (inl refl))
+      (inv.last_register ∙ sym (register_before notes.kept.service (notes.history before) (notes.history after) more.others)) inv.far
+      (owes_on notes.kept (notes.start before) (notes.history before) (notes.history after) (notes.was before) (pending_of j) building kept more.others) (inl refl))
 
   module _ (idle : pending_of j ≡ None) where
     -- the callers' side advanced, and the cuts may reach farther
@@ -100,7 +102,8 @@ module _ {D N : Type 0} {met : Ghosts D} (notes : NoteOf N) (j : Journal D met) 
         subst (λ (x : World notes.kept.service × History notes.kept.service × (ℕ → notes.kept.marking.Marked)). IsDesk notes.kept x.0 x.1 x.2 j built now kept)
         (λ i. (sym start i, sym same i, sym alike i))
         (grown_desk notes.kept (notes.start before) (notes.history before) g (notes.was before) later adv.legal adv.longer j building built cut now kept inv
-        (subst (AllByRecursion (λ i. IsAsFar i.own kept)) (sym adv.keepings) inv.keepings) adv.built cuts lanes register far (inr idle))
+        (subst (AllByRecursion (λ i. IsAsFar i.own kept)) (sym adv.keepings) inv.keepings) adv.built cuts lanes register far
+        (owes_cut notes.kept (notes.start before) (notes.history before) g (notes.was before) later (pending_of j) building built kept idle adv) (inr idle))
 
     -- ---- the lanes' cuts
 

@@ -4,9 +4,10 @@
 --     DrawsCut ..          a cut was drawn at the register
 --     TakesCut ..          a lane was cut in its turn
 --     TakesRegisterCut ..  the register was cut
+--     AddCuts ..           from a history to a longer one, just these records were added by cuts
 --     Advances ..          from a history to a longer one, and what is building still says all cuts
 --     CutsEach ..          so after the lanes' cuts
-use Rattle.std.specs.Prelude.{◌≡◌, ◌≢◌, ◌⊎◌, ℕ, ◌<◌, Bool, true, false, List, ◌++◌}
+use Rattle.std.specs.Prelude.{◌≡◌, ◌≢◌, ◌⊎◌, ℕ, ◌<◌, Bool, true, false, List, [], ◌++◌}
 use Rattle.std.specs.List.{AllByRecursion}
 use Rattle.flush_journal.specs.Records.{Held, Record, put_all}
 use Rattle.lane_histories.specs.Services.{Service, World}
@@ -95,12 +96,28 @@ pub record TakesRegisterCut (k : KeptService) (start : World k.service) (h g : H
 
 -- ---- any of these
 
+-- Cuts of lanes and of the register added these records, in their order, and between them others went on and cuts were drawn; then the lanes
+-- were so at their last cuts.
+pub data AddCuts (k : KeptService) (start : World k.service) (since : History k.service) : History k.service → (ℕ → k.marking.Marked)
+    → List Record → Type 0 where
+  no_cut : (was : ℕ → k.marking.Marked) → AddCuts k start since since was []
+  then_others : (h now : History k.service) (was : ℕ → k.marking.Marked) (rs : List Record) → AddCuts k start since h was rs → GoesOn h now
+      → AddCuts k start since now was rs
+  then_drawn : (h now : History k.service) (was : ℕ → k.marking.Marked) (number c : ℕ) (rs : List Record) → AddCuts k start since h was rs
+      → DrawsCut k.service start h now number c → AddCuts k start since now was rs
+  then_lane : (h now : History k.service) (before was : ℕ → k.marking.Marked) (l number c : ℕ) (found : Bool) (old rs : List Record)
+      → AddCuts k start since h before old → TakesCut k start h now before was l number c found old rs → AddCuts k start since now was rs
+  then_register : (h now : History k.service) (was : ℕ → k.marking.Marked) (p : ℕ) (found : Bool) (old rs : List Record)
+      → AddCuts k start since h was old → TakesRegisterCut k start h now p found old rs → AddCuts k start since now was rs
+
 pub record Advances (k : KeptService) (start : World k.service) (h g : History k.service) (was later : ℕ → k.marking.Marked)
     (old new : List Record) : Type 0 where
   pub longer : IsPrefix h g
   pub legal : IsLegal k.service start g
   pub keepings : g.keepings ≡ h.keepings
   pub built : (x : Held) → SaysCuts k.marking start h (put_all old x) was → SaysCuts k.marking start g (put_all new x) later
+  -- and only cuts added to it
+  pub adds : (since : History k.service) → AddCuts k start since h was old → AddCuts k start since g later new
 
 -- the first lanes were cut, and each found memory if `whole`
 pub record CutsEach (k : KeptService) (start : World k.service) (h g : History k.service) (was later : ℕ → k.marking.Marked)

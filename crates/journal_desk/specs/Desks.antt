@@ -3,7 +3,8 @@
 --     HoldsAsFar k start h own image    with numbers that are at least these
 --     HoldSince ..                      so does whatever a crash since a moment leaves
 --     IsFileOf ..       what the disk holds, what is pending and what is building, as contents
---     IsDesk ..         the numbers are those of the note's cuts; and where the disk is honest, what it holds is kept from the note's lists
+--     IsDesk ..         the numbers are those of the note's cuts; what is pending or building is what cuts added since those that are kept; and
+--                       where the disk is honest, what it holds is kept from the note's lists
 --     AreAnswered ..    and since their moments so was what was answered
 --     IsSoundDesk ..    all of it
 --     Opens ..          a journal before any request
@@ -12,7 +13,7 @@ use Rattle.std.specs.List.{AllByRecursion}
 use Rattle.edge_traits.specs.declared.disk.Disk.{Ghosts}
 use Rattle.flush_journal.specs.Records.{Held, Record, put_all}
 use Rattle.flush_journal.specs.Files.{Content, held}
-use Rattle.flush_journal.specs.Standing.{IsOwed, IsSettled, disk_of}
+use Rattle.flush_journal.specs.Standing.{IsOwed, IsSettled, disk_of, pending_of}
 use Rattle.flush_journal.specs.declared.journal.Journal.{Journal}
 use Rattle.lane_histories.specs.Services.{Service, World}
 use Rattle.lane_histories.specs.Histories.{History, IsIn}
@@ -25,6 +26,7 @@ use Rattle.lane_histories.specs.KeptContents.{IsAsFar, TellsKept}
 use Rattle.lane_histories.specs.Desks.{Desk, IsKeptDesk}
 use Rattle.lane_histories.specs.Since.{SaysAll, SaysCuts}
 use Rattle.journal_desk.specs.KeptServices.{KeptService, contents}
+use Rattle.journal_desk.specs.Owed.{OwesCuts}
 
 -- ---- images
 
@@ -74,6 +76,7 @@ pub record IsDesk {D : Type 0} {met : Ghosts D} (k : KeptService) (start : World
   pub far : IsAsFar kept cut
   -- of each keeping in the note
   pub keepings : AllByRecursion (λ i. IsAsFar i.own kept) h.keepings
+  pub owes : OwesCuts k start h was (pending_of j) building kept
   pub on_disk : met.honest → IsOnDisk k start h was j building cut kept
 
 -- what was kept, since the disk was so; and for each keeping in the note that was answered Ok, what it kept, since its moment

@@ -94,13 +94,14 @@ answer_of (Ok x) = Kept
 answer_of (Err why) = Refused
 
 module _ {D N : Type 0} (met : Ghosts D) where
-  -- by a fault only where the disk's count rose, and for want of room only where what is pending then doesn't fit
+  -- By a fault only where the disk's count rose, for want of room only where what is pending then doesn't fit, and for want of memory only
+  -- where nothing is pending then.
   abbrev pub MayRefuseTurn : Standing D N → Standing D N → Why → Type 0
   MayRefuseTurn old new DiskFault = Rose (met.faults old.disk) (met.faults new.disk)
   MayRefuseTurn old new (JournalFull end need room) =
       (rs : List Record) × (new.pending ≡ Some rs) × (end ≡ new.end) × (need ≡ need_of rs) × (room ≡ met.most new.disk)
       × (room < end + need)
-  MayRefuseTurn old new NoMemory = Unit {0}
+  MayRefuseTurn old new NoMemory = new.pending ≡ None
   MayRefuseTurn old new (NotAJournal at) = ⊥
   MayRefuseTurn old new Exists = ⊥
 

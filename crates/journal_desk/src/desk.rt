@@ -20,6 +20,7 @@ ghost use Rattle.journal_desk.specs.Keepings.{AreItsKeepings, Continues, HasKept
 ghost use Rattle.journal_desk.specs.Keepings.{IsFullWhere, IsUpTo, MayRefuseTurn, SameJournal};
 ghost use Rattle.journal_desk.specs.Keepings.{SettlesFirst};
 ghost use Rattle.journal_desk.specs.Cuts.{CutsEach, Resumes};
+ghost use Rattle.journal_desk.specs.Owed.{OwesCuts};
 ghost use Rattle.journal_desk.specs.Notes.{at_lanes};
 
 use crate::note::Note;
@@ -164,6 +165,17 @@ impl<D: Disk, N: Note> Desk<D, N> {
         let _ = &self.journal;
     }
 
+    /// What is pending, or was cut and not appended yet, is just what cuts of lanes and of the
+    /// catalogue added since the cuts that are kept, in their order. While a batch is pending,
+    /// nothing is cut.
+    pub fn owed_is_of_cuts(&self)
+        ensures owed { OwesCuts (N.kept self.now.lanes) (N.start self.now.lanes self.now.note)
+            (N.history self.now.lanes self.now.note) (N.was self.now.lanes self.now.note)
+            self.now.pending self.now.building self.now.kept }
+    {
+        let _ = &self.journal;
+    }
+
     /// How far what the disk holds reaches.
     pub fn kept(&self) -> Reach
         ensures { result ≡ self.now.kept }
@@ -210,6 +222,7 @@ impl<D: Disk, N: Note> Desk<D, N> {
         ensures written { (rs : List Record) → self.old.pending ≡ Some rs
             → OnOk result ((self.new.kept ≡ self.old.cut) × (self.new.at ≡ self.new.disk)) }
         ensures idle { self.old.pending ≡ None → self.new ≡ self.old }
+        ensures nothing { self.old.pending ≡ None → result ≡ Ok tt }
         ensures err { OnErr result ((self.new.pending ≡ self.old.pending)
             × (self.new.kept ≡ self.old.kept) × (self.new.at ≡ self.old.at)) }
         ensures same { (self.new.building ≡ self.old.building) × (self.new.cut ≡ self.old.cut)
@@ -323,8 +336,8 @@ impl<D: Disk, N: Note> Desk<D, N> {
     /// # Errors
     ///
     /// `DiskFault` only where the disk had a fault, and `JournalFull` exactly where the batch that
-    /// is pending then doesn't fit behind the journal's end; or `NoMemory`. After each, what was
-    /// cut is pending or stays to be appended.
+    /// is pending then doesn't fit behind the journal's end; or `NoMemory`, where nothing is pending
+    /// then. After each, what was cut is pending or stays to be appended.
     pub fn flush<T: Turns<N>>(&mut self, turns: &mut T) -> Result<u64, Why>
         requires here { IsUpTo N.Note self.old (T.lanes turns.old) (T.seen turns.old) }
         requires lanes { T.next_lane turns.old ≡ (N.kept (T.lanes turns.old)).service.lanes }

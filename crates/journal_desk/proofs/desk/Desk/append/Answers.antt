@@ -9,6 +9,7 @@ use Rattle.journal_desk.proofs.ImageLemmas.{image_kept}
 use Rattle.journal_desk.specs.Notes.{at_lanes}
 use Rattle.journal_desk.proofs.ContinueLemmas.{continues_from, continues_here, reached_now}
 use Rattle.journal_desk.proofs.DeskLemmas.{append_err, append_leaves, append_ok}
+use Rattle.journal_desk.proofs.OwedLemmas.{all_left, none_left}
 use Rattle.journal_desk.proofs.desk.Desk.append.Goals as goal
 
 pub invariant_of-self : goal.invariant_of-self
@@ -19,6 +20,7 @@ invariant_of-self g c =
     (sym c.self.view_is) c.requires.register in
     rw c.in_err-append_all.ensures.none (record {
       desk = append_err _ _ _ _ d.journal c.append_all.new.journal (records d.building) d.cut d.kept c.self.invariant.desk idle register _
+          (all_left d.journal c.append_all.new.journal _ (records d.building) c.in_err-append_all.ensures.tries c.in_err-append_all.ensures.empty)
           c.in_err-append_all.ensures.writes;
       answered = answered_call _ _ g.D.Disk _ c.self.invariant.desk.legal (disk_of d.journal) (disk_of c.append_all.new.journal) (disk_of d.at.value) d.kept
           c.self.invariant.desk.keepings
@@ -43,7 +45,9 @@ invariant_of-self-2 g c =
     let idle = ap (λ (v : Standing g.row.D.Denot g.row.N.Denot). v.pending) c.self.view_is ∙ c.requires.idle in
     let register = subst (λ (v : Standing g.row.D.Denot g.row.N.Denot). last_cut None (g.N.Note.history v.lanes v.note).register ≡ Some v.cut.p)
     (sym c.self.view_is) c.requires.register in
-    let desk = append_ok _ _ _ _ d.journal c.append_all.new.journal (records d.building) d.cut d.kept c.self.invariant.desk idle register c.in_ok-append_all.ensures.writes in
+    let desk = append_ok _ _ _ _ d.journal c.append_all.new.journal (records d.building) d.cut d.kept c.self.invariant.desk idle register
+    (none_left d.journal c.append_all.new.journal (records d.building) c.in_ok-append_all.ensures.tries c.append_all.ensures.untouched idle)
+    c.in_ok-append_all.ensures.writes in
     rw (c.in_ok-append_all.ensures.none, c.of.ensures) (record {
       desk = desk;
       answered = answered_ok _ _ g.D.Disk _ c.self.invariant.desk.legal (disk_of d.journal) (disk_of c.append_all.new.journal) (disk_of d.at.value) d.kept

@@ -17,7 +17,8 @@ invariant_of-self g c =
     let d = c.self.inside in
     let p = is_pending d.journal (c.pending.ensures.0 c.if-pending.true) in
     record {
-      desk = settle_err _ _ _ _ d.journal c.settle.new.self (records d.building) d.cut d.kept c.self.invariant.desk p.0 p.1 _ c.in_err-settle.ensures.writes;
+      desk = settle_err _ _ _ _ d.journal c.settle.new.self (records d.building) d.cut d.kept c.self.invariant.desk p.0 p.1 _
+          (c.in_err-settle.ensures.tries p.0 p.1).pending c.in_err-settle.ensures.writes;
       answered = answered_call _ _ g.D.Disk _ c.self.invariant.desk.legal (disk_of d.journal) (disk_of c.settle.new.self) (disk_of d.at.value) d.kept
           c.self.invariant.desk.keepings
           (settle_leaves _ _ _ _ d.journal c.settle.new.self (records d.building) d.cut d.kept c.self.invariant.desk p.0 p.1 _ c.settle.ensures.writes)
@@ -64,7 +65,8 @@ pub invariant_of-self-then-pending : goal.invariant_of-self-then-pending
 invariant_of-self-then-pending g c =
     let d = c.self.inside in
     let p = is_pending d.journal (c.pending.ensures.0 c.if-pending.true) in
-    let desk = settle_ok _ _ _ _ d.journal c.settle.new.self (records d.building) d.cut d.kept c.self.invariant.desk p.0 p.1 c.in_ok-settle.ensures.writes in
+    let desk = settle_ok _ _ _ _ d.journal c.settle.new.self (records d.building) d.cut d.kept c.self.invariant.desk p.0 p.1
+    (c.in_ok-settle.ensures.tries p.0 p.1).done c.in_ok-settle.ensures.writes in
     rw c.of.ensures (record {
       desk = desk;
       answered = answered_ok _ _ g.D.Disk _ c.self.invariant.desk.legal (disk_of d.journal) (disk_of c.settle.new.self) (disk_of d.at.value) d.kept
