@@ -9,6 +9,7 @@
 --     CutsEach ..          so after the lanes' cuts
 use Rattle.std.specs.Prelude.{◌≡◌, ◌≢◌, ◌⊎◌, ℕ, ◌<◌, Bool, true, false, List, [], ◌++◌}
 use Rattle.std.specs.List.{AllByRecursion}
+use Rattle.flush_journal.specs.Cuts.Cuts.{AreOnce}
 use Rattle.flush_journal.specs.Records.{Held, Record, put_all}
 use Rattle.lane_histories.specs.Services.{Service, World}
 use Rattle.lane_histories.specs.Histories.{History, IsIn, changed_at, drawn, objects_after, places, register_after, register_at}
@@ -44,14 +45,17 @@ pub record DrawsCut (s : Service) (start : World s) (h g : History s) (number c 
   pub number_is : number ≡ drawn step.mid.register
   pub c_is : c ≡ places step.mid.register
 
--- the records of what changed in a lane: with them what said it as it was says it as it is, and each other lane and the catalogue stay
+-- the records of what changed in a lane, one a key: with them what said it as it was says it as it is, and each other lane and the catalogue
+-- stay
 pub record WritesLane (k : KeptService) (l : ℕ) (before now : k.marking.Marked) (added : List Record) : Type 0 where
+  pub once : AreOnce added
   pub own : (x : Held) → k.marking.Says x l before → k.marking.Says (put_all added x) l now
   pub others : (x : Held) (m : ℕ) → m ≢ l → KeepsSaid k.marking m x (put_all added x)
   pub catalogue : (x : Held) → KeepsCatalogue (contents k) x (put_all added x)
 
--- the records of what changed of the catalogue: with them what told it as it was tells it as it is, and each lane stays
+-- the records of what changed of the catalogue, one a key: with them what told it as it was tells it as it is, and each lane stays
 pub record WritesCatalogue (k : KeptService) (before now : k.service.Catalogue) (added : List Record) : Type 0 where
+  pub once : AreOnce added
   pub own : (x : Held) → k.TellsCatalogue x before → k.TellsCatalogue (put_all added x) now
   pub lanes : (x : Held) (l : ℕ) → KeepsSaid k.marking l x (put_all added x)
 

@@ -4,6 +4,7 @@
 --     MarkedCutsWrite k     a lane that marks what changed may be cut so
 use Rattle.std.specs.Prelude.{◌≢◌, ℕ, Bool, true, List, ◌++◌, OnOk, Result}
 use Rattle.edge_traits.specs.declared.disk.Disk.{Ghosts}
+use Rattle.flush_journal.specs.Cuts.Cuts.{AreOnce}
 use Rattle.flush_journal.specs.Records.{Held, Record, put_all}
 use Rattle.flush_journal.specs.declared.why.Why.{Why}
 use Rattle.lane_histories.specs.Services.{World}
@@ -42,11 +43,12 @@ CutsCanCome k =
     (start : World k.service) (h : History k.service) (was : ℕ → k.marking.Marked) → IsLegal k.service start h
     → SecondsFollow k.service h.lane → CutCanCome k start h was
 
--- from its marks alone: a lane that is since its last cut, and whose cut writes what is marked and leaves all else, is cut as `Turns` says
+-- from its marks alone: a lane that is since its last cut, and whose cut writes what is marked, one record a key, and leaves all else, is cut
+-- as `Turns` says
 abbrev pub MarkedCutsWrite : KeptService → Type 0
 MarkedCutsWrite k =
     (l : ℕ) (was : ℕ → k.marking.Marked) (old now : k.marking.Marked) (first added : List Record) → IsSince k.marking l (was l) old
     → ((x : Held) → CutsMarked k.marking l old now x (put_all added x))
     → ((x : Held) (m : ℕ) → m ≢ l → KeepsSaid k.marking m x (put_all added x))
-    → ((x : Held) → KeepsCatalogue (contents k) x (put_all added x))
+    → ((x : Held) → KeepsCatalogue (contents k) x (put_all added x)) → AreOnce added
     → CutsInLane k true l (k.marking.objects old) was (changed_at l now was) first (first ++ added)

@@ -1,9 +1,10 @@
 //! The desk itself.
-ghost use Rattle.std.specs.Prelude.{◌≡◌, ◌≢◌, ◌≤◌, ℕ, List, [], None, Some, Ok};
+ghost use Rattle.std.specs.Prelude.{◌≡◌, ◌≢◌, ◌+◌, ◌≤◌, ℕ, List, [], None, Some, Ok};
 ghost use Rattle.std.specs.Prelude.{OnOk, OnErr, IfOk, IfErr, IsErr};
 ghost use Rattle.std.specs.List.{AllByRecursion};
 ghost use Rattle.flush_journal.specs.Batches.{records};
 ghost use Rattle.flush_journal.specs.Files.{Content};
+ghost use Rattle.flush_journal.specs.Frames.{frame_size};
 ghost use Rattle.flush_journal.specs.Records.{Record};
 ghost use Rattle.flush_journal.specs.Standing.{IsSettled, disk_of, pending_of};
 ghost use Rattle.flush_journal.specs.Tries.{Tries, Writes};
@@ -209,8 +210,8 @@ impl<D: Disk, N: Note> Desk<D, N> {
         self.note = note;
     }
 
-    /// Writes the batch that is pending, where there is one. On a disk that has stopped it is
-    /// refused.
+    /// Writes the batch that is pending, where there is one: just that, behind the journal's end. On
+    /// a disk that has stopped it is refused.
     ///
     /// # Errors
     ///
@@ -225,6 +226,9 @@ impl<D: Disk, N: Note> Desk<D, N> {
         ensures nothing { self.old.pending ≡ None → result ≡ Ok tt }
         ensures err { OnErr result ((self.new.pending ≡ self.old.pending)
             × (self.new.kept ≡ self.old.kept) × (self.new.at ≡ self.old.at)) }
+        ensures grown { (rs : List Record) → self.old.pending ≡ Some rs
+            → OnOk result (self.new.end ≡ self.old.end + frame_size rs) }
+        ensures stays { OnErr result (self.new.end ≡ self.old.end) }
         ensures same { (self.new.building ≡ self.old.building) × (self.new.cut ≡ self.old.cut)
             × (self.new.note ≡ self.old.note) }
         ensures cause { IfErr result (MayRefuseTurn D.Disk self.old self.new) }
@@ -300,8 +304,9 @@ impl<D: Disk, N: Note> Desk<D, N> {
         Ok(())
     }
 
-    /// Appends what was cut, where the last of the cuts is one of the register that found memory.
-    /// On a disk that has stopped it is refused, unless nothing was cut.
+    /// Appends what was cut, as one batch behind the journal's end, where the last of the cuts is one
+    /// of the register that found memory. On a disk that has stopped it is refused, unless nothing
+    /// was cut.
     ///
     /// # Errors
     ///
@@ -316,6 +321,10 @@ impl<D: Disk, N: Note> Desk<D, N> {
             × (self.new.at ≡ self.new.disk)) }
         ensures err { OnErr result ((self.new.pending ≡ Some self.old.building)
             × (self.new.kept ≡ self.old.kept) × (self.new.at ≡ self.old.at)) }
+        ensures grown { self.old.building ≢ []
+            → OnOk result (self.new.end ≡ self.old.end + frame_size self.old.building) }
+        ensures stays { OnErr result (self.new.end ≡ self.old.end) }
+        ensures nothing { self.old.building ≡ [] → self.new.end ≡ self.old.end }
         ensures same { (self.new.building ≡ []) × (self.new.cut ≡ self.old.cut)
             × (self.new.note ≡ self.old.note) }
         ensures cause { IfErr result (MayRefuseTurn D.Disk self.old self.new) }

@@ -137,6 +137,7 @@ module _ (lanes : ℕ) where
           added = added;
           appended = (cuts empty).cut.appended;
           writes = record {
+            once = (cuts empty).cut.once;
             own = λ x says. subst (λ (rs : List Record). SaysOwner lanes l (put_all rs x) new) (same x)
                 (same_owner l old new x (put_all (cuts x).cut.added x) (cuts x).same (since x says) (cuts x).cut.stands);
             others = λ x m far. subst (λ (rs : List Record). KeepsSaid (array_marking lanes) m x (put_all rs x)) (same x)
@@ -200,6 +201,7 @@ module _ (lanes : ℕ) where
         added,
         (cuts empty).cut.appended,
         record {
+          once = (cuts empty).cut.once;
           own = λ x told. subst (λ (rs : List Record). TellsRegister (put_all rs x) (kept_part old)) (same x) (told_then others old new x first last (cuts x) k since told);
           lanes = λ x m. subst (λ (rs : List Record). KeepsSaid (array_marking lanes) m x (put_all rs x)) (same x)
               (each_owner_stays others old new x first last (cuts x) m);
