@@ -56,7 +56,7 @@ use Rattle.service_histories.specs.KeptArrays.{array_kept}
 use Rattle.service_histories.specs.Tellings.{opening}
 use Rattle.hall.specs.Answers.{ArrayLists, ArrayStart, ArrayView}
 use Rattle.hall.specs.ArrayMachines.{IsOpened, desk_machines, lanes_in, machines}
-use Rattle.hall.specs.DeskTurns.{AreOfCuts, HasDone, HasFlushed, HasFlushedPast, HasGoneOn, HasKeptAll, HasKeptTo, HasNoted, HasShared, IsBehind, IsInTurn, IsTurnOf, note_seen}
+use Rattle.hall.specs.DeskTurns.{AreOfCuts, HasDone, HasFlushed, HasFlushedPast, HasGoneOn, HasKeptAll, HasKeptTo, HasNoted, HasShared, IsBehind, IsInTurn, IsTurnOf, OwesItsCuts, note_seen}
 use Rattle.hall.specs.JournalDesks.{AllFollow, AreTold, Follows, IsJournalSince, Left, LiesBetween, answer_by, item_of, keeping_by, left_after, left_by, left_first}
 use Rattle.hall.specs.JournalDesks.{left_of, moment_by}
 use Rattle.hall.specs.Notes.{AreOfLanes, hall_notes, listed, of_lanes, owner_at, seen_in, world_known}
@@ -219,6 +219,12 @@ module _ {D J : Type 0} (met : Disks D) {ghosts : Ghosts J (Snapshot (Journal D 
     pub left_here : left_of st ≡ left_after (left_first start.desk.value) h.keepings
     unfolding desk_machines
     left_here = (reads.told_out start.desk h.keepings is.told).left
+
+    -- and no turn counted more faults than its disk had
+    pub counted_here : AllByRecursion (λ (k : Keeping). k.faults_after ≤ met.faults st.disk) h.keepings
+    unfolding desk_machines
+    counted_here = all_weaker _ _ h.keepings (λ (k : Keeping) (lies : LiesBetween met (disk_of start.desk.value) st.disk k). lies.faults_after)
+        (reads.told_out start.desk h.keepings is.told).between
 
     kept_here : (k : Keeping) → IsIn h.keepings k → k.answer ≡ Kept
         → IsIn (seen_in st.note).keepings k ⊎ ((k.own ≡ st.kept) × (k.moment ≡ met.moment st.at))
@@ -407,8 +413,8 @@ module _ {D J : Type 0} (met : Disks D) {ghosts : Ghosts J (Snapshot (Journal D 
       → (met.honest → KeepsSince met (hall_notes st'.lanes) st' (met.moment st'.at) st'.kept) → (met.honest → met.moment st'.at ≤ met.moment st'.disk)
       → (met.honest → st'.pending ≡ None → (image : List ℕ) → met.images st'.disk image
       → HoldsKept (array_kept st'.lanes) ((hall_notes st'.lanes).start st'.note) (lists met (hall_notes st'.lanes) st') st'.kept image)
-      → AreOfCuts (hall_notes st'.lanes) st' → HasGoneOn met start before st'
-  gone_on same images reached by_now settled cuts =
+      → AreOfCuts (hall_notes st'.lanes) st' → OwesItsCuts (hall_notes st'.lanes) st' → HasGoneOn met start before st'
+  gone_on same images reached by_now settled cuts owed =
       let since = (since_here met start old lanes st reads v.seen is).1 in record {
         first = subst (SameDisk met (disk_of start.desk.value)) (sym same) since.disk;
         went = subst (λ (k : ℕ). Continues met (hall_notes k) before st') since.lanes continues;
@@ -419,6 +425,7 @@ module _ {D J : Type 0} (met : Disks D) {ghosts : Ghosts J (Snapshot (Journal D 
         settled = subst (λ (k : ℕ). met.honest → st'.pending ≡ None → (image : List ℕ) → met.images st'.disk image
             → HoldsKept (array_kept k) ((hall_notes k).start st'.note) (lists met (hall_notes k) st') st'.kept image) many settled;
         cuts = subst (λ (k : ℕ). AreOfCuts (hall_notes k) st') many cuts;
+        owed = subst (λ (k : ℕ). OwesItsCuts (hall_notes k) st') many owed;
       }
 
   before_fits : IsAsFar st.kept st'.kept
@@ -550,13 +557,14 @@ at_its_end : {D N : Type 0} (met : Disks D) (notes : NoteOf N) (reached : Reach 
 at_its_end met notes reached place before after (Ok n) done = ap met.moment done.all.at
 at_its_end met notes reached place before after (Err why) done = refl
 
--- it was what the last turn left, none before reaches farther, and the note has all that there was
+-- it was what the last turn left, none before reaches farther or counted more faults, and the note has all that there was
 abbrev pub IsFound : {D : Type 0} {met : Disks D} → ArrayStart (Snapshot (Journal D met))
     → (before after : Standing D (HallNote (Snapshot (Journal D met)))) → ArrayLists → Type 0
-IsFound start before after h =
+IsFound {met} start before after h =
     AllByRecursion (λ (i : Keeping). IsAsFar i.own before.kept) h.keepings
     × (left_of before ≡ left_after (left_first start.desk.value) h.keepings)
     × GrowsFrom (of_lanes (lanes_in start) (seen_in after.note)) h
+    × AllByRecursion (λ (i : Keeping). i.faults_after ≤ met.faults before.disk) h.keepings
 
 -- what is kept from the lists of the note is kept from those that begin with them
 module _ {D : Type 0} (met : Disks D) (start : ArrayStart (Snapshot (Journal D met))) (d : Standing D (HallNote (Snapshot (Journal D met))))
@@ -619,6 +627,7 @@ module _ {D : Type 0} (met : Disks D) (start : ArrayStart (Snapshot (Journal D m
     after = after;
     turn = turn.0;
     far = turn.1.0;
+    counted = turn.1.3;
     found = turn.1.1;
     gone = gone;
     noted = noted_in after refl (keeping_of met before after result) turn.0 turn.1;

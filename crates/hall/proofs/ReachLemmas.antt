@@ -1,5 +1,5 @@
 -- No cut reaches past the places that were given.
-use Rattle.std.proofs.Common.{◌≡◌, ◌⊎◌, inl, inr, ℕ, suc, ◌+◌, ◌≤◌, [], ◌∷◌, arith}
+use Rattle.std.proofs.Common.{◌≡◌, inl, inr, ℕ, suc, ◌+◌, ◌≤◌, [], ◌∷◌, arith}
 use Rattle.lane_histories.specs.Cuts.{IsOfCuts}
 use Rattle.lane_histories.specs.Histories.{History, IsIn, RegisterList, places}
 use Rattle.lane_histories.specs.Legal.{IsLegal, IsLegalRegister}

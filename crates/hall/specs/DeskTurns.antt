@@ -4,6 +4,7 @@
 --     HasDonePast ..       of a flush that is asked for a place
 --     HasDone met work ..  of whichever was asked of it
 --     AreOfCuts notes d    a desk's numbers are those of cuts in its note's lists
+--     OwesItsCuts notes d  what a desk's next batch holds is what cuts added since those that are kept
 --     HasGoneOn ..         from what the desk was before a turn to what it is after it
 --     HasNoted ..          the lists that a desk noted in a turn
 --     IsTurnOf met work .. so of a whole turn
@@ -26,6 +27,7 @@ use Rattle.journal_desk.specs.Cuts.{Resumes}
 use Rattle.journal_desk.specs.Desks.{HoldSince, HoldsKept}
 use Rattle.journal_desk.specs.Keepings.{AreItsKeepings, Continues, HasKept as KeepsSince, IsAllKept, IsFullWhere, MayRefuseTurn, SettlesFirst, keeping_of, lists}
 use Rattle.journal_desk.specs.Notes.{NoteOf}
+use Rattle.journal_desk.specs.Owed.{OwesCuts}
 use Rattle.journal_desk.specs.Standing.{Standing}
 use Rattle.register.specs.declared.tickets.Turn.{Turn}
 use Rattle.lane_histories.specs.Cuts.{IsCutTo, IsOfCuts, register_cut}
@@ -99,9 +101,15 @@ pub record AreOfCuts {D N : Type 0} (notes : NoteOf N) (d : Standing D N) : Type
   pub kept : IsOfCuts notes.kept.service (notes.history d.note) d.kept
   pub far : IsAsFar d.kept d.cut
 
+-- what is pending, or else what was cut and not appended yet, is just what cuts of lanes and of the register added since the cuts that are
+-- kept, in their order
+abbrev pub OwesItsCuts : {D N : Type 0} → NoteOf N → Standing D N → Type 0
+OwesItsCuts notes d = OwesCuts notes.kept (notes.start d.note) (notes.history d.note) (notes.was d.note) d.pending d.building d.kept
+
 -- A hall's desk went on so: its disk from the one with which the hall began, and what was kept stays kept. Whatever a crash since then
 -- leaves is kept from the lists that it has noted, at least as far as it reaches; so is what one left since that was reached. Where nothing
--- is pending it is kept just as far. The numbers are those of cuts in these lists.
+-- is pending it is kept just as far. The numbers are those of cuts in these lists, and the batch that is pending, or is to be appended next,
+-- is what these cuts added since those that are kept.
 pub record HasGoneOn {D : Type 0} (met : Disks D) (start : ArrayStart (Snapshot (Journal D met)))
     (before after : Standing D (HallNote (Snapshot (Journal D met)))) : Type 0 where
   pub first : SameDisk met (disk_of start.desk.value) before.disk
@@ -114,6 +122,7 @@ pub record HasGoneOn {D : Type 0} (met : Disks D) (start : ArrayStart (Snapshot 
       → HoldsKept (array_kept (lanes_in start)) ((hall_notes (lanes_in start)).start after.note)
       (lists met (hall_notes (lanes_in start)) after) after.kept image
   pub cuts : AreOfCuts (hall_notes (lanes_in start)) after
+  pub owed : OwesItsCuts (hall_notes (lanes_in start)) after
 
 -- The lists of the desk's note have all that there was when the turn was taken, and those that the pass has seen since begin with them.
 -- So whatever a crash since the turn leaves is kept from these, at least as far as the desk reaches.
@@ -125,13 +134,15 @@ pub record HasNoted {D : Type 0} (met : Disks D) (start : ArrayStart (Snapshot (
       (history_of (array_service (lanes_in start)) seen) d.disk (met.moment d.disk) d.kept
 
 -- The desk went on from `before`, which is what the last keeping before it left, to `after`, and this is its keeping; no earlier one
--- reaches farther than `before`. The answer is the number reached, and at least the places that the pass had seen.
+-- reaches farther than `before`, or counted more faults than the disk had by then. The answer is the number reached, and at least the places
+-- that the pass had seen.
 pub record HasKeptTo {D : Type 0} (met : Disks D) (reached : Reach → ℕ) (start : ArrayStart (Snapshot (Journal D met)))
     (result : Result ℕ Why) (v w : ArrayView (Snapshot (Journal D met))) : Type 0 where
   pub before : Standing D (HallNote (Snapshot (Journal D met)))
   pub after : Standing D (HallNote (Snapshot (Journal D met)))
   pub turn : HasKept (machines (lanes_in start)) start (keeping_of met before after result) [] v w
   pub far : AllByRecursion (λ k. IsAsFar k.own before.kept) turn.before.keepings
+  pub counted : AllByRecursion (λ k. k.faults_after ≤ met.faults before.disk) turn.before.keepings
   pub found : left_of before ≡ left_after (left_first start.desk.value) turn.before.keepings
   pub gone : HasGoneOn met start before after
   pub noted : HasNoted met start after turn.before turn.seen

@@ -153,6 +153,7 @@ impl<D: Disk + Drop> Hall<JournalDesk<D>> {
         noted.desk.images_are_kept();
         noted.desk.keepings_are_kept();
         noted.desk.desk.reach_is_of_cuts();
+        noted.desk.desk.owed_is_of_cuts();
         self.table.shared.exchange(seat, 1, Slot::AtDesk(noted));
         self.leave(seat, Queue::OfDesk);
         result

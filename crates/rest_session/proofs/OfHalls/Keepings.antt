@@ -44,6 +44,7 @@ module _ {D : Type 0} (met : Disks D) (start : ArrayStart (Snapshot (Journal D m
       now_is = ap (λ u. u.seen.keepings) h.turn.is ∙ h.turn.keepings;
       later = starts_on h.turn.before.keepings v.seen.keepings before h.turn.begins.keepings begins;
       refused = refl;
+      counted = h.counted;
       rose = h.cause;
     }
     refused_turn reached (Err (JournalFull end need room)) h = (
@@ -58,7 +59,14 @@ module _ {D : Type 0} (met : Disks D) (start : ArrayStart (Snapshot (Journal D m
         owed = h.cause.3 ∙ sym (ap owed_by h.cause.1);
       },
     )
-    refused_turn reached (Err NoMemory) h = tt
+    refused_turn reached (Err NoMemory) h = record {
+      others = h.turn.before.keepings;
+      last = keeping_of met {T = ℕ} h.before h.after (Err NoMemory);
+      now_is = ap (λ u. u.seen.keepings) h.turn.is ∙ h.turn.keepings;
+      later = starts_on h.turn.before.keepings v.seen.keepings before h.turn.begins.keepings begins;
+      refused = refl;
+      owed = ap owed_by h.cause;
+    }
     refused_turn reached (Err (NotAJournal at)) h = h.cause
     refused_turn reached (Err Exists) h = h.cause
 

@@ -4,6 +4,7 @@
 --     Asks s caller request close bytes t      one entry more, and its answer, once it is kept
 --     IsAskedOf s message bytes t              a message, its answer's bytes, and what is left
 use Rattle.std.specs.Prelude.{◌≡◌, ◌⊎◌, ℕ, ◌+◌, ◌<◌, ◌≤◌, List, [], ◌∷◌, ◌++◌, Bool, Some, None, Result, Ok, Err, IfErr}
+use Rattle.std.specs.List.{AllByRecursion}
 use Rattle.access_lists.specs.declared.people.Caller.{Caller}
 use Rattle.edge_traits.specs.Causes.{Rose}
 use Rattle.flush_journal.specs.declared.why.Why.{Why}
@@ -34,13 +35,14 @@ use Rattle.rest_session.specs.Halls.Accounts.{Account}
 abbrev pub IsKeptPast : (Reach → ℕ) → List Keeping → ℕ → Type 0
 IsKeptPast reached keepings place = (k : Keeping) × IsIn keepings k × (k.answer ≡ Kept) × (place < reached k.own)
 
--- the last keeping that the pass has seen was refused for a fault, which the disk counted in it
+-- the last keeping that the pass has seen was refused for a fault, which the disk counted in it and in none before
 pub record WasFaulty (before now : List Keeping) : Type 0 where
   pub others : List Keeping
   pub last : Keeping
   pub now_is : now ≡ others ++ last ∷ []
   pub later : StartsWith others before
   pub refused : last.answer ≡ Refused
+  pub counted : AllByRecursion (λ k. k.faults_after ≤ last.faults_before) others
   pub rose : Rose last.faults_before last.faults_after
 
 -- or for want of room, for a batch that is pending behind it
@@ -53,10 +55,19 @@ pub record WasFull (before now : List Keeping) (end need : ℕ) : Type 0 where
   pub end_is : end ≡ last.end
   pub owed : need ≡ last.owed
 
+-- or for want of memory, where no batch is pending behind it
+pub record WasShort (before now : List Keeping) : Type 0 where
+  pub others : List Keeping
+  pub last : Keeping
+  pub now_is : now ≡ others ++ last ∷ []
+  pub later : StartsWith others before
+  pub refused : last.answer ≡ Refused
+  pub owed : last.owed ≡ 0
+
 abbrev pub MayHaveRefused : List Keeping → List Keeping → Why → Type 0
 MayHaveRefused before now DiskFault = WasFaulty before now
 MayHaveRefused before now (JournalFull end need room) = (room < end + need) × WasFull before now end need
-MayHaveRefused before now NoMemory = Unit {0}
+MayHaveRefused before now NoMemory = WasShort before now
 MayHaveRefused before now (NotAJournal at) = ⊥
 MayHaveRefused before now Exists = ⊥
 

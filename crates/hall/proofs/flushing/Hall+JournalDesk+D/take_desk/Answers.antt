@@ -1,4 +1,4 @@
-use Rattle.std.proofs.Common.{ℕ, None, Result, refl, sym, ap, subst, ◌∙◌}
+use Rattle.std.proofs.Common.{ℕ, ◌≤◌, None, Result, refl, sym, ap, subst, ◌∙◌}
 use Rattle.std.specs.Prelude.{[], option_map}
 use Rattle.std.specs.List.{AllByRecursion}
 use Rattle.atomic_table.specs.Table.{rest}
@@ -15,7 +15,7 @@ use Rattle.hall.specs.DeskTurns.{HasDone, IsBehind, IsInTurn, note_seen}
 use Rattle.hall.specs.JournalDesks.{item_of, keeping_by, left_of}
 use Rattle.hall.specs.Notes.{hall_notes}
 use Rattle.hall.specs.declared.journal.DeskWork.{DeskWork}
-use Rattle.hall.proofs.DeskWorkLemmas.{IsFound, begun_taken, desk_behind, desk_taken, far_here, far_then, gone_on, in_turn_taken, kept_then, left_here, legal_taken, may_draw_desk, may_pass_desk, noted_all, noted_begins, owners_here, reads_at, since_here, turn_is}
+use Rattle.hall.proofs.DeskWorkLemmas.{IsFound, begun_taken, counted_here, desk_behind, desk_taken, far_here, far_then, gone_on, in_turn_taken, kept_then, left_here, legal_taken, may_draw_desk, may_pass_desk, noted_all, noted_begins, owners_here, reads_at, since_here, turn_is}
 use Rattle.hall.proofs.flushing.Hall+JournalDesk+D.take_desk.Goals as goal
 
 pub exchange-requires : goal.exchange-requires
@@ -173,6 +173,9 @@ returns-clause-turn g c =
       ap (λ (d : Standing _ _). left_of d) w.ensures.before ∙ left_here g.D.Disk start noted noted.desk.lanes noted.desk.desk reads _ is,
       noted_all g.D.Disk start laws noted (record noted { desk = end }) noted.desk.lanes refl refl noted.desk.desk before end.desk reads reads'
           c.wait.new.seat.me.0 w.new.seat.me.0 is turn w.ensures.resumed w.ensures.continues w.ensures.up_to,
+      subst (λ (n : ℕ). AllByRecursion (λ (i : Keeping). i.faults_after ≤ n) c.wait.new.seat.me.0.seen.keepings)
+          (sym (ap (λ (d : Standing _ _). g.D.Disk.faults d.disk) w.ensures.before))
+          (counted_here g.D.Disk start noted noted.desk.lanes noted.desk.desk reads _ is),
     ) in
     let kept = kept_then _ start laws v pass idle _ _ _ c.exchange-2.new.seat.me drew t back (IsFound start before end.desk) found (keeping_by g.D.Disk before end.desk did) c.leave.new.seat.me.0 passed in
     let noted_then = subst (λ y. AreAlike (hall_notes noted.desk.desk.lanes) before.note (note_seen y)) out w.ensures.noted in
@@ -186,7 +189,8 @@ returns-clause-turn g c =
       register = c.reach_is_of_cuts.ensures.register;
       kept = c.reach_is_of_cuts.ensures.kept;
       far = c.reach_is_of_cuts.ensures.far;
-    }) in
+    })
+    c.owed_is_of_cuts.ensures.owed in
     let begins = noted_begins g.D.Disk start laws noted (record noted { desk = end }) noted.desk.lanes refl refl noted.desk.desk before end.desk reads reads'
     c.wait.new.seat.me.0 w.new.seat.me.0 is turn w.ensures.resumed w.ensures.continues w.ensures.up_to (keeping_by g.D.Disk before end.desk did)
     c.exchange-2.new.seat.me.0 c.leave.new.seat.me.0 (ap (λ me. me.0) c.exchange-2.ensures.3) passed in
