@@ -13,8 +13,9 @@ use shapes::Shape;
 use std::process::Abort;
 
 /// A row a line: the name of a type here, and its tree. The texts `term` and `full` have 4 bytes, with
-/// and without a byte behind, `spaced` 3 with spaces behind, and `utf8` 2 of UTF-8; a `pair` is a number
-/// of 16 bits and a text of 4 bytes.
+/// and without a byte behind, `spaced` 3 with spaces behind, and `utf8` 2 and `wide` 8 of UTF-8; a
+/// `pair` is a number of 16 bits and a text of 4 bytes, and a `nest` a byte, a pair of such a number and
+/// a text of 2 bytes of UTF-8, and a byte.
 static TYPES: &str = r#"i8|"H5T_STD_I8LE"
 u8|"H5T_STD_U8LE"
 u16|"H5T_STD_U16BE"
@@ -25,6 +26,8 @@ term|{"class":"H5T_STRING","length":4}
 full|{"class":"H5T_STRING","length":4,"strPad":"H5T_STR_NULLPAD"}
 spaced|{"class":"H5T_STRING","length":3,"strPad":"H5T_STR_SPACEPAD"}
 utf8|{"class":"H5T_STRING","charSet":"H5T_CSET_UTF8","length":2,"strPad":"H5T_STR_NULLPAD"}
+wide|{"class":"H5T_STRING","charSet":"H5T_CSET_UTF8","length":8,"strPad":"H5T_STR_NULLPAD"}
+nest|{"class":"H5T_COMPOUND","fields":[{"name":"a","type":"H5T_STD_U8LE"},{"name":"b","type":{"class":"H5T_COMPOUND","fields":[{"name":"n","type":"H5T_STD_I16BE"},{"name":"t","type":{"class":"H5T_STRING","charSet":"H5T_CSET_UTF8","length":2,"strPad":"H5T_STR_NULLPAD"}}]}},{"name":"c","type":"H5T_STD_U8LE"}]}
 pair|{"class":"H5T_COMPOUND","fields":[{"name":"n","type":"H5T_STD_I16BE"},{"name":"t","type":{"class":"H5T_STRING","length":4,"strPad":"H5T_STR_NULLPAD"}}]}"#;
 
 /// The tree of a name's type, as text.
