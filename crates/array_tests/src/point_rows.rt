@@ -1,7 +1,7 @@
 //! Points as trees spell them.
 
 use crate::shape_rows::shape_in;
-use crate::tables::{Told, column, had, kept, try_rows};
+use crate::tables::{Told, column, had, kept, number, try_rows};
 use point_select::{Points, read_points};
 use shapes::Dims;
 use std::process::Abort;
@@ -122,19 +122,25 @@ fn count_of_zeros(rt: &(impl Abort + AllocGlobal), more: usize) -> usize {
     }
 }
 
+/// A list of so many more than one of a row's item, on its shape.
+struct CountRow;
+
+impl Told for CountRow {
+    fn told(rt: &(impl Abort + AllocGlobal), row: &str) -> String {
+        let more = number(rt, column(row, 2)) as usize;
+        let points = list_of(rt, column(row, 1), more);
+        told(rt, column(row, 0), points.as_str())
+    }
+}
+
+/// A row a line: a shape, an item, how many more of it a list has, and the fault.
+static COUNTS: &str = r#"[4]|0|65536|TooMany { count: 65537 }
+[2,3]|[]|65545|TooMany { count: 65546 }
+"H5S_NULL"|0|65536|TooMany { count: 65537 }
+"H5S_SCALAR"|"a"|65536|TooMany { count: 65537 }"#;
+
 #[test]
 fn points_are_counted_first(rt: HostRuntime) {
     assert!(rt; count_of_zeros(&rt, 65_535) == 65_536);
-    for item in ["0", "[[0]]", "{\"\":[0]}"] {
-        let more = list_of(&rt, item, 65_536);
-        for shape in ["[4]", "[2,3]", "\"H5S_NULL\"", "\"H5S_SCALAR\""] {
-            let got = told(&rt, shape, more.as_str());
-            assert!(rt;
-                got.as_str() == "TooMany { count: 65537 }",
-                "{shape} {item}"
-            );
-        }
-    }
-    let more = list_of(&rt, "[]", 99_999);
-    assert!(rt; told(&rt, "[4]", more.as_str()).as_str() == "TooMany { count: 100000 }");
+    try_rows::<CountRow>(&rt, COUNTS, 3);
 }
