@@ -1,14 +1,16 @@
 -- The making of a journal by its status.
-use Rattle.std.proofs.Common.{◌≡◌, ◌⊎◌, ℕ, ◌≤◌, List, length, take, refl, ◌∙◌, arith}
+use Rattle.std.proofs.Common.{◌≡◌, ◌≢◌, ◌⊎◌, ℕ, ◌≤◌, List, length, take, refl, ◌∙◌, arith}
 use Rattle.std.specs.Io.KnownBytes.{Keeps}
 use Rattle.edge_traits.specs.declared.disk.Disk.{Ghosts}
 use Rattle.configuration.specs.declared.config.Config.{Config}
 use Rattle.flush_journal.specs.Files.{magic}
+use Rattle.flush_journal.specs.Firsts.{MakesFirst}
+use Rattle.flush_journal.specs.Records.{Record}
 use Rattle.flush_journal.specs.Refusals.{NoMagic}
 use Rattle.flush_journal.specs.Unchanged.{SameBytes}
 use Rattle.flush_journal.specs.declared.why.Why.{Why}
 use Rattle.flush_journal.specs.declared.why.Why.TheVariants as why
-use Rattle.service_core.specs.Journals.FirstJournals.{IsFirstJournal, MayRefuseMaking}
+use Rattle.service_core.specs.Journals.FirstJournals.{AreFirstRecords, IsFirstJournal, MayRefuseMaking}
 use Rattle.hsds_cli.specs.Lines.{IsPrinted, init_line}
 use Rattle.hsds_cli.specs.Makings.{IsInit, making_status}
 use Rattle.hsds_cli.specs.Runs.{IsRefusal}
@@ -67,9 +69,12 @@ module _ {D : Type 0} (met : Ghosts D) (lanes : ℕ) (sides : Sides) (before aft
 
     -- none was made
     pub init_not_made : (refusal : Why) → MayRefuseMaking config.catalogue met.honest (met.reads before) (met.most before) (met.faults before) (met.faults after) refusal → IsUntouched sides
-        → (met.honest → take 8 (met.reads before) ≡ magic → SameBytes met before after) → (refusal ≡ why.NoMemory → after ≡ before) → IsInit met lanes sides before after (making_status refusal)
-    init_not_made why.DiskFault h still found same = (h.2, record { config = config; spelled = spelled; cause = h; untouched = still; found = found })
-    init_not_made (why.JournalFull end need room) h still found same = (end, need, room, record { config = config; spelled = spelled; cause = h; untouched = still; found = found })
-    init_not_made why.Exists h still found same = (h.2, record { config = config; spelled = spelled; cause = h; untouched = still; found = found })
-    init_not_made (why.NotAJournal at) h still found same = absurd h.2
-    init_not_made why.NoMemory h still found same = (still, same refl)
+        → (met.honest → take 8 (met.reads before) ≡ magic → SameBytes met before after)
+        → (met.honest → refusal ≢ why.DiskFault → SameBytes met before after)
+        → (met.honest → refusal ≡ why.DiskFault → (rs : List Record) × AreFirstRecords config.catalogue rs × MakesFirst met lanes rs before after)
+        → (refusal ≡ why.NoMemory → after ≡ before) → IsInit met lanes sides before after (making_status refusal)
+    init_not_made why.DiskFault h still found refused stands same = (h.2, record { config = config; spelled = spelled; cause = h; untouched = still; found = found; refused = refused; stands = stands })
+    init_not_made (why.JournalFull end need room) h still found refused stands same = (end, need, room, record { config = config; spelled = spelled; cause = h; untouched = still; found = found; refused = refused; stands = stands })
+    init_not_made why.Exists h still found refused stands same = (h.2, record { config = config; spelled = spelled; cause = h; untouched = still; found = found; refused = refused; stands = stands })
+    init_not_made (why.NotAJournal at) h still found refused stands same = absurd h.2
+    init_not_made why.NoMemory h still found refused stands same = (still, same refl)

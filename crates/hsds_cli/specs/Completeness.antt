@@ -81,7 +81,7 @@ MeetsDoorFault command doors = ⊥
 
 abbrev pub MeetsRoom : {F L D : Type 0} (met : Ghosts D) → Desks met → Command → Sides → Doors F L → D → D → Option Closed → Type 0
 MeetsRoom met desks (init config journal lanes) sides doors before after closed =
-    (end : ℕ) × (need : ℕ) × (room : ℕ) × MakesNone met sides before after (why.JournalFull end need room)
+    (end : ℕ) × (need : ℕ) × (room : ℕ) × MakesNone met lanes sides before after (why.JournalFull end need room)
 MeetsRoom met desks (session config journal) sides doors before after closed =
     ((end : ℕ) × (need : ℕ) × (room : ℕ) × IsUnbegun met before after (why.JournalFull end need room))
     ⊎ ((s : Serves met sides before after closed UsedUp) × (end : ℕ) × (need : ℕ) × (room : ℕ) × (s.last ≡ Err (why.JournalFull end need room)))

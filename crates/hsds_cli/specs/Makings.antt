@@ -5,11 +5,13 @@ use Rattle.edge_traits.specs.Causes.{Rose}
 use Rattle.edge_traits.specs.declared.disk.Disk.{Ghosts}
 use Rattle.configuration.specs.declared.config.Config.{Config}
 use Rattle.flush_journal.specs.Files.{magic}
+use Rattle.flush_journal.specs.Firsts.{MakesFirst}
+use Rattle.flush_journal.specs.Records.{Record}
 use Rattle.flush_journal.specs.Refusals.{NoMagic}
 use Rattle.flush_journal.specs.Unchanged.{SameBytes}
 use Rattle.flush_journal.specs.declared.why.Why.{Why}
 use Rattle.flush_journal.specs.declared.why.Why.TheVariants as why
-use Rattle.service_core.specs.Journals.FirstJournals.{IsFirstJournal, MayRefuseMaking}
+use Rattle.service_core.specs.Journals.FirstJournals.{AreFirstRecords, IsFirstJournal, MayRefuseMaking}
 use Rattle.hsds_cli.specs.declared.status.Status.{Status}
 use Rattle.hsds_cli.specs.declared.status.Status.TheVariants.{Done, Words, Configuration, ReadFault, WriteFault, DiskFault, NotAJournal, Refused, JournalExists, DoorFault, InputCut, UsedUp, Budget, NoMemory}
 use Rattle.hsds_cli.specs.Lines.{init_line}
@@ -25,13 +27,16 @@ pub record Makes {D : Type 0} (met : Ghosts D) (lanes : ℕ) (sides : Sides) (be
   pub left : Keeps sides.left_before sides.left_after
   pub appended : Appends sides.held_before sides.held_after (take printed (init_line lanes config.catalogue))
 
--- no journal was made, and nothing was printed
-pub record MakesNone {D : Type 0} (met : Ghosts D) (sides : Sides) (before after : D) (why : Why) : Type 0 where
+-- no journal was made, and nothing was printed. But for a fault of the disk its bytes are as before; behind one there may stand a journal
+-- without a batch, or with the first one, or what was there with its first bytes torn.
+pub record MakesNone {D : Type 0} (met : Ghosts D) (lanes : ℕ) (sides : Sides) (before after : D) (why : Why) : Type 0 where
   pub config : Config
   pub spelled : Spells sides.text config
   pub cause : MayRefuseMaking config.catalogue met.honest (met.reads before) (met.most before) (met.faults before) (met.faults after) why
   pub untouched : IsUntouched sides
   pub found : met.honest → take 8 (met.reads before) ≡ magic → SameBytes met before after
+  pub refused : met.honest → why ≢ why.DiskFault → SameBytes met before after
+  pub stands : met.honest → why ≡ why.DiskFault → (rs : List Record) × AreFirstRecords config.catalogue rs × MakesFirst met lanes rs before after
 
 -- nothing was read or written at all
 abbrev pub IsAsBefore : {D : Type 0} → Sides → D → D → Type 0
@@ -42,9 +47,9 @@ IsInit met lanes sides before after Done = (m : Makes met lanes sides before aft
 IsInit met lanes sides before after Configuration = SpellsNone sides.text × IsAsBefore sides before after
 IsInit met lanes sides before after ReadFault = ConfigFailed sides × IsAsBefore sides before after
 IsInit met lanes sides before after WriteFault = OutFailed sides × Makes met lanes sides before after
-IsInit met lanes sides before after DiskFault = Rose (met.faults before) (met.faults after) × MakesNone met sides before after why.DiskFault
-IsInit met lanes sides before after JournalExists = (met.honest → take 8 (met.reads before) ≡ magic) × MakesNone met sides before after why.Exists
-IsInit met lanes sides before after UsedUp = (end : ℕ) × (need : ℕ) × (room : ℕ) × MakesNone met sides before after (why.JournalFull end need room)
+IsInit met lanes sides before after DiskFault = Rose (met.faults before) (met.faults after) × MakesNone met lanes sides before after why.DiskFault
+IsInit met lanes sides before after JournalExists = (met.honest → take 8 (met.reads before) ≡ magic) × MakesNone met lanes sides before after why.Exists
+IsInit met lanes sides before after UsedUp = (end : ℕ) × (need : ℕ) × (room : ℕ) × MakesNone met lanes sides before after (why.JournalFull end need room)
 IsInit met lanes sides before after NoMemory = IsAsBefore sides before after
 IsInit met lanes sides before after Words = ⊥
 IsInit met lanes sides before after NotAJournal = ⊥

@@ -1,8 +1,10 @@
 //! A disk that may not have been opened.
 
-ghost use Rattle.std.specs.Prelude.{◌≡◌, ◌≤◌, ℕ, Option, IfOk, IsErr, length};
+ghost use Rattle.std.specs.Prelude.{◌≡◌, ◌+◌, ◌≤◌, ℕ, Option, IfOk, IsErr, OnErr, OnOk, length};
+ghost use Rattle.std.specs.Io.{ReadsAtMost};
 ghost use Rattle.edge_traits.specs.Causes.{HasCause, Rose};
-ghost use Rattle.edge_traits.specs.Disks.{Elapses, LeavesNoMore};
+ghost use Rattle.edge_traits.specs.Disks.{Elapses, ElapsesBy, Fills, Follows, LeavesNoMore, Torn};
+ghost use Rattle.edge_traits.specs.Disks.{Written};
 ghost use Rattle.hsds_cli.specs.OpenedDisks.{IsMissing, around_of, beside_of, faults_of, has_stopped};
 ghost use Rattle.hsds_cli.specs.OpenedDisks.{image_of};
 ghost use Rattle.hsds_cli.specs.OpenedDisks.{it_fits, left_of, moment_of, most_of, now_counts};
@@ -102,14 +104,66 @@ impl<D: Disk> Disk for OpenedDisk<D> {
         }
     }
 
-    fn read_at(&mut self, at: u64, buf: &mut [u8]) -> Result<usize, Failed> {
+    fn read_at(&mut self, at: u64, buf: &mut [u8]) -> Result<usize, Failed>
+        ensures bound { ReadsAtMost result buf.old }
+        ensures bytes { D.honest → IfOk result (λ n. Fills at (reads_of D.reads self.old) n buf.new) }
+        ensures reads { D.honest → reads_of D.reads self.new ≡ reads_of D.reads self.old }
+        ensures images { D.honest → LeavesNoMore (⟦<OpenedDisk<D> as Disk>⟧.images self.old)
+            (⟦<OpenedDisk<D> as Disk>⟧.images self.new) }
+        ensures time { D.honest → Elapses
+            (⟦<OpenedDisk<D> as Disk>⟧.moment self.old) (⟦<OpenedDisk<D> as Disk>⟧.moment self.new)
+            (⟦<OpenedDisk<D> as Disk>⟧.left_since self.old)
+            (⟦<OpenedDisk<D> as Disk>⟧.left_since self.new)
+            (⟦<OpenedDisk<D> as Disk>⟧.images self.new) }
+        ensures most { most_of D.most self.new ≡ most_of D.most self.old }
+        ensures beside { beside_of D.beside self.new ≡ beside_of D.beside self.old }
+        ensures around { D.honest → (t : ℕ) (o : Option D.Others)
+            → t ≤ ⟦<OpenedDisk<D> as Disk>⟧.moment self.old
+            → ⟦<OpenedDisk<D> as Disk>⟧.beside_since self.new t o
+            → ⟦<OpenedDisk<D> as Disk>⟧.beside_since self.old t o }
+        ensures stopped { ⟦<OpenedDisk<D> as Disk>⟧.stopped self.old
+            → ⟦<OpenedDisk<D> as Disk>⟧.stopped self.new }
+        ensures cause { HasCause (⟦<OpenedDisk<D> as Disk>⟧.faults self.old)
+            (⟦<OpenedDisk<D> as Disk>⟧.faults self.new) result }
+
+        // Of one that was not opened nothing is read.
+        ensures missing { IsMissing self.old → IsErr result }
+    {
         match self {
             OpenedDisk::Opened(disk) => disk.read_at(at, buf),
             OpenedDisk::Missing(count) => missed(count),
         }
     }
 
-    fn write_at(&mut self, at: u64, bytes: &[u8]) -> Result<(), Failed> {
+    fn write_at(&mut self, at: u64, bytes: &[u8]) -> Result<(), Failed>
+        requires room { at + length bytes.now ≤ most_of D.most self.old }
+        requires inside { D.honest → at ≤ length (reads_of D.reads self.old) }
+        ensures ok { D.honest → OnOk result (Written at bytes.now (reads_of D.reads self.old)
+            (reads_of D.reads self.new)) }
+        ensures err { D.honest → OnErr result (Torn at (length bytes.now)
+            (reads_of D.reads self.old) (reads_of D.reads self.new)) }
+        ensures images { D.honest → Follows (Torn at (length bytes.now))
+            (⟦<OpenedDisk<D> as Disk>⟧.images self.old)
+            (⟦<OpenedDisk<D> as Disk>⟧.images self.new) }
+        ensures time { D.honest → ElapsesBy (Torn at (length bytes.now))
+            (⟦<OpenedDisk<D> as Disk>⟧.moment self.old) (⟦<OpenedDisk<D> as Disk>⟧.moment self.new)
+            (⟦<OpenedDisk<D> as Disk>⟧.left_since self.old)
+            (⟦<OpenedDisk<D> as Disk>⟧.left_since self.new)
+            (⟦<OpenedDisk<D> as Disk>⟧.images self.old) }
+        ensures most { most_of D.most self.new ≡ most_of D.most self.old }
+        ensures beside { beside_of D.beside self.new ≡ beside_of D.beside self.old }
+        ensures around { D.honest → (t : ℕ) (o : Option D.Others)
+            → t ≤ ⟦<OpenedDisk<D> as Disk>⟧.moment self.old
+            → ⟦<OpenedDisk<D> as Disk>⟧.beside_since self.new t o
+            → ⟦<OpenedDisk<D> as Disk>⟧.beside_since self.old t o }
+        ensures stopped { ⟦<OpenedDisk<D> as Disk>⟧.stopped self.old
+            → ⟦<OpenedDisk<D> as Disk>⟧.stopped self.new }
+        ensures cause { HasCause (⟦<OpenedDisk<D> as Disk>⟧.faults self.old)
+            (⟦<OpenedDisk<D> as Disk>⟧.faults self.new) result }
+
+        // Of one that was not opened nothing is written.
+        ensures missing { IsMissing self.old → IsErr result }
+    {
         match self {
             OpenedDisk::Opened(disk) => disk.write_at(at, bytes),
             OpenedDisk::Missing(count) => missed(count),

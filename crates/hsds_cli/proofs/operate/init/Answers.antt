@@ -45,4 +45,5 @@ returns-clause-init g c = λ left faults.
     } in
     subst (λ (s : Status). IsInit g.D.Disk c.args.lanes sides c.args.disk c.in-Err-make_journal.field-0.disk s) (sym c.making_status.ensures)
     (init_not_made g.D.Disk c.args.lanes sides c.args.disk c.in-Err-make_journal.field-0.disk c.in-Ok.config c.in-Ok.ensures.ok c.in-Err-make_journal.field-0.why c.in-Err-make_journal.ensures.why
-    (untouched sides refl refl) c.in-Err-make_journal.ensures.found c.in-Err-make_journal.ensures.memory)
+    (untouched sides refl refl) c.in-Err-make_journal.ensures.found c.in-Err-make_journal.ensures.refused c.in-Err-make_journal.ensures.stands
+    c.in-Err-make_journal.ensures.memory)
