@@ -29,14 +29,14 @@ pub record Makes {D : Type 0} (met : Ghosts D) (lanes : ℕ) (sides : Sides) (be
 
 -- no journal was made, and nothing was printed. But for a fault of the disk its bytes are as before; behind one there may stand a journal
 -- without a batch, or with the first one, or what was there with its first bytes torn.
-pub record MakesNone {D : Type 0} (met : Ghosts D) (lanes : ℕ) (sides : Sides) (before after : D) (why : Why) : Type 0 where
+pub record MakesNone {D : Type 0} (met : Ghosts D) (lanes : ℕ) (sides : Sides) (before after : D) (refusal : Why) : Type 0 where
   pub config : Config
   pub spelled : Spells sides.text config
-  pub cause : MayRefuseMaking config.catalogue met.honest (met.reads before) (met.most before) (met.faults before) (met.faults after) why
+  pub cause : MayRefuseMaking config.catalogue met.honest (met.reads before) (met.most before) (met.faults before) (met.faults after) refusal
   pub untouched : IsUntouched sides
   pub found : met.honest → take 8 (met.reads before) ≡ magic → SameBytes met before after
-  pub refused : met.honest → why ≢ why.DiskFault → SameBytes met before after
-  pub stands : met.honest → why ≡ why.DiskFault → (rs : List Record) × AreFirstRecords config.catalogue rs × MakesFirst met lanes rs before after
+  pub refused : met.honest → refusal ≢ why.DiskFault → SameBytes met before after
+  pub stands : met.honest → refusal ≡ why.DiskFault → (rs : List Record) × AreFirstRecords config.catalogue rs × MakesFirst met lanes rs before after
 
 -- nothing was read or written at all
 abbrev pub IsAsBefore : {D : Type 0} → Sides → D → D → Type 0
