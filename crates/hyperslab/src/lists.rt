@@ -1,6 +1,6 @@
 //! Selections by lists of numbers.
 
-ghost use Rattle.std.specs.Prelude.{◌≡◌, ◌<◌, ◌^◌, ◌⊎◌, ℕ, List, [], All, Option, None, Ok, Err, IfOk};
+ghost use Rattle.std.specs.Prelude.{◌≡◌, ◌<◌, ◌^◌, ◌⊎◌, ℕ, List, [], All, Option, None, Ok, Err, IfOk, IsOk};
 ghost use Rattle.shapes.specs.Shapes.{IsSound, dims_of};
 ghost use Rattle.serde_json.specs.Data.{Data};
 ghost use Rattle.shapes.specs.declared.Shape.{Shape};
@@ -25,7 +25,8 @@ use std::alloc::{AllocError, Global};
 ///
 /// # Errors
 ///
-/// The first fault in the order of [`SlabFault`], as its text says; outside of that, want of memory.
+/// The first fault in the order of [`SlabFault`], as its text says; outside of that, want of memory
+/// where a list is given.
 pub fn from_lists(
     alloc: Global,
     start: &Option<KeptTree>,
@@ -39,6 +40,7 @@ pub fn from_lists(
     ensures within { IfOk result (λ slab. IfOk slab (λ s. SlabIn s shape.now)) }
     ensures steps { IfOk result (λ slab. IfOk slab (λ s. All (λ c. c < 10 ^ 10) s.step)) }
     ensures sound { IfOk result (λ slab. IfOk slab IsSlab) }
+    ensures absent { start.now ≡ None → stop.now ≡ None → step.now ≡ None → IsOk result }
 {
     if is_scalar(shape) && is_absent(start) && is_absent(stop) && is_absent(step) {
         return Ok(whole(shape));
@@ -92,7 +94,8 @@ fn lists(
     stop: &Option<KeptTree>,
     step: &Option<KeptTree>,
 ) -> Result<Option<Slab>, AllocError>
-    ensures { IfOk result (λ slab. slab ≡ lists_in dims.now start.now stop.now step.now) }
+    ensures read { IfOk result (λ slab. slab ≡ lists_in dims.now start.now stop.now step.now) }
+    ensures absent { start.now ≡ None → stop.now ≡ None → step.now ≡ None → IsOk result }
 {
     let Some(start) = list_or(alloc, Dims::repeated(0, dims.len()), start)? else {
         return Ok(None);
@@ -107,7 +110,8 @@ fn lists(
 }
 
 fn list_or(alloc: Global, absent: Dims, tree: &Option<KeptTree>) -> Result<Option<Dims>, AllocError>
-    ensures { IfOk result (λ dims. dims ≡ list_from absent tree.now) }
+    ensures read { IfOk result (λ dims. dims ≡ list_from absent tree.now) }
+    ensures absent { tree.now ≡ None → IsOk result }
 {
     match tree {
         None => Ok(Some(absent)),
