@@ -5,6 +5,7 @@ ghost use Rattle.hdf_types.specs.Types.{IsSoundType};
 ghost use Rattle.hdf_types.specs.Views.{elem};
 
 use crate::draws::{Draws, add};
+use crate::packed_rows::{is_same_packed, packed};
 use crate::tables::{Told, column, had, tree, try_rows};
 use crate::value_rows::{hex, kind_of};
 use hdf_types::ElemType;
@@ -149,13 +150,26 @@ fn is_same_tree(
     }
 }
 
+/// Whether a text whose value is packed gives the same as its tree.
+fn is_same_value(rt: &(impl Abort + AllocGlobal), kind: &ElemType, text: &str, tree: &Value) -> bool
+    requires { IsSoundType (elem kind.now) }
+{
+    match packed(rt, text) {
+        Some(value) => is_same_packed(rt, kind, &Dims::repeated(2, 2), &value, tree),
+        None => true,
+    }
+}
+
 /// Whether a text is refused both ways, or is the same tree.
 fn is_same(rt: &(impl Abort + AllocGlobal), name: &str, text: &str) -> bool {
     match (
         KeptTree::read(rt.alloc(), text.as_bytes()),
         Value::from_str(rt.alloc(), text),
     ) {
-        (Ok(kept), Ok(tree)) => is_same_tree(rt, &kind_of(rt, name), &kept, &tree),
+        (Ok(kept), Ok(tree)) => {
+            let kind = kind_of(rt, name);
+            is_same_tree(rt, &kind, &kept, &tree) && is_same_value(rt, &kind, text, &tree)
+        }
         (Err(_), Err(_)) => true,
         _ => false,
     }
@@ -169,7 +183,10 @@ fn kept_texts_are_read_as_their_trees(rt: HostRuntime) {
 }
 
 /// The bytes of a value, or its fault.
-fn outcome_text(rt: &(impl Abort + AllocGlobal), outcome: &Result<Vec<u8>, ValueFault>) -> String {
+pub fn outcome_text(
+    rt: &(impl Abort + AllocGlobal),
+    outcome: &Result<Vec<u8>, ValueFault>,
+) -> String {
     match outcome {
         Ok(bytes) => hex(rt, bytes.as_slice()),
         Err(fault) => had(rt, format!(in rt.alloc(); "{fault:?}")),
@@ -177,7 +194,7 @@ fn outcome_text(rt: &(impl Abort + AllocGlobal), outcome: &Result<Vec<u8>, Value
 }
 
 /// The extents that digits are.
-fn extents_of(digits: &str) -> Dims {
+pub fn extents_of(digits: &str) -> Dims {
     let mut extents = Dims::new();
     for digit in digits.chars() {
         extents.keep(u64::from(digit.to_digit(10).unwrap_or(0)));

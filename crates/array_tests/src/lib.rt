@@ -19,6 +19,8 @@ mod layout_rows;
 #[cfg(test)]
 mod link_rows;
 #[cfg(test)]
+mod packed_rows;
+#[cfg(test)]
 mod plain;
 #[cfg(test)]
 mod point_rows;

@@ -17,7 +17,7 @@ byte_told (suc i) n = refl
 next_byte : (i n : ℕ) → n / 256 ^ i / 256 ≡ n / 256 ^ suc i
 next_byte i n = div-div-eq-div-mul n (256 ^ i) 256 ∙ ap (λ m. n / m) (sym (pow-suc 256 i))
 
-low_from : (k i n : ℕ) → bytes_low_first i k n ≡ low_first k (n / 256 ^ i)
+pub low_from : (k i n : ℕ) → bytes_low_first i k n ≡ low_first k (n / 256 ^ i)
 low_from zero i n = refl
 low_from (suc k) i n =
     ap (λ b. b ∷ bytes_low_first (suc i) k n) (byte_told i n)

@@ -12,7 +12,7 @@ use mathlib.Core.List.{reverse_aux, reverse-cons}
 use Rattle.hdf_types.specs.declared.IntType.{IntType}
 use Rattle.hdf_types.specs.Reading.{int_size}
 use Rattle.hdf_types.specs.Types.{IsWidth}
-use Rattle.hdf_values.specs.Integers.{IsInRange, in_range, int_bytes, int_value, low_first, number_of, in_order, twos, signed_of}
+use Rattle.hdf_values.specs.Integers.{IsInRange, least, greatest, in_range, int_bytes, int_value, low_first, number_of, in_order, twos, signed_of}
 
 -- ---- ranges
 
@@ -45,6 +45,14 @@ pub first_fails : (low z high : ℤ) → FitsSigned w128 low → FitsSigned w128
 first_fails low z high f g e =
     let first : le_z low z ≡ false = rw (to_z-of_z w128 low f, to_z-of_z w128 z g) at e in
     rw (to_z-of_z w128 low f, to_z-of_z w128 z g, first) refl
+
+-- the test between the ends of a range, which fit
+pub range_test : (t : IntType) (b : Bool) (low z high : ℤ) → FitsSigned w128 low → FitsSigned w128 high → low ≡ least t → high ≡ greatest t
+    → b ≡ (le_z (to_z w128 (of_z w128 low)) z && le_z z (to_z w128 (of_z w128 high))) → b ≡ in_range t z
+unfolding in_range
+range_test t b low z high f g l h e =
+    e ∙ ap (λ x. le_z x z && le_z z (to_z w128 (of_z w128 high))) (to_z-of_z w128 low f ∙ l)
+    ∙ ap (λ x. le_z (least t) z && le_z z x) (to_z-of_z w128 high g ∙ h)
 
 -- ---- the widths
 

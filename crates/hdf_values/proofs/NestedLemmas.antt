@@ -33,11 +33,11 @@ all_flat : {A B : Type 0} (F : A → Type 0) (G : B → Type 0) (g : A → List 
 all_flat F G g each [] h = tt
 all_flat F G g each (x ∷ xs) h = all_append G (g x) (flat_map g xs) (each x h.0) (all_flat F G g each xs h.1)
 
-all_map : {A B : Type 0} (F : A → Type 0) (G : B → Type 0) (g : A → B) → ((x : A) → F x → G (g x)) → (xs : List A) → AllByRecursion F xs → AllByRecursion G (map g xs)
+pub all_map : {A B : Type 0} (F : A → Type 0) (G : B → Type 0) (g : A → B) → ((x : A) → F x → G (g x)) → (xs : List A) → AllByRecursion F xs → AllByRecursion G (map g xs)
 all_map F G g each [] h = tt
 all_map F G g each (x ∷ xs) h = (each x h.0, all_map F G g each xs h.1)
 
-map_each : {A B C : Type 0} (F : A → Type 0) (f : B → C) (g : A → B) (h : A → C) → ((x : A) → F x → f (g x) ≡ h x) → (xs : List A) → AllByRecursion F xs → map f (map g xs) ≡ map h xs
+pub map_each : {A B C : Type 0} (F : A → Type 0) (f : B → C) (g : A → B) (h : A → C) → ((x : A) → F x → f (g x) ≡ h x) → (xs : List A) → AllByRecursion F xs → map f (map g xs) ≡ map h xs
 map_each F f g h each [] k = refl
 map_each F f g h each (x ∷ xs) k = rw (each x k.0, map_each F f g h each xs k.1)
 
@@ -49,7 +49,7 @@ first_piece k xs ys e = rw (← e) (take-append_seam xs ys)
 after_piece : (k : ℕ) (xs ys : List ℕ) → length xs ≡ k → drop k (xs ++ ys) ≡ ys
 after_piece k xs ys e = rw (← e) (drop-append_seam xs ys)
 
-pieces-flat : {A : Type 0} (F : A → Type 0) (g : A → List ℕ) (k : ℕ) → ((x : A) → F x → length (g x) ≡ k) → (xs : List A) → AllByRecursion F xs → pieces (length xs) k (flat_map g xs) ≡ map g xs
+pub pieces-flat : {A : Type 0} (F : A → Type 0) (g : A → List ℕ) (k : ℕ) → ((x : A) → F x → length (g x) ≡ k) → (xs : List A) → AllByRecursion F xs → pieces (length xs) k (flat_map g xs) ≡ map g xs
 pieces-flat F g k each [] h = refl
 pieces-flat F g k each (x ∷ xs) h =
     let first = first_piece k (g x) (flat_map g xs) (each x h.0) in
@@ -66,7 +66,7 @@ rejoined F f each (suc n) k bs e h =
 
 -- ---- a tree that nests is read as its bytes
 
-bytes_listed : (e : Elem) (n : ℕ) (ns : List ℕ) (d : Data) (ds : List Data) → list_in d ≡ Some ds → nested_bytes e (n ∷ ns) d ≡ flat_map (nested_bytes e ns) ds
+pub bytes_listed : (e : Elem) (n : ℕ) (ns : List ℕ) (d : Data) (ds : List Data) → list_in d ≡ Some ds → nested_bytes e (n ∷ ns) d ≡ flat_map (nested_bytes e ns) ds
 bytes_listed e n ns d ds h = rw h (flat_flat (bytes_of e) (elements ns) ds)
 
 counted_ok : (n p : ℕ) (read : List Data → Result (List ℕ) ValueFault) (o : Option (List Data)) (ds : List Data) (r : Result (List ℕ) ValueFault) → o ≡ Some ds → length ds ≡ n → read ds ≡ r → counted n p read o ≡ r

@@ -31,7 +31,7 @@ pub length-pieces : (n k : ℕ) (bs : List ℕ) → length (pieces n k bs) ≡ n
 length-pieces zero k bs = refl
 length-pieces (suc n) k bs = ap suc (length-pieces n k (drop k bs))
 
-pieces-append : (a b n k : ℕ) (xs ys : List ℕ) → a + b ≡ n → length xs ≡ a * k → pieces n k (xs ++ ys) ≡ pieces a k xs ++ pieces b k ys
+pub pieces-append : (a b n k : ℕ) (xs ys : List ℕ) → a + b ≡ n → length xs ≡ a * k → pieces n k (xs ++ ys) ≡ pieces a k xs ++ pieces b k ys
 pieces-append zero b n k [] ys q e =
     let same : n ≡ b = omega arith in
     rw same

@@ -8,6 +8,8 @@ pub mod Shaped
 pub mod Attributes
 pub mod Printed
 pub mod Streamed
+pub mod Packed
+pub mod KeptValues
 pub use Rattle.json_trees.specs.Trees
 pub use Rattle.serde_json.specs.View
 pub use Rattle.serde_json.specs.Data

@@ -1,6 +1,6 @@
 //! Whole numbers as two's complement bytes, in either order.
 
-ghost use Rattle.std.specs.Prelude.{◌≡◌, true, ◌<◌, ◌-◌, ◌*◌, ◌/◌, ◌^◌, ◌≤ℤ◌, ◌++◌, [], pos, negsuc, length, map, take, reverse, Some, IfOk};
+ghost use Rattle.std.specs.Prelude.{◌≡◌, ◌&&◌, int_le, true, ◌<◌, ◌-◌, ◌*◌, ◌/◌, ◌^◌, ◌≤ℤ◌, ◌++◌, [], pos, negsuc, length, map, take, reverse, Some, IfOk};
 ghost use Rattle.std.specs.List.{AllByRecursion};
 ghost use Rattle.serde_json.specs.Data.{number};
 ghost use Rattle.serde_json.specs.Find.{of_integer};
@@ -27,7 +27,8 @@ pub fn integer_in(tree: &Value) -> Option<i128>
     tree.as_number()?.as_i128()
 }
 
-fn least(int: &IntType) -> i128
+/// The least number of a type.
+pub(crate) fn least(int: &IntType) -> i128
     requires { IsWidth int.now.bits }
     ensures { result ≡ least_of int.now }
 {
@@ -38,7 +39,8 @@ fn least(int: &IntType) -> i128
     }
 }
 
-fn greatest(int: &IntType) -> i128
+/// The greatest number of a type.
+pub(crate) fn greatest(int: &IntType) -> i128
     requires { IsWidth int.now.bits }
     ensures { result ≡ greatest_of int.now }
 {
@@ -53,7 +55,15 @@ fn in_range(int: &IntType, value: i128) -> bool
     requires { IsWidth int.now.bits }
     ensures { result ≡ is_in_range int.now value }
 {
-    least(int) <= value && value <= greatest(int)
+    is_between(least(int), value, greatest(int))
+}
+
+/// Whether a number is none of those below or above.
+#[inline(always)]
+pub(crate) fn is_between(low: i128, value: i128, high: i128) -> bool
+    ensures { result ≡ (int_le low value && int_le value high) }
+{
+    low <= value && value <= high
 }
 
 /// Writes the bytes of a tree that is a number of this type.
@@ -136,14 +146,21 @@ pub(crate) fn push_number(
     Ok(None)
 }
 
-fn push_int(int: &IntType, value: i128, out: &mut Vec<u8>) -> Result<(), AllocError>
+/// Appends the bytes of a number of this type.
+#[inline(always)]
+pub(crate) fn push_int(int: &IntType, value: i128, out: &mut Vec<u8>) -> Result<(), AllocError>
     requires width { IsWidth int.now.bits }
     requires fits { is_in_range int.now value ≡ true }
     ensures { IfOk result (λ _. out.new.items ≡ out.old.items ++ int_bytes int.now value) }
 {
     let bytes = eight_bytes(int, value);
-    let (front, _) = bytes.as_slice().split_at((int.bits / 8) as usize);
-    out.extend_from_slice(front)
+    let bytes = bytes.as_slice();
+    match int.bits {
+        8 => out.extend_from_slice(&bytes[..1]),
+        16 => out.extend_from_slice(&bytes[..2]),
+        32 => out.extend_from_slice(&bytes[..4]),
+        _ => out.extend_from_slice(bytes),
+    }
 }
 
 fn write_int(int: &IntType, value: i128, out: &mut [u8])

@@ -21,7 +21,7 @@ mod texts;
 pub use attributes::{Attribute, AttributeFault, Bytes, read_attribute};
 pub use elements::{decode, encode, is_encoded, zero};
 pub use faults::{Misfit, ValueFault};
-pub use kept::read_kept;
+pub use kept::{KeptValue, read_kept};
 pub use laws::{
     attribute_or_fault, contents_tell_apart, encoded_elements, first_fault_is_told,
     limits_of_values, lowest_fault_is_told, nested_or_fault, pieces_of_joins, pieces_replaced,

@@ -56,29 +56,48 @@ fn drawn_body(alloc: Global, draws: &mut Draws) -> Result<String, AllocError> {
     Ok(text)
 }
 
+/// The tree that is kept, if any.
+fn kept_tree(alloc: Global, kept: &Option<KeptTree>) -> Result<Option<Value>, AllocError> {
+    match kept {
+        Some(kept) => Ok(Some(kept.to_value(alloc)?)),
+        None => Ok(None),
+    }
+}
+
+/// The tree of the elements, if any.
+fn elements_tree(alloc: Global, body: &ValueBody) -> Result<Option<Value>, AllocError> {
+    match &body.value {
+        Some(kept) => Ok(Some(kept.to_value(alloc)?)),
+        None => Ok(None),
+    }
+}
+
 /// Whether what is kept is the tree that stands there.
-fn is_same(
-    alloc: Global,
-    there: Option<&Value>,
-    kept: &Option<KeptTree>,
-) -> Result<bool, AllocError> {
+fn is_same(alloc: Global, there: Option<&Value>, kept: Option<Value>) -> Result<bool, AllocError> {
     match (there, kept) {
         (None, None) => Ok(true),
-        (Some(there), Some(kept)) => {
-            Ok(there.to_string(alloc)? == kept.to_value(alloc)?.to_string(alloc)?)
-        }
+        (Some(there), Some(kept)) => Ok(there.to_string(alloc)? == kept.to_string(alloc)?),
         _ => Ok(false),
     }
+}
+
+fn is_kept(
+    alloc: Global,
+    tree: &Value,
+    key: &str,
+    kept: &Option<KeptTree>,
+) -> Result<bool, AllocError> {
+    is_same(alloc, tree.get(key), kept_tree(alloc, kept)?)
 }
 
 fn are_same(alloc: Global, tree: &Tree, body: &ValueBody) -> Result<bool, AllocError> {
     let tree = tree.value();
     Ok(
-        is_same(alloc, tree.get("value"), &body.value)?
-            && is_same(alloc, tree.get("points"), &body.points)?
-            && is_same(alloc, tree.get("start"), &body.start)?
-            && is_same(alloc, tree.get("stop"), &body.stop)?
-            && is_same(alloc, tree.get("step"), &body.step)?,
+        is_same(alloc, tree.get("value"), elements_tree(alloc, body)?)?
+            && is_kept(alloc, tree, "points", &body.points)?
+            && is_kept(alloc, tree, "start", &body.start)?
+            && is_kept(alloc, tree, "stop", &body.stop)?
+            && is_kept(alloc, tree, "step", &body.step)?,
     )
 }
 

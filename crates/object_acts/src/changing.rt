@@ -23,7 +23,7 @@ use crate::fault::ChangeFault;
 use crate::link_acts::{drop_link, put_link};
 use crate::objects::{Body, Object};
 use groups_links::LinkTo;
-use json_trees::KeptTree;
+use hdf_values::KeptValue;
 use object_ids::{Name, ObjectId};
 use object_ops::{Op, Part, Refusal, Reply};
 use shapes::Dims;
@@ -154,7 +154,7 @@ fn value_put(
     object: &mut Object,
     id: &ObjectId,
     part: &Part,
-    value: &KeptTree,
+    value: &KeptValue,
 ) -> Result<Reply, ChangeFault>
     ensures acts { Follows (on_array id.now (value_written part.now value.now)
         (unmarked object.old).attributes (unmarked object.old).body) (unmarked object.old)

@@ -7,6 +7,9 @@ use Rattle.json_trees.specs.contracts.kept.kept_tree.KeptTree as tree
 use Rattle.hdf_types.proofs.types.Fields.TheLaws.TheKnot as knot
 use Rattle.hdf_types.specs.contracts.types.ElemType as elem
 use Rattle.hdf_values.specs.contracts.attributes.Attribute as attribute
+use Rattle.hdf_values.specs.contracts.kept.packed.Packed as packed
+use Rattle.hdf_values.specs.contracts.kept.value.Form as kept
+use Rattle.hdf_values.specs.contracts.kept.value.KeptValue as value
 use Rattle.groups_links.specs.contracts.target.LinkTo as link
 use Rattle.object_ids.specs.contracts.ids.ObjectId as id
 use Rattle.object_ids.specs.contracts.names.Name as name
@@ -33,6 +36,15 @@ make_send = search (sendable, crosses, maps.crosses, elem_send) depth 40 fits 20
 tree_send : IsSend tree.the_field.row
 tree_send = search (sendable, crosses, maps.crosses) depth 40 fits 20000
 
+packed_send : IsSend packed.the_field.row
+packed_send = search (sendable, crosses, maps.crosses, elem_send) depth 40 fits 20000
+
+kept_send : IsSend kept.the_field.row
+kept_send = search (sendable, crosses, tree_send, packed_send) depth 40 fits 20000
+
+value_send : IsSend value.the_field.row
+value_send = search (sendable, crosses, kept_send) depth 40 fits 20000
+
 part_send : IsSend part.the_field.row
 part_send = search (sendable, crosses, tree_send) depth 40 fits 20000
 
@@ -55,7 +67,7 @@ rights_send : IsSend rights.the_field.row
 rights_send = search (sendable, crosses, maps.crosses) depth 40 fits 20000
 
 pub op_send : IsSend op.the_field.row
-op_send = search (sendable, crosses, attribute_send, make_send, tree_send, part_send, select_send, place_send, link_send, name_send, id_send, rights_send) depth 60 fits 400000
+op_send = search (sendable, crosses, attribute_send, make_send, tree_send, value_send, part_send, select_send, place_send, link_send, name_send, id_send, rights_send) depth 60 fits 400000
 
 cells_send : IsSend cells.the_field.row
 cells_send = search (sendable, crosses, maps.crosses, elem_send) depth 40 fits 20000

@@ -4,7 +4,7 @@ use access_lists::Rights;
 use chunk_layout::Layout;
 use groups_links::LinkTo;
 use hdf_types::ElemType;
-use hdf_values::{Attribute, Bytes};
+use hdf_values::{Attribute, Bytes, KeptValue};
 use json_trees::KeptTree;
 use object_ids::{DomainPath, Kind, Name, ObjectId};
 use shapes::{Dims, Shape};
@@ -185,7 +185,7 @@ pub enum Op {
         /// The part.
         part: Part,
         /// The elements.
-        value: KeptTree,
+        value: KeptValue,
     },
     /// The elements at points of a dataset.
     GetPoints {

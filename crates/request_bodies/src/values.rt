@@ -8,6 +8,7 @@ ghost use Rattle.request_bodies.specs.declared.faults.BodyFault.TheVariants.{NoM
 use crate::faults::BodyFault;
 use crate::keys::bad_field;
 use crate::value_bodies::ValueBody;
+use hdf_values::KeptValue;
 use json_trees::KeptTree;
 use object_ops::{FieldWord, Part};
 
@@ -18,7 +19,7 @@ use object_ops::{FieldWord, Part};
 ///
 /// `BadField` with `value` where there is none; then with `points` where points stand beside `start`,
 /// `stop` or `step`.
-pub fn write_of(body: ValueBody) -> Result<(Part, KeptTree), BodyFault>
+pub fn write_of(body: ValueBody) -> Result<(Part, KeptValue), BodyFault>
     ensures exact { Answers result (write_by body) }
     ensures memory { IsErrOf result NoMemory → ⊥ }
 {

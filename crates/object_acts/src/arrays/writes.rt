@@ -24,7 +24,7 @@ use crate::arrays::faults::{Stop, refused_dims, refused_slab, settle};
 use crate::arrays::{MAX_BYTES, MAX_NEW_BYTES};
 use crate::fault::ChangeFault;
 use chunk_store::Array;
-use hdf_values::read_kept;
+use hdf_values::KeptValue;
 use hyperslab::{Slab, from_lists};
 use json_trees::KeptTree;
 use object_ops::{Part, Reply};
@@ -45,7 +45,7 @@ pub fn write_value(
     alloc: Global,
     array: &mut Array,
     part: &Part,
-    value: &KeptTree,
+    value: &KeptValue,
 ) -> Result<Reply, ChangeFault>
     ensures acts { Follows (value_written part.now value.now array.old.grid) array.old.grid
         result array.new.grid }
@@ -90,7 +90,7 @@ fn write_lists(
     start: &Option<KeptTree>,
     stop: &Option<KeptTree>,
     step: &Option<KeptTree>,
-    value: &KeptTree,
+    value: &KeptValue,
 ) -> Result<Reply, ChangeFault>
     ensures acts { Follows (slab_written array.old.grid value.now
         (lists_slab array.old.grid.shape start.now stop.now step.now))
@@ -118,7 +118,7 @@ fn write_slab(
     alloc: Global,
     array: &mut Array,
     slab: &Slab,
-    value: &KeptTree,
+    value: &KeptValue,
 ) -> Result<Reply, Stop>
     requires slab { IsSlab slab.now }
     requires inside { SlabIn slab.now array.old.grid.shape }
@@ -150,7 +150,7 @@ fn write_points(
     alloc: Global,
     array: &mut Array,
     points: &KeptTree,
-    value: &KeptTree,
+    value: &KeptValue,
 ) -> Result<Reply, Stop>
     ensures acts { Follows (points_written array.old.grid value.now
         (points_of points.now array.old.grid.shape))
@@ -191,7 +191,7 @@ fn elements(
     array: &Array,
     many: u64,
     extents: &Dims,
-    value: &KeptTree,
+    value: &KeptValue,
 ) -> Result<Vec<u8>, Stop>
     requires few { many ≤ MAX_SELECTED }
     ensures read { Gives Tells (λ v. v.items) result
@@ -204,5 +204,5 @@ fn elements(
     if bytes > MAX_BYTES {
         return Err(Stop::Refused(too_many_bytes(bytes)));
     }
-    Ok(read_kept(alloc, array.elem(), extents, value)?)
+    Ok(value.elements(alloc, array.elem(), extents)?)
 }

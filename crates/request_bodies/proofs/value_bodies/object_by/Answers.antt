@@ -6,7 +6,7 @@ use Rattle.serde_json.specs.Data.{object}
 use Rattle.serde_json.specs.Read.{max_depth}
 use Rattle.json_trees.specs.Copied.{Reads}
 use Rattle.request_bodies.proofs.ValueBodyLemmas.{members_refused, more_behind, no_object, whole_read}
-use Rattle.request_bodies.proofs.value_bodies.object_in.Goals as goal
+use Rattle.request_bodies.proofs.value_bodies.object_by.Goals as goal
 
 pub returns-then-not-begins_object-clause-refused : goal.returns-then-not-begins_object-clause-refused
 returns-then-not-begins_object-clause-refused c refused all e =
