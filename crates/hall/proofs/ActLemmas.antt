@@ -1,5 +1,5 @@
 -- A lane's turn: its owner is ready for it, and what the owner does is what the turn's item says.
-use Rattle.std.proofs.Common.{◌≡◌, ℕ, Bool, true, false, true≢false, List, ◌∷◌, Option, Some, None, sym, ap, ◌∙◌, subst}
+use Rattle.std.proofs.Common.{◌≡◌, ℕ, Bool, true, false, true≢false, List, [], ◌∷◌, ◌++◌, Option, Some, None, sym, ap, ◌∙◌, subst}
 use Rattle.std.specs.declared.snapshot.Snapshot.{Snapshot}
 use Rattle.object_acts.specs.Objects.{Objects}
 use Rattle.object_ops.specs.declared.grants.Grant.{Grant}
@@ -10,7 +10,7 @@ use Rattle.chunk_owner.specs.Acts.{IsTouchedIn, touched}
 use Rattle.chunk_owner.specs.Lanes.{IsSameLane, Lane}
 use Rattle.chunk_owner.specs.Slots.Slots.{StillSays}
 use Rattle.register.specs.Decided.{RegisterState}
-use Rattle.lane_histories.specs.Histories.{History, objects_left, part_of}
+use Rattle.lane_histories.specs.Histories.{History, LaneList, objects_left, part_of}
 use Rattle.lane_histories.specs.Legal.{IsLegalOutcome, IsNext, is_skipped}
 use Rattle.lane_histories.specs.Services.{Service}
 use Rattle.lane_histories.specs.Since.{TurnsStaySince}
@@ -36,7 +36,7 @@ use Rattle.hall_rule.specs.TurnLaws.{LaneTurns}
 use Rattle.hall_rule.specs.WholeTurns.{HasActed, IsReadyToPass, IsToSkip, MayAct, MayLook}
 use Rattle.service_histories.specs.ArrayServices.{array_service, task_of}
 use Rattle.service_histories.specs.Calls.{TurnsAreAtHome}
-use Rattle.service_histories.specs.Cuttings.{OwnersMark}
+use Rattle.service_histories.specs.Cuttings.{MarksOnly, OwnersMark, then_item}
 use Rattle.service_histories.specs.Markings.{array_marking}
 use Rattle.service_histories.specs.Readies.{IsGivenIn, Needs, TurnsFindWhatTheyNeed}
 use Rattle.service_histories.specs.declared.tasks.Task.{Task}
@@ -76,17 +76,22 @@ module _ {D K : Type 0} (met : Ghosts D K) (start : ArrayStart K) where
   abbrev Hand : Type 0
   Hand = HallHand (service start) RegisterState Lane (NotedDesk D) K
 
-  -- what was changed is marked
+  -- what was changed is marked, and nothing else
   marks : ((lanes : ℕ) → OwnersMark lanes) → ((lanes : ℕ) → TurnsStaySince (array_marking lanes)) → (lane : ℕ) (old new : Lane)
-      → IsSameLane old new → StillSays old.slots new.slots → (was : Lane) → machines_of.OwnerIsSince old lane was
-      → machines_of.OwnerIsSince new lane was
+      → IsSameLane old new → StillSays old.slots new.slots → (place : ℕ) (part : Part) (task : Task) (y : Outcome Reply) → MarksOnly task y old new
+      → new.objects ≡ objects_left (service start) task y old.objects
+      → (items : LaneList (service start)) (was : Lane) → machines_of.OwnerIsSince old lane items was
+      → machines_of.OwnerIsSince new lane (items ++ Passed place part task y ∷ []) was
   unfolding desk_machines
-  marks mark stay lane old new same says was is = record {
-    lane_is = same.lane ∙ is.lane_is;
-    lanes_are = same.lanes ∙ is.lanes_are;
-    same = record { lane = same.lane ∙ is.same.lane; lanes = same.lanes ∙ is.same.lanes };
-    still = is.still;
-    since = stay (lanes_in start) lane was old new is.since (mark (lanes_in start) lane old new same says);
+  marks mark stay lane old new same says place part task y alone went items was is = record {
+    owner = record {
+      lane_is = same.lane ∙ is.owner.lane_is;
+      lanes_are = same.lanes ∙ is.owner.lanes_are;
+      same = record { lane = same.lane ∙ is.owner.same.lane; lanes = same.lanes ∙ is.owner.same.lanes };
+      still = is.owner.still;
+      since = stay (lanes_in start) lane was old new is.owner.since (mark (lanes_in start) lane old new same says);
+    };
+    alone = then_item items (Passed place part task y) old new is.alone went alone;
   }
 
 module _ {D K : Type 0} (met : Ghosts D K) {start : ArrayStart K} where
@@ -133,8 +138,8 @@ module _ {D K : Type 0} (met : Ghosts D K) {start : ArrayStart K} where
               home (lanes_in start) (world_of (machines_of met start) start) (history_of (service start) t.seen)
               (record { some = opened.some_lane; count = opened.lanes })
               t.grown.legal lane place part g op step next in
-              subst (λ (k : ℕ). IsTouchedIn k d.owner.lanes (touched g op step)) (sym stands.since.lane_is)
-              (subst (λ (k : ℕ). IsTouchedIn lane k (touched g op step)) (sym stands.since.lanes_are) own)
+              subst (λ (k : ℕ). IsTouchedIn k d.owner.lanes (touched g op step)) (sym stands.since.owner.lane_is)
+              (subst (λ (k : ℕ). IsTouchedIn lane k (touched g op step)) (sym stands.since.owner.lanes_are) own)
 
         pub ready_for : {place : ℕ} {part : Part} {skip : Bool} → IsOpened start → LaneTurns (machines_of met start)
             → ((lanes : ℕ) → TurnsFindWhatTheyNeed lanes) → ((lanes : ℕ) → TurnsAreAtHome lanes) → (g : Grant) (op : Op) (step : Option Step)
@@ -155,10 +160,10 @@ module _ {D K : Type 0} (met : Ghosts D K) {start : ArrayStart K} where
           pub may_pass : ((lanes : ℕ) → OwnersMark lanes) → ((lanes : ℕ) → TurnsStaySince (array_marking lanes))
               → (noted : Outcome (Snapshot Reply)) → new.news ≡ Some (Acts noted) → plain_outcome noted ≡ outcome
               → Performs task d.owner.objects outcome new.owner.objects → is_skipped outcome ≡ skip
-              → IsSameLane d.owner new.owner → StillSays d.owner.slots new.owner.slots
+              → IsSameLane d.owner new.owner → StillSays d.owner.slots new.owner.slots → MarksOnly task outcome d.owner new.owner
               → IsReadyToPass (machines_of met start) start (at_lane lane (Passed place part task outcome) new.owner) back
           unfolding desk_machines
-          may_pass mark stay noted news same did skips alike says =
+          may_pass mark stay noted news same did skips alike says alone =
               let old = d.owner.objects in
               subst (λ (y : Outcome Reply). IsReadyToPass (machines_of met start) start (at_lane lane (Passed place part task y) new.owner) back) same
               ((laws.turn start lane n first taken back d new t here mine).may_act place part task skip noted may news
@@ -167,7 +172,11 @@ module _ {D K : Type 0} (met : Ghosts D K) {start : ArrayStart K} where
               may.to_skip did skips))
               (subst (λ (y : Outcome Reply). new.owner.objects ≡ objects_left (service start) task y old) (sym same)
               (left_by (lanes_in start) task old new.owner.objects outcome did))
-              (ap (λ (y : Outcome Reply). is_skipped y) same ∙ skips) (marks met start mark stay lane d.owner new.owner alike says))
+              (ap (λ (y : Outcome Reply). is_skipped y) same ∙ skips)
+              (subst (λ (y : Outcome Reply). (items : LaneList (service start)) (was : Lane) → (machines_of met start).OwnerIsSince d.owner lane items was
+              → (machines_of met start).OwnerIsSince new.owner lane (items ++ Passed place part task y ∷ []) was) (sym same)
+              (marks met start mark stay lane d.owner new.owner alike says place part task outcome alone
+              (left_by (lanes_in start) task old new.owner.objects outcome did))))
 
           pub has_acted : {w : ArrayView K} → HasPassed (machines_of met start) start (at_lane lane (Passed place part task outcome) new.owner) back.0 w
               → HasActed (machines (lanes_in start)) start lane place part task outcome first.0 w

@@ -1,5 +1,5 @@
 -- What a turn does in which a lane or the register is cut.
-use Rattle.std.proofs.Common.{◌≡◌, ℕ, suc, ◌+◌, ◌<◌, Bool, true, false, List, [], ◌∷◌, Option, Some, None, Result, Ok, Err, length, slice_index}
+use Rattle.std.proofs.Common.{◌≡◌, inl, ℕ, suc, ◌+◌, ◌<◌, Bool, true, false, List, [], ◌∷◌, ◌++◌, Option, Some, None, Result, Ok, Err, length, slice_index}
 use Rattle.std.proofs.Common.{refl, sym, ap, subst, ◌∙◌, arith}
 use Rattle.std.specs.Result.{is_ok, OnErr, OnOk}
 use Rattle.std.specs.declared.alloc.AllocError.{AllocError}
@@ -21,8 +21,9 @@ use Rattle.register.specs.Marks.{no_marks}
 use Rattle.register.specs.Tickets.{turns_from}
 use Rattle.register.specs.declared.tickets.Turn.{Turn}
 use Rattle.register.specs.declared.verdicts.Verdict.{Verdict}
-use Rattle.lane_histories.specs.Cuts.{register_cut}
+use Rattle.lane_histories.specs.Cuts.{behind_cut, register_cut}
 use Rattle.lane_histories.specs.Histories.{drawn, objects_after, places, register_after, register_at}
+use Rattle.lane_histories.specs.declared.items.LaneItem.{LaneItem}
 use Rattle.lane_histories.specs.declared.items.LaneItem.TheVariants.{WasCut}
 use Rattle.lane_histories.specs.declared.items.RegisterItem.TheVariants.{DrawnCut, RegisterCut}
 use Rattle.hall_rule.specs.Claims.{claim, count_of, holds}
@@ -44,7 +45,8 @@ use Rattle.hall_rule.specs.declared.slot.Slot.TheVariants.{AtLane, AtRegister}
 use Rattle.service_histories.specs.ArrayServices.{Asked, KeptPart, array_service, kept_part}
 use Rattle.service_histories.specs.Calls.{CutsLeave}
 use Rattle.service_histories.specs.Counts.{RegistersCount}
-use Rattle.service_histories.specs.Cuttings.{CutsOwner, CutsRegister, IsOwnerSince, IsRegisterSince, KeptRegistersAreParts}
+use Rattle.service_histories.specs.declared.tasks.Task.{Task}
+use Rattle.service_histories.specs.Cuttings.{CutsOwner, CutsRegister, IsOwnerMarked, IsRegisterSince, KeptRegistersAreParts, no_item, then_item}
 use Rattle.service_histories.specs.JournalParts.{IsKeptPart}
 use Rattle.service_histories.specs.Markings.{IsOwner}
 use Rattle.service_histories.specs.Tellings.{KeptRegistersAreSince, objects_in}
@@ -216,14 +218,20 @@ module _ {D K : Type 0} (met : Ghosts D K) {start : ArrayStart K} {lane n : ℕ}
   owner_marks : (new : Lane) (cut place : ℕ) (found : Result (Unit {0}) AllocError) → IsSameLane d.owner new → OnErr found (new ≡ d.owner)
       → OnOk found (AreStill new.slots) → MarksLane (desk_machines met (lanes_in start)) lane (WasCut cut place (is_ok found)) d.owner new
   unfolding desk_machines
-  owner_marks new cut place (Ok x) same none still = let was = owner_here.since in record {
-    lane_is = same.lane ∙ was.lane_is;
-    lanes_are = same.lanes ∙ was.lanes_are;
-    same = record { lane = refl; lanes = refl };
-    still = still;
-    since = λ held said. said;
+  owner_marks new cut place (Ok x) same none still = let was = owner_here.since.owner in record {
+    owner = record {
+      lane_is = same.lane ∙ was.lane_is;
+      lanes_are = same.lanes ∙ was.lanes_are;
+      same = record { lane = refl; lanes = refl };
+      still = still;
+      since = λ held said. said;
+    };
+    alone = no_item;
   }
-  owner_marks new cut place (Err e) same is none = λ was since. subst (λ (o : Lane). IsOwnerSince (lanes_in start) lane was o) (sym is) since
+  owner_marks new cut place (Err e) same is none = λ items was since.
+      let i : LaneItem Task Reply = WasCut cut place false in
+      subst (λ (o : Lane). IsOwnerMarked (lanes_in start) lane (items ++ i ∷ []) was o) (sym is)
+      (record { owner = since.owner; alone = then_item items i d.owner d.owner since.alone refl (λ key marked. inl marked) })
 
   module _ {back : HallHand (array_service (lanes_in start)) RegisterState Lane (NotedDesk D) K} {new : LaneSlot Lane Reply}
       (laws : LaneTurns (desk_machines met (lanes_in start)))
@@ -257,7 +265,8 @@ module _ {D K : Type 0} (met : Ghosts D K) {start : ArrayStart K} {lane n : ℕ}
               objects_after (array_service (lanes_in start)) (objects_in start.owners lane) (lane_of h.lanes lane)) (sym p.1);
           was = owner_here.was;
           was_is = ap (λ (h : SeenLists (array_service (lanes_in start)) Lane). was_of h lane) p.1 ∙ owner_here.was_is;
-          since = owner_here.since;
+          since = subst (λ (h : SeenLists (array_service (lanes_in start)) Lane). IsOwnerMarked (lanes_in start) lane (behind_cut (lane_of h.lanes lane))
+              owner_here.was d.owner) (sym p.1) owner_here.since;
           adds = adds;
         }
 

@@ -10,15 +10,16 @@ use native.Mathlib.Decide.{ℕ_discrete, dec_le}
 use lib.ListN.{get_elem?}
 use Rattle.atomic_table.specs.declared.badge.Badge.{Badge}
 use Rattle.chunk_owner.specs.Lanes.{Lane}
-use Rattle.flush_journal.specs.Records.{Held, Record}
+use Rattle.flush_journal.specs.Records.{Record}
+use Rattle.object_acts.specs.Objects.{Objects}
 use Rattle.object_ops.specs.declared.replies.Reply.{Reply}
 use Rattle.register.specs.Decided.{RegisterState}
 use Rattle.register.specs.declared.tickets.Turn.{Turn}
 use Rattle.register.specs.declared.verdicts.Verdict.{Verdict}
 use Rattle.journal_desk.specs.Cuts.{Adds, AddsRecords, CutsInLane, DrawsCut, TakesCut, TakesRegisterCut, WritesCatalogue}
 use Rattle.journal_desk.specs.Notes.{AreAlike}
-use Rattle.lane_histories.specs.Cuts.{register_cut}
-use Rattle.lane_histories.specs.Histories.{History, IsIn, StartsWith, changed_at, cut_of, drawn, entries, objects_after, own, places, register_after, register_at}
+use Rattle.lane_histories.specs.Cuts.{behind_cut, register_cut}
+use Rattle.lane_histories.specs.Histories.{History, IsIn, LaneList, StartsWith, changed_at, cut_of, drawn, entries, objects_after, own, places, register_after, register_at}
 use Rattle.lane_histories.specs.Legal.{IsLegal, with_lane_item, with_register_item}
 use Rattle.lane_histories.specs.Services.{Service, World}
 use Rattle.lane_histories.specs.declared.items.LaneItem.{LaneItem}
@@ -39,7 +40,7 @@ use Rattle.hall_rule.specs.declared.queue.Claim.{Claim}
 use Rattle.hall_rule.specs.declared.queue.Queue.TheVariants.{OfDesk, OfRegister}
 use Rattle.hall_rule.specs.declared.view.Lists.{Lists}
 use Rattle.service_histories.specs.ArrayServices.{Asked, KeptPart, array_service, kept_part}
-use Rattle.service_histories.specs.Cuttings.{IsRegisterSince}
+use Rattle.service_histories.specs.Cuttings.{IsOwnerMarked, IsRegisterSince}
 use Rattle.service_histories.specs.KeptArrays.{OwnerCutsWrite, RegisterCutsWrite, array_kept}
 use Rattle.service_histories.specs.Tellings.{objects_in, opening}
 use Rattle.service_histories.specs.declared.tasks.Task.{Task}
@@ -238,7 +239,7 @@ module _ {K : Type 0} (start : ArrayStart K) where
     -- the register was cut
     adds_records : (found : Bool) (c : KeptPart) (old new : RegisterState) (first last : List Record) → RegisterCutsWrite (lanes_in start)
         → IsRegisterSince c old → AddsRegister found old new first last
-        → AddsRecords found (WritesCatalogue (array_kept (lanes_in start)) c (kept_part old)) first last
+        → AddsRecords found (WritesCatalogue (array_kept (lanes_in start)) c old) first last
     adds_records true c old new first last write since adds = write c old new first last since adds
     adds_records false c old new first last write since adds = adds.1
 
@@ -258,27 +259,25 @@ module _ {K : Type 0} (start : ArrayStart K) where
           step = register_adds (RegisterCut (places d.before.register) found) v w t held;
           p_is = ap (λ (items : List (RegisterItem Asked Verdict)). places items) same;
           cut = subst (λ (items : List (RegisterItem Asked Verdict)). AddsRecords found (WritesCatalogue (array_kept (lanes_in start))
-              (kept_part (register_at s (register_cut items) start.register items)) (kept_part (register_after s start.register items)))
+              (kept_part (register_at s (register_cut items) start.register items)) (register_after s start.register items))
               first last) same
               (subst (λ (x : RegisterState). AddsRecords found (WritesCatalogue (array_kept (lanes_in start))
-              (kept_part (register_at s (register_cut d.before.register) start.register d.before.register)) (kept_part x)) first last) c.now records);
+              (kept_part (register_at s (register_cut d.before.register) start.register d.before.register)) x) first last) c.now records);
         }))
 
     -- a lane was cut
     module _ (lane cut place : ℕ) (v w : ArrayView K) where
-      cuts_in_lane : (found : Bool) (old new was : Lane) (mid : SeenLists s Lane) (first last : List Record) → OwnerCutsWrite (lanes_in start)
-          → old.lane ≡ lane → old.lanes ≡ lanes_in start → (owner_at v.seen.was lane ≡ was) × (lane < length v.seen.was)
-          → ((x : Held) → (array_kept (lanes_in start)).marking.Says x lane was → (array_kept (lanes_in start)).marking.Says x lane old)
+      cuts_in_lane : (found : Bool) (items : LaneList s) (old new was : Lane) (mid : SeenLists s Lane) (first last : List Record) → OwnerCutsWrite (lanes_in start)
+          → (owner_at v.seen.was lane ≡ was) × (lane < length v.seen.was) → IsOwnerMarked (lanes_in start) lane items was old
           → mid.was ≡ v.seen.was → w.seen.was ≡ cut_with mid.was lane (let i : LaneItem Task Reply = WasCut cut place found in i) new
           → AddsOwner found old new first last
-          → CutsInLane (array_kept (lanes_in start)) found lane old.objects (owner_at v.seen.was) (owner_at w.seen.was) first last
-      cuts_in_lane true old new was mid first last write home many there since stays now adds =
-          subst (λ (later : ℕ → Lane). CutsInLane (array_kept (lanes_in start)) true lane old.objects (owner_at v.seen.was) later first last)
+          → CutsInLane (array_kept (lanes_in start)) found lane items old.objects (owner_at v.seen.was) (owner_at w.seen.was) first last
+      cuts_in_lane true items old new was mid first last write there since stays now adds =
+          subst (λ (later : ℕ → Lane). CutsInLane (array_kept (lanes_in start)) true lane items old.objects (owner_at v.seen.was) later first last)
           (sym (ap owner_at (now ∙ ap (λ (os : List Lane). set os lane new) stays) ∙ owner_set v.seen.was lane new there.1))
-          (write lane (owner_at v.seen.was) old new first last home many
-          (subst (λ (o : Lane). (x : Held) → (array_kept (lanes_in start)).marking.Says x lane o → (array_kept (lanes_in start)).marking.Says x lane old)
-          (sym there.0) since) adds)
-      cuts_in_lane false old new was mid first last write home many there since stays now adds =
+          (write lane items (owner_at v.seen.was) old new first last
+          (subst (λ (o : Lane). IsOwnerMarked (lanes_in start) lane items o old) (sym there.0) since) adds)
+      cuts_in_lane false items old new was mid first last write there since stays now adds =
           record { later_is = ap owner_at (now ∙ stays); appended = adds.1 }
 
     pub takes_cut : (lane cut place : ℕ) (found : Bool) (first last : List Record) (v w : ArrayView K) → v.start ≡ Some start
@@ -297,9 +296,10 @@ module _ {K : Type 0} (start : ArrayStart K) where
         subst (λ (o : Option (ArrayStart K)). TakesCut (array_kept (lanes_in start)) (begun_by o) (history_of s v.seen) (history_of s w.seen)
         (owner_at v.seen.was) (owner_at w.seen.was) lane cut place found first last) (sym begun) (record {
           step = lane_adds lane (WasCut cut place found) c.new (others_of v.claims) v w t held sized few;
-          cut = subst (λ o. CutsInLane (array_kept (lanes_in start)) found lane o (owner_at v.seen.was) (owner_at w.seen.was) first last) objects
-              (cuts_in_lane lane cut place v w found c.old c.new c.was mid first last write c.since.lane_is c.since.lanes_are
-              (elem_there v.seen.was lane c.was at) c.since.since stays now c.adds);
+          cut = subst (λ (x : LaneList s × Objects). CutsInLane (array_kept (lanes_in start)) found lane x.0 x.1 (owner_at v.seen.was) (owner_at w.seen.was)
+              first last) (λ i. (behind_cut (t.alone.0 i), objects i))
+              (cuts_in_lane lane cut place v w found (behind_cut (lane_of t.before.lanes lane)) c.old c.new c.was mid first last write
+              (elem_there v.seen.was lane c.was at) c.since stays now c.adds);
         })
 
   -- ---- how the pass stands

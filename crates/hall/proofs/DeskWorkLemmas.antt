@@ -20,6 +20,7 @@ use Rattle.journal_desk.specs.Cuts.{Resumes}
 use Rattle.journal_desk.specs.Desks.{HoldSince, HoldsKept}
 use Rattle.journal_desk.specs.Keepings.{AreItsKeepings, Continues, HasKept as KeepsSince, IsAllKept, StaysOwed, answer_of, keeping_of, lists, owed_by}
 use Rattle.journal_desk.specs.Notes.{AreAlike, NoteOf, at_lanes}
+use Rattle.journal_desk.specs.Owed.{AppendsCuts}
 use Rattle.journal_desk.specs.Standing.{Standing}
 use Rattle.journal_desk.specs.declared.note.Note.{Ghosts as Notes}
 use Rattle.lane_histories.specs.Cuts.{GoesOn}
@@ -34,7 +35,7 @@ use Rattle.lane_histories.specs.declared.items.Keeping.{Keeping}
 use Rattle.lane_histories.specs.declared.items.Reach.{Reach}
 use Rattle.lane_histories.specs.declared.items.RegisterItem.{RegisterItem}
 use Rattle.lane_histories.specs.declared.items.RegisterItem.TheVariants.{DrawnCut, Entered, RegisterCut}
-use Rattle.lane_histories.proofs.Lists.{all_both, all_weaker}
+use Rattle.lane_histories.proofs.Lists.{all_both, all_weaker, in_longer}
 use Rattle.register.specs.Decided.{RegisterState}
 use Rattle.register.specs.declared.verdicts.Verdict.{Verdict}
 use Rattle.hall_rule.specs.Claims.{busy, claim, numbers}
@@ -318,7 +319,7 @@ reached_at met notes Flush before after (Ok n) done answer = ap met.moment (sym 
 reached_at met notes Flush before after (Err why) done answer = absurd (let never : Refused ≡ Kept = answer in cc)
 reached_at met notes (FlushPast place) before after (Ok n) done answer = refl
 reached_at met notes (FlushPast place) before after (Err why) done answer = absurd (let never : Refused ≡ Kept = answer in cc)
-reached_at met notes KeepRegister before after (Ok n) done answer = ap met.moment (sym done.all.at)
+reached_at met notes KeepRegister before after (Ok n) done answer = ap met.moment (sym done.0.all.at)
 reached_at met notes KeepRegister before after (Err why) done answer = absurd (let never : Refused ≡ Kept = answer in cc)
 reached_at met notes Look before after result done answer = absurd (let never : Looked ≡ Kept = answer in cc)
 
@@ -371,8 +372,8 @@ follows_by met notes (FlushPast place) before after result done = dite (dec_le (
       done = done_by met notes (λ r. r.c) before after result all;
     })
 follows_by met notes KeepRegister before after result done = record {
-  settled = settled_by met notes (λ r. r.p) before after result done before.pending refl;
-  done = done_by met notes (λ r. r.p) before after result done;
+  settled = settled_by met notes (λ r. r.p) before after result done.0 before.pending refl;
+  done = done_by met notes (λ r. r.p) before after result done.0;
 }
 follows_by met notes Look before after result done =
     let same = ap left_of done.0 in record { settled = λ some. inl same; done = λ answer. inl same }
@@ -410,17 +411,22 @@ module _ {D J : Type 0} (met : Disks D) {ghosts : Ghosts J (Snapshot (Journal D 
 
   -- the desk went on
   pub gone_on : before.disk ≡ st.disk → (met.honest → KeepsSince met (hall_notes st'.lanes) st' (met.moment st'.disk) st'.kept)
-      → (met.honest → KeepsSince met (hall_notes st'.lanes) st' (met.moment st'.at) st'.kept) → (met.honest → met.moment st'.at ≤ met.moment st'.disk)
+      → (met.honest → KeepsSince met (hall_notes st'.lanes) st' (met.moment st'.at) st'.kept)
+      → (met.honest → (i : Keeping) → IsIn (lists met (hall_notes st'.lanes) st').keepings i → i.answer ≡ Kept
+      → KeepsSince met (hall_notes st'.lanes) st' i.moment i.own)
+      → (met.honest → met.moment st'.at ≤ met.moment st'.disk)
       → (met.honest → st'.pending ≡ None → (image : List ℕ) → met.images st'.disk image
       → HoldsKept (array_kept st'.lanes) ((hall_notes st'.lanes).start st'.note) (lists met (hall_notes st'.lanes) st') st'.kept image)
       → AreOfCuts (hall_notes st'.lanes) st' → OwesItsCuts (hall_notes st'.lanes) st' → HasGoneOn met start before st'
-  gone_on same images reached by_now settled cuts owed =
+  gone_on same images reached each by_now settled cuts owed =
       let since = (since_here met start old lanes st reads v.seen is).1 in record {
         first = subst (SameDisk met (disk_of start.desk.value)) (sym same) since.disk;
         went = subst (λ (k : ℕ). Continues met (hall_notes k) before st') since.lanes continues;
         since = journal_goes_on met st before st' resumed continues fits start since;
         images = λ honest. subst (λ (k : ℕ). KeepsSince met (hall_notes k) st' (met.moment st'.disk) st'.kept) many (images honest);
         reached = λ honest. subst (λ (k : ℕ). KeepsSince met (hall_notes k) st' (met.moment st'.at) st'.kept) many (reached honest);
+        each = subst (λ (k : ℕ). met.honest → (i : Keeping) → IsIn (lists met (hall_notes k) st').keepings i → i.answer ≡ Kept
+            → KeepsSince met (hall_notes k) st' i.moment i.own) many each;
         by_now = by_now;
         settled = subst (λ (k : ℕ). met.honest → st'.pending ≡ None → (image : List ℕ) → met.images st'.disk image
             → HoldsKept (array_kept k) ((hall_notes k).start st'.note) (lists met (hall_notes k) st') st'.kept image) many settled;
@@ -606,7 +612,7 @@ module _ {D : Type 0} (met : Disks D) (start : ArrayStart (Snapshot (Journal D m
 
 module _ {D : Type 0} (met : Disks D) (start : ArrayStart (Snapshot (Journal D met))) (k : ℕ)
     (before after : Standing D (HallNote (Snapshot (Journal D met)))) (result : Result ℕ Why) (v w : ArrayView (Snapshot (Journal D met)))
-    (far : places v.seen.register ≤ places (seen_in before.note).register) (gone : HasGoneOn met start before after)
+    (many : k ≡ lanes_in start) (owing : OwesItsCuts (hall_notes k) before) (far : places v.seen.register ≤ places (seen_in before.note).register) (gone : HasGoneOn met start before after)
     (begins : GrowsFrom w.seen (of_lanes (lanes_in start) (seen_in after.note))) (stays : StaysKept (array_service (lanes_in start))) where
   -- what its note has
   noted_in : (d : Standing D (HallNote (Snapshot (Journal D met)))) → after ≡ d → (item : Keeping)
@@ -618,6 +624,8 @@ module _ {D : Type 0} (met : Disks D) (start : ArrayStart (Snapshot (Journal D m
         all = found.2;
         begins = here;
         images = λ honest. kept_later met start d went.since stays t.seen t.legal here (met.moment d.disk) d.kept (went.images honest);
+        each = λ honest i was is. kept_later met start d went.since stays t.seen t.legal here i.moment i.own
+            (went.each honest i (in_longer (seen_in d.note).keepings t.before.keepings i found.2.keepings was) is);
       }
 
   to_here : (reached : Reach → ℕ) → (t : HasKept (machines (lanes_in start)) start (keeping_of met before after result) [] v w)
@@ -637,6 +645,8 @@ module _ {D : Type 0} (met : Disks D) (start : ArrayStart (Snapshot (Journal D m
     full = done.full;
     first = done.first;
     stopped = done.stopped;
+    owing = subst (λ (n : ℕ). OwesItsCuts (hall_notes n) before) many owing;
+    wrote = subst (λ (n : ℕ). AppendsCuts (hall_notes n) before after result) many done.wrote;
   }
 
   -- the place was kept already
@@ -673,13 +683,14 @@ module _ {D : Type 0} (met : Disks D) (start : ArrayStart (Snapshot (Journal D m
 
   pub turn_is : (work : DeskWork) → (t : HasKept (machines (lanes_in start)) start (item_of met before after work result) [] v w)
       × IsFound start before after t.before → HasDone met (hall_notes k) work before after result → IsTurnOf met work start result v w
+  unfolding to_here
   turn_is Flush turn done = to_here (λ r. r.c) turn done
   turn_is (FlushPast place) turn done = dite (dec_le (place + 1) before.kept.c)
       (λ more.
       let past : place < before.kept.c = omega (arith, more) in inl (shared_here place past turn (done.shared past)))
       (λ no_more.
       let most : before.kept.c ≤ place = omega (arith, no_more) in inr (flushed_here place most turn (done.flushed most)))
-  turn_is KeepRegister turn done = to_here (λ r. r.p) turn done
+  turn_is KeepRegister turn done = (to_here (λ r. r.p) turn done.0, done.1)
   turn_is Look turn done =
       let looked = subst (λ (d : Standing D (HallNote (Snapshot (Journal D met)))). (t : HasKept (machines (lanes_in start)) start
       (record (keeping_of met before d (Ok before.kept.c)) { answer = Looked }) [] v w)

@@ -119,7 +119,7 @@ module _ {D : Type 0} (met : Disks D) (start : ArrayStart (Snapshot (Journal D m
   none_or_one None t = inl t.1
   none_or_one (Some Flush) t = inr (_, t.2.turn)
   none_or_one (Some (FlushPast place)) t = inr (one_kept met start place t.0 mid w t.2)
-  none_or_one (Some KeepRegister) t = inr (_, t.2.turn)
+  none_or_one (Some KeepRegister) t = inr (_, t.2.0.turn)
   none_or_one (Some Look) t = inr (_, t.2.2.turn)
 
   module _ (work : Option DeskWork) (turn : HasKeptFor met work start kept mid w) where
@@ -177,4 +177,4 @@ module _ {D : Type 0} (met : Disks D) (start : ArrayStart (Snapshot (Journal D m
     pub change_past : work ≡ Some KeepRegister → IsKeptPast (λ r. r.p) w place
     change_past is =
         let t = subst (λ (x : Option DeskWork). HasKeptFor met x start kept v w) is turn in
-        past_by (λ r. r.p) t.0 (sym t.1 ∙ done) t.2
+        past_by (λ r. r.p) t.0 (sym t.1 ∙ done) t.2.0

@@ -20,7 +20,7 @@ use Rattle.hall_rule.specs.Seen.{GrowsUncut, IsNoRegisterCut, history_of, lane_o
 use Rattle.hall_rule.specs.Standing.{IsFreshDesk}
 use Rattle.service_histories.specs.ArrayServices.{array_service, cut_drawn, cut_recorded, kept_part}
 use Rattle.service_histories.specs.Closings.{AreOwnersAfter, IsWorldSince, WorldsClose}
-use Rattle.service_histories.specs.Cuttings.{IsOwnerSince, IsRegisterSince}
+use Rattle.service_histories.specs.Cuttings.{IsOwnerSince, IsRegisterSince, no_item}
 use Rattle.service_histories.specs.Readies.{IsGivenIn}
 use Rattle.service_histories.specs.Tellings.{IsOpening, KeptRegistersAreSince}
 use Rattle.hall.specs.Answers.{ArrayStart, ArrayView}
@@ -70,8 +70,11 @@ module _ {D : Type 0} (s : State) (new : IsNewWorld s) (built : IsBuilt s.regist
         given = opening.given;
         fresh = record {
           register = since s.register new.kept.register;
-          owners = λ lane o at. subst (λ (j : ℕ). IsOwnerSince n j o o) (let e : 0 + lane ≡ lane = omega arith in e)
-              (owner_since n 0 lane s.lanes o built.lanes new.kept.lanes at);
+          owners = λ lane o at. record {
+            owner = subst (λ (j : ℕ). IsOwnerSince n j o o) (let e : 0 + lane ≡ lane = omega arith in e)
+                (owner_since n 0 lane s.lanes o built.lanes new.kept.lanes at);
+            alone = no_item;
+          };
         };
       }
 
@@ -127,8 +130,8 @@ module _ {D K : Type 0} (met : Ghosts D K) (start : ArrayStart K) (opened : IsOp
     each = λ l owner at.
         let is = closed.owners_are l (let few = slice_get_within owners l owner at in let count = closed.count in omega arith) in
         let same = same_value is.0 owner (sym (in_slice owners l is.0 is.1) ∙ at) in record {
-          lane_is = ap (λ (o : Lane). o.lane) (sym same) ∙ is.2.since.lane_is;
-          lanes_are = ap (λ (o : Lane). o.lanes) (sym same) ∙ is.2.since.lanes_are;
+          lane_is = ap (λ (o : Lane). o.lane) (sym same) ∙ is.2.since.owner.lane_is;
+          lanes_are = ap (λ (o : Lane). o.lanes) (sym same) ∙ is.2.since.owner.lanes_are;
           whole = whole l owner at;
           objects = ap (λ (o : Lane). o.objects) (sym same) ∙ is.2.now;
         };
@@ -150,7 +153,7 @@ module _ {D K : Type 0} (met : Ghosts D K) (start : ArrayStart K) (opened : IsOp
         (let few = slice_get_within owners l last here in let count = closed.count in omega arith) in
         let same_last = same_value is.0 last (sym (in_slice owners l is.0 is.1) ∙ here) in
         let same_first = same_value is.2.was first (sym (in_slice closed.seen.was l is.2.was is.2.was_is) ∙ at) in
-        subst (λ (x : Lane × Lane). IsOwnerSince (lanes_in start) l x.0 x.1) (λ i. (same_first i, same_last i)) is.2.since;
+        subst (λ (x : Lane × Lane). IsOwnerSince (lanes_in start) l x.0 x.1) (λ i. (same_first i, same_last i)) is.2.since.owner;
   }
 
   ended : HasEnded start v (record { register = register; lanes = owners })

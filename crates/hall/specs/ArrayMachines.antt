@@ -17,7 +17,7 @@ use Rattle.hall_rule.specs.Seen.{nothing}
 use Rattle.hall_rule.specs.Standing.{IsFresh}
 use Rattle.service_histories.specs.ArrayServices.{array_service}
 use Rattle.service_histories.specs.Counts.{IsFreshRegister}
-use Rattle.service_histories.specs.Cuttings.{IsOwnerSince, IsRegisterSince}
+use Rattle.service_histories.specs.Cuttings.{IsOwnerMarked, IsRegisterSince}
 use Rattle.service_histories.specs.Readies.{IsGivenIn}
 use Rattle.service_histories.specs.Tellings.{objects_in}
 use Rattle.hall.specs.declared.desk.AtDesk.{Ghosts}
@@ -31,7 +31,7 @@ machines lanes = record {
   owner = λ o. o.objects;
   no_objects = empty;
   RegisterIsSince = λ d c. IsRegisterSince c d;
-  OwnerIsSince = λ o lane was. IsOwnerSince lanes lane was o;
+  OwnerIsSince = λ o lane items was. IsOwnerMarked lanes lane items was o;
   DeskIsSince = λ desk first. desk.desk ≡ first;
   note = λ d. nothing d.owners;
   noted_register = λ d. d.register;
@@ -50,7 +50,7 @@ desk_machines met lanes = record {
   owner = λ o. o.objects;
   no_objects = empty;
   RegisterIsSince = λ d c. IsRegisterSince c d;
-  OwnerIsSince = λ o lane was. IsOwnerSince lanes lane was o;
+  OwnerIsSince = λ o lane items was. IsOwnerMarked lanes lane items was o;
   DeskIsSince = λ d first. met.IsSince d.desk
       (record { register = d.register.value; owners = d.owners.value.items; desk = first });
   note = λ d. met.note d.desk d.owners.value.items;

@@ -9,13 +9,13 @@ use Rattle.chunk_owner.specs.Lanes.{Lane}
 use Rattle.flush_journal.specs.Records.{Held, Record}
 use Rattle.register.specs.Decided.{RegisterState}
 use Rattle.register.specs.declared.tickets.Turn.{Turn}
-use Rattle.lane_histories.specs.Cuts.{register_cut}
+use Rattle.lane_histories.specs.Cuts.{behind_cut, register_cut}
 use Rattle.lane_histories.specs.Histories.{objects_after, register_after, register_at}
 use Rattle.hall_rule.specs.Claims.{count_of}
 use Rattle.hall_rule.specs.Seen.{lane_of, was_of}
 use Rattle.hall_rule.specs.WholeTurns.{HasCutLane, HasCutRegister, HasDrawnCut}
 use Rattle.service_histories.specs.ArrayServices.{array_service, kept_part}
-use Rattle.service_histories.specs.Cuttings.{CutsOwner, CutsRegister, IsOwnerSince, IsRegisterSince}
+use Rattle.service_histories.specs.Cuttings.{CutsOwner, CutsRegister, IsOwnerMarked, IsRegisterSince}
 use Rattle.service_histories.specs.Tellings.{objects_in}
 use Rattle.hall.specs.Answers.{ArrayStart, ArrayView}
 use Rattle.hall.specs.ArrayMachines.{lanes_in, machines}
@@ -50,7 +50,7 @@ pub record HasCutOwner {K : Type 0} (start : ArrayStart K) (lane cut place : ℕ
       (objects_in start.owners lane) (lane_of turn.turned.before.lanes lane)
   pub was : Lane
   pub was_is : was_of turn.turned.before lane ≡ some was
-  pub since : IsOwnerSince (lanes_in start) lane was old
+  pub since : IsOwnerMarked (lanes_in start) lane (behind_cut (lane_of turn.turned.before.lanes lane)) was old
   pub adds : AddsOwner found old new first last
 
 -- ---- the register's

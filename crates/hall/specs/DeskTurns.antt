@@ -4,7 +4,7 @@
 --     HasDonePast ..       of a flush that is asked for a place
 --     HasDone met work ..  of whichever was asked of it
 --     AreOfCuts notes d    a desk's numbers are those of cuts in its note's lists
---     OwesItsCuts notes d  what a desk's next batch holds is what cuts added since those that are kept
+--     OwesItsCuts notes d  what a desk's next batch holds is what cuts added since what is kept was cut
 --     HasGoneOn ..         from what the desk was before a turn to what it is after it
 --     HasNoted ..          the lists that a desk noted in a turn
 --     IsTurnOf met work .. so of a whole turn
@@ -27,14 +27,15 @@ use Rattle.journal_desk.specs.Cuts.{Resumes}
 use Rattle.journal_desk.specs.Desks.{HoldSince, HoldsKept}
 use Rattle.journal_desk.specs.Keepings.{AreItsKeepings, Continues, HasKept as KeepsSince, IsAllKept, IsFullWhere, MayRefuseTurn, SettlesFirst, keeping_of, lists}
 use Rattle.journal_desk.specs.Notes.{NoteOf}
-use Rattle.journal_desk.specs.Owed.{OwesCuts}
+use Rattle.journal_desk.specs.Owed.{AppendsCuts, OwesCuts}
 use Rattle.journal_desk.specs.Standing.{Standing}
 use Rattle.register.specs.declared.tickets.Turn.{Turn}
 use Rattle.lane_histories.specs.Cuts.{IsCutTo, IsOfCuts, register_cut}
-use Rattle.lane_histories.specs.Histories.{cut_of, own, places}
+use Rattle.lane_histories.specs.Histories.{IsIn, cut_of, own, places}
 use Rattle.lane_histories.specs.KeptContents.{IsAsFar}
 use Rattle.lane_histories.specs.Legal.{IsLegal}
-use Rattle.lane_histories.specs.declared.items.Answer.TheVariants.{Looked}
+use Rattle.lane_histories.specs.declared.items.Answer.TheVariants.{Kept, Looked}
+use Rattle.lane_histories.specs.declared.items.Keeping.{Keeping}
 use Rattle.lane_histories.specs.declared.items.Reach.{Reach}
 use Rattle.lane_histories.specs.declared.items.RegisterItem.{RegisterItem}
 use Rattle.lane_histories.specs.declared.items.RegisterItem.TheVariants.{Entered, DrawnCut, RegisterCut}
@@ -69,7 +70,7 @@ pub record IsBehind {D N : Type 0} (met : Disks D) (notes : NoteOf N) (d : Stand
   pub keepings : AreItsKeepings met notes d (notes.history seen)
 
 -- The answer is the number reached, and at least the places of the note before. What was cut is kept, unless it is refused; where a
--- batch was pending on a disk that had stopped, it is.
+-- batch was pending on a disk that had stopped, it is. Nothing is written but what was pending, and what cuts added since that.
 pub record HasKeptAll {D N : Type 0} (met : Disks D) (notes : NoteOf N) (reached : Reach → ℕ) (before after : Standing D N)
     (result : Result ℕ Why) : Type 0 where
   pub ok : IfOk result (λ n. (reached after.kept ≡ n) × (places (notes.history before.note).register ≤ n))
@@ -78,6 +79,7 @@ pub record HasKeptAll {D N : Type 0} (met : Disks D) (notes : NoteOf N) (reached
   pub full : IsFullWhere met after result
   pub first : SettlesFirst met before after result
   pub stopped : before.pending ≢ None → met.stopped before.disk → IsErr result
+  pub wrote : AppendsCuts notes before after result
 
 -- where the place is kept already all stays, and the answer is the number kept; else all is flushed
 pub record HasDonePast {D N : Type 0} (met : Disks D) (notes : NoteOf N) (place : ℕ) (before after : Standing D N) (result : Result ℕ Why)
@@ -88,7 +90,7 @@ pub record HasDonePast {D N : Type 0} (met : Disks D) (notes : NoteOf N) (place 
 abbrev pub HasDone : {D N : Type 0} → Disks D → NoteOf N → DeskWork → Standing D N → Standing D N → Result ℕ Why → Type 0
 HasDone met notes Flush before after result = HasKeptAll met notes (λ r. r.c) before after result
 HasDone met notes (FlushPast place) before after result = HasDonePast met notes place before after result
-HasDone met notes KeepRegister before after result = HasKeptAll met notes (λ r. r.p) before after result
+HasDone met notes KeepRegister before after result = HasKeptAll met notes (λ r. r.p) before after result × (after.cut.c ≡ before.cut.c)
 HasDone met notes Look before after result = (after ≡ before) × (result ≡ Ok before.kept.c)
 
 -- ---- whole turns
@@ -101,15 +103,17 @@ pub record AreOfCuts {D N : Type 0} (notes : NoteOf N) (d : Standing D N) : Type
   pub kept : IsOfCuts notes.kept.service (notes.history d.note) d.kept
   pub far : IsAsFar d.kept d.cut
 
--- what is pending, or else what was cut and not appended yet, is just what cuts of lanes and of the register added since the cuts that are
--- kept, in their order
+-- what is pending, or else what was cut and not appended yet, is just what cuts of lanes and of the register added since what is kept was
+-- cut, in their order, and all of it
 abbrev pub OwesItsCuts : {D N : Type 0} → NoteOf N → Standing D N → Type 0
-OwesItsCuts notes d = OwesCuts notes.kept (notes.start d.note) (notes.history d.note) (notes.was d.note) d.pending d.building d.kept
+OwesItsCuts notes d = OwesCuts notes.kept (notes.start d.note) (notes.history d.since) (notes.was d.since) (notes.history d.note) (notes.was d.note)
+    d.pending d.building d.kept
 
 -- A hall's desk went on so: its disk from the one with which the hall began, and what was kept stays kept. Whatever a crash since then
--- leaves is kept from the lists that it has noted, at least as far as it reaches; so is what one left since that was reached. Where nothing
--- is pending it is kept just as far. The numbers are those of cuts in these lists, and the batch that is pending, or is to be appended next,
--- is what these cuts added since those that are kept.
+-- leaves is kept from the lists that it has noted, at least as far as it reaches; so is what one left since that was reached, and as far as
+-- each keeping in these lists that was answered Ok what one left since its moment. Where nothing is pending it is kept just as far as the desk
+-- reaches. The numbers are those of cuts in these lists, and the batch that is pending, or is to be appended next, is what these cuts added
+-- since what is kept was cut.
 pub record HasGoneOn {D : Type 0} (met : Disks D) (start : ArrayStart (Snapshot (Journal D met)))
     (before after : Standing D (HallNote (Snapshot (Journal D met)))) : Type 0 where
   pub first : SameDisk met (disk_of start.desk.value) before.disk
@@ -117,6 +121,8 @@ pub record HasGoneOn {D : Type 0} (met : Disks D) (start : ArrayStart (Snapshot 
   pub since : IsJournalSince met after start
   pub images : met.honest → KeepsSince met (hall_notes (lanes_in start)) after (met.moment after.disk) after.kept
   pub reached : met.honest → KeepsSince met (hall_notes (lanes_in start)) after (met.moment after.at) after.kept
+  pub each : met.honest → (i : Keeping) → IsIn (lists met (hall_notes (lanes_in start)) after).keepings i → i.answer ≡ Kept
+      → KeepsSince met (hall_notes (lanes_in start)) after i.moment i.own
   pub by_now : met.honest → met.moment after.at ≤ met.moment after.disk
   pub settled : met.honest → after.pending ≡ None → (image : List ℕ) → met.images after.disk image
       → HoldsKept (array_kept (lanes_in start)) ((hall_notes (lanes_in start)).start after.note)
@@ -132,6 +138,10 @@ pub record HasNoted {D : Type 0} (met : Disks D) (start : ArrayStart (Snapshot (
   pub begins : GrowsFrom seen (of_lanes (lanes_in start) (seen_in d.note))
   pub images : met.honest → HoldSince met (array_kept (lanes_in start)) ((hall_notes (lanes_in start)).start d.note)
       (history_of (array_service (lanes_in start)) seen) d.disk (met.moment d.disk) d.kept
+  -- and so is what one leaves since an earlier keeping that was answered Ok, as far as that reached
+  pub each : met.honest → (i : Keeping) → IsIn before.keepings i → i.answer ≡ Kept
+      → HoldSince met (array_kept (lanes_in start)) ((hall_notes (lanes_in start)).start d.note)
+      (history_of (array_service (lanes_in start)) seen) d.disk i.moment i.own
 
 -- The desk went on from `before`, which is what the last keeping before it left, to `after`, and this is its keeping; no earlier one
 -- reaches farther than `before`, or counted more faults than the disk had by then. The answer is the number reached, and at least the places
@@ -153,16 +163,19 @@ pub record HasKeptTo {D : Type 0} (met : Disks D) (reached : Reach → ℕ) (sta
   pub first : SettlesFirst met before after result
   -- where a batch was pending on a disk that had stopped, it is refused
   pub stopped : before.pending ≢ None → met.stopped before.disk → IsErr result
+  -- nothing was written but what was pending, and what cuts added since that
+  pub owing : OwesItsCuts (hall_notes (lanes_in start)) before
+  pub wrote : AppendsCuts (hall_notes (lanes_in start)) before after result
 
 -- the places that are kept
 abbrev pub HasFlushed : {D : Type 0} (met : Disks D) → ArrayStart (Snapshot (Journal D met)) → Result ℕ Why
     → ArrayView (Snapshot (Journal D met)) → ArrayView (Snapshot (Journal D met)) → Type 0
 HasFlushed met start result v w = HasKeptTo met (λ r. r.c) start result v w
 
--- and those of the catalogue
+-- and those of the catalogue, with no cut of the lanes
 abbrev pub HasKeptRegister : {D : Type 0} (met : Disks D) → ArrayStart (Snapshot (Journal D met)) → Result ℕ Why
     → ArrayView (Snapshot (Journal D met)) → ArrayView (Snapshot (Journal D met)) → Type 0
-HasKeptRegister met start result v w = HasKeptTo met (λ r. r.p) start result v w
+HasKeptRegister met start result v w = (kept : HasKeptTo met (λ r. r.p) start result v w) × (kept.after.cut.c ≡ kept.before.cut.c)
 
 -- The desk stayed as it was, and no earlier keeping reaches farther. It keeps the place already, so this is one keeping more of what it keeps,
 -- since that was reached.

@@ -10,6 +10,7 @@ ghost use Rattle.object_ops.specs.declared.ops.Op.TheVariants.{DropNode};
 ghost use Rattle.chunk_owner.specs.Lanes.{IsSameLane};
 ghost use Rattle.chunk_owner.specs.Slots.Slots.{StillSays};
 ghost use Rattle.service_histories.specs.ArrayServices.{array_service, task_of};
+ghost use Rattle.service_histories.specs.Cuttings.{MarksOnly};
 ghost use Rattle.service_histories.specs.PlainSteps.{answer_of};
 ghost use Rattle.hall.specs.Answers.{GoesThrough, IsServed, IsServingJob};
 ghost use Rattle.hall.specs.ArrayMachines.{IsOpened, lanes_in, machines, start_of};
@@ -57,6 +58,7 @@ fn perform(
         owner.new.objects }
     ensures skips { is_skipped result ≡ skip }
     ensures says { StillSays owner.old.slots owner.new.slots }
+    ensures alone { MarksOnly (task_of job.now.grant job.now.op.now step) result owner.old owner.new }
     ensures same { IsSameLane owner.old owner.new }
 {
     calls_are_events();

@@ -2,7 +2,7 @@
 ghost use Rattle.std.specs.Prelude.{◌≡◌, Some};
 ghost use Rattle.journal_desk.specs.Keepings.{Continues, IsUpTo};
 ghost use Rattle.journal_desk.specs.Notes.{AreAlike, at_lanes};
-ghost use Rattle.hall.specs.DeskTurns.{HasDone, HasDonePast, IsBehind};
+ghost use Rattle.hall.specs.DeskTurns.{HasDone, HasDonePast, IsBehind, OwesItsCuts};
 ghost use Rattle.hall.specs.Notes.{hall_notes};
 ghost use Rattle.hall.specs.declared.journal.DeskNews.{DeskNews};
 
@@ -81,11 +81,13 @@ pub(crate) fn take_turn<D: Disk, N: Note, T: Turns<N>>(
     ensures lanes { T.next_lane turns.new ≡ (N.kept (T.lanes turns.new)).service.lanes }
     ensures ready { T.ready turns.new }
     ensures fixed { T.fixed turns.new ≡ T.fixed turns.old }
+    ensures owing { OwesItsCuts (at_lanes N.Note desk.old.lanes) result.0.value }
     ensures done { HasDone D.Disk (at_lanes N.Note desk.old.lanes) work result.0.value desk.new
         result.1 }
 {
     let note = turns.note();
     desk.resume(note);
+    desk.owed_is_of_cuts();
     let before = Snapshot::of(desk);
     let result = do_work(desk, turns, work);
     (before, result)

@@ -9,7 +9,7 @@ ghost use Rattle.journal_desk.specs.Notes.{AreAlike};
 ghost use Rattle.hall.specs.ArrayMachines.{IsOpened, lanes_in};
 ghost use Rattle.hall.specs.DeskTurns.{HasDone, HasFlushed, HasFlushedPast, HasKeptRegister};
 ghost use Rattle.hall.specs.DeskTurns.{HasLooked};
-ghost use Rattle.hall.specs.DeskTurns.{IsBehind, IsInTurn, IsTurnOf, note_seen};
+ghost use Rattle.hall.specs.DeskTurns.{IsBehind, IsInTurn, IsTurnOf, OwesItsCuts, note_seen};
 ghost use Rattle.hall.specs.Notes.{hall_notes};
 ghost use Rattle.hall.specs.Passes.{IsPassOf, opening, view_of, who};
 
@@ -61,6 +61,7 @@ impl<'a, D: Disk + Drop, W: Wait> DeskTurn<'a, D, W, Snapshot<Chair<JournalDesk<
             (note_seen self.new.seat.now.me.0) }
         ensures news { (news : _) × (desk.new.turn ≡ Some news) × (news.work ≡ work)
             × (news.result.value ≡ result) }
+        ensures owing { OwesItsCuts (hall_notes desk.old.desk.lanes) desk.new.before.value }
         ensures done { HasDone D.Disk (hall_notes desk.old.desk.lanes) work
             desk.new.before.value desk.new.desk result }
     {
@@ -105,6 +106,7 @@ impl<D: Disk + Drop> Hall<JournalDesk<D>> {
             (note_seen seat.new.me.0) }
         ensures news { (news : _) × (desk.new.turn ≡ Some news) × (news.work ≡ work)
             × (news.result.value ≡ result) }
+        ensures owing { OwesItsCuts (hall_notes desk.old.desk.lanes) desk.new.before.value }
         ensures done { HasDone D.Disk (hall_notes desk.old.desk.lanes) work
             desk.new.before.value desk.new.desk result }
     {

@@ -145,7 +145,8 @@ module _ {service : Service} {M N P E : Type 0} (m : Machines service M N P E) (
           → IsLegalOutcome service (m.owner d.owner) part task (plain_outcome outcome)
           → m.owner d'.owner ≡ objects_step service (m.owner d.owner) (Passed place part task (plain_outcome outcome))
           → is_skipped (plain_outcome outcome) ≡ skip
-          → ((was : N) → m.OwnerIsSince d.owner lane was → m.OwnerIsSince d'.owner lane was)
+          → ((since : LaneList service) (was : N) → m.OwnerIsSince d.owner lane since was
+          → m.OwnerIsSince d'.owner lane (since ++ Passed place part task (plain_outcome outcome) ∷ []) was)
           → IsReadyToPass m start (at_lane lane (Passed place part task (plain_outcome outcome)) d'.owner) back
       lane_done place part task skip outcome may news answered went skips marks =
           let ticket = ticket_on t.seen first.0.seen lane n (part_of place part task) t.grown.begins may.ticket in

@@ -8,7 +8,7 @@ use Rattle.lane_histories.specs.Services.{Service}
 use Rattle.lane_histories.specs.Histories.{IsIn, LaneList, RegisterList, drawn, objects_after, objects_step, places, register_after}
 use Rattle.lane_histories.specs.Histories.{register_at, register_step}
 use Rattle.lane_histories.specs.Legal.{IsPrefix, IsLegalRegister, IsLegalRegisterItem}
-use Rattle.lane_histories.specs.Cuts.{GoesOn, IsEntry, IsNoCut, register_cut}
+use Rattle.lane_histories.specs.Cuts.{GoesOn, IsEntry, IsNoCut, behind_cut, register_cut}
 use Rattle.lane_histories.specs.KeptContents.{IsAsFar}
 use Rattle.lane_histories.specs.declared.items.Answer.TheVariants.{Kept}
 use Rattle.lane_histories.specs.declared.items.Keeping.{Keeping}
@@ -16,7 +16,7 @@ use Rattle.lane_histories.specs.declared.items.LaneItem.{LaneItem}
 use Rattle.lane_histories.specs.declared.items.LaneItem.TheVariants.{Passed, WasCut}
 use Rattle.lane_histories.specs.declared.items.RegisterItem.{RegisterItem}
 use Rattle.lane_histories.specs.declared.items.RegisterItem.TheVariants.{Entered, DrawnCut, RegisterCut}
-use Rattle.lane_histories.proofs.CutLemmas.{objects_cut_now, objects_cut_stays, register_cut_few, register_cut_push}
+use Rattle.lane_histories.proofs.CutLemmas.{behind_found, behind_passed, behind_short, objects_cut_now, objects_cut_stays, register_cut_few, register_cut_push}
 use Rattle.lane_histories.proofs.Growth.{at_longer}
 use Rattle.lane_histories.proofs.LaneLists.{objects_push}
 use Rattle.lane_histories.proofs.Lists.{all_both, all_weaker, in_last}
@@ -136,7 +136,9 @@ module _ {service : Service} {M N P E : Type 0} (m : Machines service M N P E) (
       was = is.was;
       was_is = is.was_is;
       had = had_with (Passed place part task y) (tt, tt);
-      since = marks is.was is.since;
+      since = subst (λ (xs : LaneList service). m.OwnerIsSince new lane xs is.was)
+          (sym (ap behind_cut (longer (Passed place part task y)) ∙ behind_passed service [] items place part task y))
+          (marks (behind_cut items) is.was is.since);
     }
     owner_pushed_on (WasCut number c true) went marks =
         let o = objects_in m start.owners lane in record {
@@ -145,14 +147,17 @@ module _ {service : Service} {M N P E : Type 0} (m : Machines service M N P E) (
           was_is = set_here h.was lane new (there_below h.was lane is.was is.was_is);
           had = went ∙ is.now ∙ sym (objects_cut_now service o o items number c)
               ∙ sym (ap (lane_cut m start lane) (longer (WasCut number c true)));
-          since = marks;
+          since = subst (λ (xs : LaneList service). m.OwnerIsSince new lane xs new)
+              (sym (ap behind_cut (longer (WasCut number c true)) ∙ behind_found service [] items number c)) marks;
         }
     owner_pushed_on (WasCut number c false) went marks = record {
       now = now_with (WasCut number c false) went;
       was = is.was;
       was_is = is.was_is;
       had = had_with (WasCut number c false) (tt, tt);
-      since = marks is.was is.since;
+      since = subst (λ (xs : LaneList service). m.OwnerIsSince new lane xs is.was)
+          (sym (ap behind_cut (longer (WasCut number c false)) ∙ behind_short service [] items number c))
+          (marks (behind_cut items) is.was is.since);
     }
 
   -- ---- the desk
@@ -203,7 +208,7 @@ module _ {service : Service} {M N P E : Type 0} (m : Machines service M N P E) (
         was = o;
         was_is = there;
         had = same ∙ sym (ap (lane_cut m start lane) none);
-        since = fresh.owners lane o there;
+        since = subst (λ (xs : LaneList service). m.OwnerIsSince o lane xs o) (sym (ap behind_cut none)) (fresh.owners lane o there);
       }
 
   pub desk_begun : (desk : P) → IsFreshDesk m start desk → IsDeskOf m start (nothing start.owners) desk
@@ -238,5 +243,5 @@ module _ {service : Service} {M N P E : Type 0} (m : Machines service M N P E) (
     was = ok.was;
     was_is = sym same.1 ∙ ok.was_is;
     had = ok.had ∙ ap (lane_cut m start l) same.0;
-    since = ok.since;
+    since = subst (λ (xs : LaneList service). m.OwnerIsSince d.owner l (behind_cut xs) ok.was) same.0 ok.since;
   }

@@ -3,6 +3,7 @@
 --     HallMachines      with their types
 --     world_of m start  the world with which the hall begins
 use Rattle.std.specs.Prelude.{ℕ, zero, suc, List, [], ◌∷◌, Option}
+use Rattle.lane_histories.specs.Histories.{LaneList}
 use Rattle.lane_histories.specs.Services.{Service, World}
 use Rattle.lane_histories.specs.declared.items.Keeping.{Keeping}
 use Rattle.lane_histories.specs.declared.items.Reach.{Reach}
@@ -15,9 +16,9 @@ pub record Machines (service : Service) (M N P E : Type 0) : Type 1 where
   pub owner : N → service.Objects
   -- what a lane has that isn't there
   pub no_objects : service.Objects
-  -- all that changed since its catalogue was this, or its lane's owner was so, is marked
+  -- all that changed since its catalogue was this is marked; and by these items of its lane since its owner was so
   pub RegisterIsSince : M → service.Catalogue → Type 0
-  pub OwnerIsSince : N → ℕ → N → Type 0
+  pub OwnerIsSince : N → ℕ → LaneList service → N → Type 0
   -- the desk is what a hall that began with one that is known by this may have made of it
   pub DeskIsSince : P → E → Type 0
   -- the lists in the desk's note, and the register and the owners from which they go

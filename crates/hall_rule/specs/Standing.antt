@@ -6,14 +6,14 @@
 --     MarksRegister, MarksLane              what a turn does to the marks
 --     IsFresh m start                       the register and the owners as a hall begins
 --     IsFreshDesk m start desk              and its desk
-use Rattle.std.specs.Prelude.{◌≡◌, ◌⊎◌, ℕ, [], true, false}
+use Rattle.std.specs.Prelude.{◌≡◌, ◌⊎◌, ℕ, [], ◌∷◌, ◌++◌, true, false}
 use mathlib.Core.Option.{some}
 use lib.ListN.{get_elem?}
 use Rattle.std.specs.List.{AllByRecursion}
 use Rattle.lane_histories.specs.Services.{Service}
 use Rattle.lane_histories.specs.Histories.{IsIn, LaneList, RegisterList, objects_after}
 use Rattle.lane_histories.specs.Histories.{register_after, register_at}
-use Rattle.lane_histories.specs.Cuts.{objects_at_cut, register_cut}
+use Rattle.lane_histories.specs.Cuts.{behind_cut, objects_at_cut, register_cut}
 use Rattle.lane_histories.specs.KeptContents.{IsAsFar}
 use Rattle.lane_histories.specs.declared.items.Answer.TheVariants.{Kept}
 use Rattle.lane_histories.specs.declared.items.Keeping.{Keeping}
@@ -55,7 +55,7 @@ module _ {service : Service} {M N P E : Type 0} (m : Machines service M N P E)
     pub was : N
     pub was_is : was_of h lane ≡ some was
     pub had : m.owner was ≡ lane_cut lane (lane_of h.lanes lane)
-    pub since : m.OwnerIsSince owner lane was
+    pub since : m.OwnerIsSince owner lane (behind_cut (lane_of h.lanes lane)) was
 
   -- this keeping is in the note, or it is the desk's last
   abbrev pub IsItsKeeping : P → Keeping → Type 0
@@ -78,7 +78,7 @@ module _ {service : Service} {M N P E : Type 0} (m : Machines service M N P E)
   pub record IsFresh : Type 0 where
     pub register : m.RegisterIsSince start.register (service.catalogue (m.register start.register))
     pub owners : (lane : ℕ) (o : N) → get_elem? start.owners lane ≡ some o
-        → m.OwnerIsSince o lane o
+        → m.OwnerIsSince o lane [] o
 
   -- the note is empty, and nothing was told
   pub record IsFreshDesk (desk : P) : Type 0 where
@@ -102,10 +102,12 @@ module _ {service : Service} {M N P E : Type 0} (m : Machines service M N P E) w
 
   abbrev pub MarksLane : ℕ → LaneItem service.Task service.Reply → N → N → Type 0
   MarksLane lane (Passed place part task outcome) old new =
-      (was : N) → m.OwnerIsSince old lane was → m.OwnerIsSince new lane was
-  MarksLane lane (WasCut number place true) old new = m.OwnerIsSince new lane new
+      (since : LaneList service) (was : N) → m.OwnerIsSince old lane since was
+      → m.OwnerIsSince new lane (since ++ Passed place part task outcome ∷ []) was
+  MarksLane lane (WasCut number place true) old new = m.OwnerIsSince new lane [] new
   MarksLane lane (WasCut number place false) old new =
-      (was : N) → m.OwnerIsSince old lane was → m.OwnerIsSince new lane was
+      (since : LaneList service) (was : N) → m.OwnerIsSince old lane since was
+      → m.OwnerIsSince new lane (since ++ WasCut number place false ∷ []) was
 
   abbrev pub StandsFor : Queue → HallSlot service M N P → Start M N E → SeenLists service N
       → Type 0

@@ -10,7 +10,7 @@ use Rattle.std.specs.List.{AllByRecursion}
 use Rattle.std.specs.declared.snapshot.Snapshot.{Snapshot}
 use Rattle.lane_histories.specs.Cuts.{GoesOn}
 use Rattle.lane_histories.specs.KeptContents.{IsAsFar}
-use Rattle.lane_histories.specs.Histories.{cut_of, drawn, issued, objects_step, own, part_of, places}
+use Rattle.lane_histories.specs.Histories.{LaneList, cut_of, drawn, issued, objects_step, own, part_of, places}
 use Rattle.lane_histories.specs.declared.items.LaneItem.{LaneItem}
 use Rattle.lane_histories.specs.declared.items.RegisterItem.{RegisterItem}
 use Rattle.lane_histories.specs.Legal.{IsLegalOutcome, IsNext, IsPrefix, is_skipped}
@@ -187,7 +187,8 @@ pub record LaneTurnLaws {service : Service} {M N P E : Type 0} (m : Machines ser
       → m.owner new.owner
       ≡ objects_step service (m.owner d.owner) (Passed place part task (plain_outcome outcome))
       → is_skipped (plain_outcome outcome) ≡ skip
-      → ((was : N) → m.OwnerIsSince d.owner lane was → m.OwnerIsSince new.owner lane was)
+      → ((since : LaneList service) (was : N) → m.OwnerIsSince d.owner lane since was
+      → m.OwnerIsSince new.owner lane (since ++ Passed place part task (plain_outcome outcome) ∷ []) was)
       → IsReadyToPass m start
       (at_lane lane (Passed place part task (plain_outcome outcome)) new.owner) back
   pub may_cut : (cut place : ℕ) (found : Bool) → MayCutLane service start lane n cut place first.0

@@ -47,13 +47,13 @@ module _ {D N : Type 0} (met : Ghosts D) (notes : NoteOf N) where
   }
 
   -- a call of the journal, or none
-  pub continues_here : (lanes : ℕ) (old new : Journal D met) (building built : List Record) (cut now kept own : Reach) (at later : D) (note : N)
+  pub continues_here : (lanes : ℕ) (old new : Journal D met) (building built : List Record) (cut now kept own : Reach) (at later : D) (since then note : N)
       → IsLegal notes.kept.service (notes.start note) (notes.history note) → SameDisk met (disk_of old) (disk_of new) → IsAsFar kept own
       → (met.honest → met.moment at ≤ met.moment later)
       → (met.honest → CrashLeaves met (disk_of old) (disk_of new) (HoldsAsFar notes.kept (notes.start note) (notes.history note) kept))
-      → Continues met notes (standing_of lanes old building cut kept at note) (standing_of lanes new built now own later note)
-  continues_here lanes old new building built cut now kept own at later note legal disk far reached leaves =
-      continues_by (standing_of lanes old building cut kept at note) (standing_of lanes new built now own later note) refl refl legal
+      → Continues met notes (standing_of lanes old building cut kept at since note) (standing_of lanes new built now own later then note)
+  continues_here lanes old new building built cut now kept own at later since then note legal disk far reached leaves =
+      continues_by (standing_of lanes old building cut kept at since note) (standing_of lanes new built now own later then note) refl refl legal
       (prefix_itself (notes.history note)) disk far reached leaves
 
   -- one call after another

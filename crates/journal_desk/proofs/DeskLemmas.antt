@@ -27,9 +27,7 @@ use Rattle.lane_histories.proofs.Sound.{cuts_longer, desk_longer, desk_rebuilt}
 use Rattle.lane_histories.proofs.ToldCuts.{cut_pairs_are_kept}
 use Rattle.journal_desk.specs.KeptServices.{KeptService, contents}
 use Rattle.journal_desk.specs.Desks.{IsDesk, IsFileOf, settled, owed, HoldsAsFar, IsOnDisk}
-use Rattle.journal_desk.specs.Owed.{OwesCuts}
 use Rattle.journal_desk.proofs.ImageLemmas.{as_far, batch_kept, either_kept, farther, held_kept}
-use Rattle.journal_desk.proofs.OwedLemmas.{owes_batch, owes_none, owes_written}
 
 none_some : {X : Type 0} (o : Option X) (x : X) → o ≡ None → o ≡ Some x → ⊥
 none_some {X} o x none some = let both : ◌≡◌ {A = Option X} None (Some x) = sym none ∙ some in cc
@@ -50,9 +48,9 @@ module _ (k : KeptService) (start : World k.service) (h : History k.service) (wa
 
   module _ (old new : Journal D met) (building : List Record) (cut kept : Reach) (inv : IsDesk k start h was old building cut kept)
       (ps : List Record) (pending : pending_of old ≡ Some ps) where
-    pub settle_ok : pending_of new ≡ None → (met.honest → (c : Content) (rs : List Record) → IsOwed old c rs → Writes old new c rs (Ok tt))
+    pub settle_ok : (met.honest → (c : Content) (rs : List Record) → IsOwed old c rs → Writes old new c rs (Ok tt))
         → IsDesk k start h was new building cut cut
-    settle_ok none_left writes = record {
+    settle_ok writes = record {
       legal = inv.legal;
       says_all = inv.says_all;
       cut_cuts = inv.cut_cuts;
@@ -61,8 +59,6 @@ module _ (k : KeptService) (start : World k.service) (h : History k.service) (wa
       kept_cuts = inv.cut_cuts;
       far = as_far cut;
       keepings = farther_keepings h.keepings kept cut inv.far inv.keepings;
-      owes = owes_written k start h was (pending_of old) (pending_of new) ps building kept cut pending none_left
-          (record { cut = inv.cut_cuts.c; last = inv.last_lanes }) inv.last_register inv.owes;
       on_disk = λ honest. by honest (inv.on_disk honest) (inv.on_disk honest).file;
     }
       where
@@ -79,9 +75,9 @@ module _ (k : KeptService) (start : World k.service) (h : History k.service) (wa
               built = o.built;
             }
 
-    pub settle_err : (why : Why) → pending_of new ≡ Some ps → (met.honest → (c : Content) (rs : List Record) → IsOwed old c rs → Writes old new c rs (Err why))
+    pub settle_err : (why : Why) → (met.honest → (c : Content) (rs : List Record) → IsOwed old c rs → Writes old new c rs (Err why))
         → IsDesk k start h was new building cut kept
-    settle_err why left writes = record {
+    settle_err why writes = record {
       legal = inv.legal;
       says_all = inv.says_all;
       cut_cuts = inv.cut_cuts;
@@ -90,7 +86,6 @@ module _ (k : KeptService) (start : World k.service) (h : History k.service) (wa
       kept_cuts = inv.kept_cuts;
       far = inv.far;
       keepings = inv.keepings;
-      owes = subst (λ (o : Option (List Record)). OwesCuts k start h was o building kept) (pending ∙ sym left) inv.owes;
       on_disk = λ honest. by honest (inv.on_disk honest) (inv.on_disk honest).file;
     }
       where
@@ -125,8 +120,8 @@ module _ (k : KeptService) (start : World k.service) (h : History k.service) (wa
         far = subst (λ (own : Reach). IsAsFar own cut) (sym o.own) inv.far;
       }
 
-    pub append_ok : pending_of new ≡ None → (met.honest → (c : Content) → IsSettled old c → Writes old new c building (Ok tt)) → IsDesk k start h was new [] cut cut
-    append_ok none_left writes = record {
+    pub append_ok : (met.honest → (c : Content) → IsSettled old c → Writes old new c building (Ok tt)) → IsDesk k start h was new [] cut cut
+    append_ok writes = record {
       legal = inv.legal;
       says_all = inv.says_all;
       cut_cuts = inv.cut_cuts;
@@ -135,7 +130,6 @@ module _ (k : KeptService) (start : World k.service) (h : History k.service) (wa
       kept_cuts = inv.cut_cuts;
       far = as_far cut;
       keepings = farther_keepings h.keepings kept cut inv.far inv.keepings;
-      owes = owes_none k start h was (pending_of new) cut none_left (record { cut = inv.cut_cuts.c; last = inv.last_lanes }) inv.last_register;
       on_disk = λ honest. by honest (inv.on_disk honest) (inv.on_disk honest).file;
     }
       where
@@ -151,9 +145,9 @@ module _ (k : KeptService) (start : World k.service) (h : History k.service) (wa
               built = o.built;
             }
 
-    pub append_err : (why : Why) → pending_of new ≡ Some building → (met.honest → (c : Content) → IsSettled old c → Writes old new c building (Err why))
+    pub append_err : (why : Why) → (met.honest → (c : Content) → IsSettled old c → Writes old new c building (Err why))
         → IsDesk k start h was new [] cut kept
-    append_err why left writes = record {
+    append_err why writes = record {
       legal = inv.legal;
       says_all = inv.says_all;
       cut_cuts = inv.cut_cuts;
@@ -162,7 +156,6 @@ module _ (k : KeptService) (start : World k.service) (h : History k.service) (wa
       kept_cuts = inv.kept_cuts;
       far = inv.far;
       keepings = inv.keepings;
-      owes = owes_batch k start h was (pending_of old) (pending_of new) building kept idle left inv.owes;
       on_disk = λ honest. by honest (inv.on_disk honest) (inv.on_disk honest).file;
     }
       where
@@ -197,9 +190,8 @@ module _ (k : KeptService) (start : World k.service) (h g : History k.service) (
       → AllByRecursion (λ i. IsAsFar i.own kept) g.keepings
       → ((x : Held) → SaysCuts k.marking start h (put_all building x) was → SaysCuts k.marking start g (put_all built x) later)
       → IsOfCuts k.service g now → ((number e : ℕ) → IsWholeCut k.service g number e → e ≤ now.c) → now.p ≡ register_cut g.register
-      → IsAsFar kept now → (OwesCuts k start h was (pending_of j) building kept → OwesCuts k start g later (pending_of j) built kept)
-      → (cut ≡ now) ⊎ (pending_of j ≡ None) → IsDesk k start g later j built now kept
-  grown_desk j building built cut now kept inv keepings builds cuts lanes register far owes same = record {
+      → IsAsFar kept now → (cut ≡ now) ⊎ (pending_of j ≡ None) → IsDesk k start g later j built now kept
+  grown_desk j building built cut now kept inv keepings builds cuts lanes register far same = record {
     legal = legal;
     says_all = inv.says_all;
     cut_cuts = cuts;
@@ -208,7 +200,6 @@ module _ (k : KeptService) (start : World k.service) (h g : History k.service) (
     kept_cuts = cuts_longer k.service (contents k) start h g legal prefix kept inv.kept_cuts;
     far = far;
     keepings = keepings;
-    owes = owes inv.owes;
     on_disk = λ honest. by (inv.on_disk honest) (inv.on_disk honest).file;
   }
     where

@@ -1,5 +1,7 @@
 pub mod ImageLemmas
 pub mod OwedLemmas
+pub mod AppendLemmas
+pub mod OrderLemmas
 pub mod DeskLemmas
 pub mod ContinueLemmas
 pub mod RefusalLemmas

@@ -61,16 +61,16 @@ module _ (k : KeptService) (start : World k.service) (was : ℕ → k.marking.Ma
     kept_cuts = record { c = inl refl; p = inl refl };
     far = as_far nowhere;
     keepings = tt;
-    owes = owes_none k start (no_history k.service) was (pending_of j) nowhere idle
-        (record { cut = inl refl; last = λ number e whole. absurd whole.drawn }) refl;
     on_disk = λ honest. on_disk (opens honest);
   }
 
   pub opened : (h : History k.service) → h ≡ no_history k.service
       → (met.honest → (c : List ℕ) → met.left_since (disk_of j) (met.moment (disk_of j)) c → met.images (disk_of j) c)
-      → IsSoundDesk k start h was j [] nowhere nowhere (disk_of j)
-  opened h none only_now = subst (λ (g : History k.service). IsSoundDesk k start g was j [] nowhere nowhere (disk_of j)) (sym none) (record {
+      → IsSoundDesk k start h was h was j [] nowhere nowhere (disk_of j)
+  opened h none only_now = subst (λ (g : History k.service). IsSoundDesk k start g was g was j [] nowhere nowhere (disk_of j)) (sym none) (record {
     desk = opened_desk;
+    owes = owes_none k start (no_history k.service) was (pending_of j) nowhere idle
+        (record { cut = inl refl; last = λ number e whole. absurd whole.drawn }) refl;
     answered = record {
       own = λ honest. (
         omega arith,

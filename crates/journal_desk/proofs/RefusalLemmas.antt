@@ -27,9 +27,9 @@ some_same : (x y : List Record) → ◌≡◌ {A = Option (List Record)} (Some x
 some_same x y is = cc
 
 module _ {D N : Type 0} (met : Ghosts D) (lanes : ℕ) (old new : Journal D met) (rs : List Record)
-    (same : SameDisk met (disk_of old) (disk_of new)) (building built : List Record) (cut kept : Reach) (at : D) (note : N) where
+    (same : SameDisk met (disk_of old) (disk_of new)) (building built : List Record) (cut kept : Reach) (at : D) (since note : N) where
   may_refuse : (e : Why) → Tries old new rs (Err e)
-      → MayRefuseTurn met (standing_of lanes old building cut kept at note) (standing_of lanes new built cut kept at note) e
+      → MayRefuseTurn met (standing_of lanes old building cut kept at since note) (standing_of lanes new built cut kept at since note) e
   may_refuse DiskFault tr = tr.cause
   may_refuse (JournalFull end need room) tr = (
     rs,
@@ -43,14 +43,14 @@ module _ {D N : Type 0} (met : Ghosts D) (lanes : ℕ) (old new : Journal D met)
   may_refuse (NotAJournal at) tr = absurd tr.cause
   may_refuse Exists tr = absurd tr.cause
 
-  pub refused : (v : Standing D N) (e : Why) (r : Result (Unit {0}) Why) → standing_of lanes old building cut kept at note ≡ v → r ≡ Err e
-      → Tries old new rs (Err e) → IfErr r (MayRefuseTurn met v (standing_of lanes new built cut kept at note))
-  refused v e r is why tr = subst (λ (x : Result (Unit {0}) Why). IfErr x (MayRefuseTurn met v (standing_of lanes new built cut kept at note)))
+  pub refused : (v : Standing D N) (e : Why) (r : Result (Unit {0}) Why) → standing_of lanes old building cut kept at since note ≡ v → r ≡ Err e
+      → Tries old new rs (Err e) → IfErr r (MayRefuseTurn met v (standing_of lanes new built cut kept at since note))
+  refused v e r is why tr = subst (λ (x : Result (Unit {0}) Why). IfErr x (MayRefuseTurn met v (standing_of lanes new built cut kept at since note)))
       (sym why)
-      (subst (λ (x : Standing D N). MayRefuseTurn met x (standing_of lanes new built cut kept at note) e) is (may_refuse e tr))
+      (subst (λ (x : Standing D N). MayRefuseTurn met x (standing_of lanes new built cut kept at since note) e) is (may_refuse e tr))
 
   pub refused_full : (e : Why) (r : Result (Unit {0}) Why) → r ≡ Err e → Tries old new rs (Err e)
-      → IsFullWhere met (standing_of lanes new built cut kept at note) r
+      → IsFullWhere met (standing_of lanes new built cut kept at since note) r
   refused_full e r why tr qs pending full =
       let end : end_of new ≡ end_of old = ap (λ n. n.end) tr.numbers in
       let same_rs : rs ≡ qs = some_same rs qs (sym tr.pending ∙ pending) in
@@ -61,21 +61,21 @@ module _ {D N : Type 0} (met : Ghosts D) (lanes : ℕ) (old new : Journal D met)
 
   -- what was pending stays so
   stays_owed : (e : Why) → pending_of old ≡ Some rs → Tries old new rs (Err e)
-      → StaysOwed (standing_of lanes old building cut kept at note) (standing_of lanes new built cut kept at note)
+      → StaysOwed (standing_of lanes old building cut kept at since note) (standing_of lanes new built cut kept at since note)
   stays_owed e there tr = record { pending = tr.pending ∙ sym there; end = ap (λ n. n.end) tr.numbers; cut = refl; kept = refl }
 
-  pub first_refused : (v : Standing D N) (e : Why) (r : Result (Unit {0}) Why) → standing_of lanes old building cut kept at note ≡ v → r ≡ Err e
-      → pending_of old ≡ Some rs → Tries old new rs (Err e) → SettlesFirst met v (standing_of lanes new built cut kept at note) r
+  pub first_refused : (v : Standing D N) (e : Why) (r : Result (Unit {0}) Why) → standing_of lanes old building cut kept at since note ≡ v → r ≡ Err e
+      → pending_of old ≡ Some rs → Tries old new rs (Err e) → SettlesFirst met v (standing_of lanes new built cut kept at since note) r
   first_refused v e r is why there tr =
       let err : IsErr r = subst (λ (x : Result (Unit {0}) Why). IsErr x) (sym why) refl in
-      let stays : IsErr r × StaysOwed v (standing_of lanes new built cut kept at note) = (err, subst (λ (x : Standing D N). StaysOwed x (standing_of lanes new built cut kept at note)) is (stays_owed e there tr)) in
+      let stays : IsErr r × StaysOwed v (standing_of lanes new built cut kept at since note) = (err, subst (λ (x : Standing D N). StaysOwed x (standing_of lanes new built cut kept at since note)) is (stays_owed e there tr)) in
       record { settled = λ qs pending. inl stays; full = λ qs pending no_room. stays }
 
   -- or what it reaches is kept
-  pub first_done : (v : Standing D N) (later : D) (r : Result (Unit {0}) Why) → standing_of lanes old building cut kept at note ≡ v → r ≡ Ok tt
-      → pending_of old ≡ Some rs → Tries old new rs r → SettlesFirst met v (standing_of lanes new built cut cut later note) r
-  first_done v later r is well there tr =
-      subst (λ (x : Standing D N). SettlesFirst met x (standing_of lanes new built cut cut later note) r) is (record {
+  pub first_done : (v : Standing D N) (later : D) (then : N) (r : Result (Unit {0}) Why) → standing_of lanes old building cut kept at since note ≡ v → r ≡ Ok tt
+      → pending_of old ≡ Some rs → Tries old new rs r → SettlesFirst met v (standing_of lanes new built cut cut later then note) r
+  first_done v later then r is well there tr =
+      subst (λ (x : Standing D N). SettlesFirst met x (standing_of lanes new built cut cut later then note) r) is (record {
         settled = λ qs pending. inr (record { c = omega arith; p = omega arith });
         full = λ qs pending no_room.
             let need : need_of rs ≡ need_of qs = ap need_of (some_same rs qs (sym there ∙ pending)) in

@@ -21,8 +21,9 @@ use Rattle.lane_histories.proofs.LaneLists.{at_each}
 use Rattle.lane_histories.proofs.CutLemmas.{register_cut_push, register_cut_stays}
 use Rattle.lane_histories.proofs.SaidCuts.{cuts_stay_said, said_at_register, said_with_lane, said_with_register, said_with_short}
 use Rattle.journal_desk.specs.KeptServices.{KeptService}
-use Rattle.journal_desk.specs.Cuts.{AddCuts, Adds, Advances, CutsEach, DrawsCut, TakesCut, TakesRegisterCut, then_drawn, then_lane, then_register}
+use Rattle.journal_desk.specs.Cuts.{AddCuts, Adds, Advances, CutsEach, DrawsCut, TakesCut, TakesRegisterCut, cuts_of_lane, then_drawn, then_lane, then_register}
 use Rattle.journal_desk.proofs.ImageLemmas.{prefix_both, prefix_itself}
+use Rattle.journal_desk.proofs.OrderLemmas.{lane_more, other_same, register_stays}
 
 module _ (s : Service) where
   register_prefix : (h : History s) (i : RegisterItem s.Asked s.Verdict) → IsPrefix h (with_register_item h i)
@@ -143,7 +144,7 @@ module _ (k : KeptService) (start : World k.service) where
 
   pub advances_none : (h : History k.service) (was : ℕ → k.marking.Marked) (rs : List Record) → IsLegal k.service start h
       → Advances k start h h was was rs rs
-  advances_none h was rs legal = record { longer = prefix_itself h; legal = legal; keepings = refl; built = λ x b. b; adds = λ since a. a }
+  advances_none h was rs legal = record { longer = prefix_itself h; legal = legal; keepings = refl; built = λ x b. b; adds = λ since first a. a }
 
   pub advances_both : (h m g : History k.service) (was mid later : ℕ → k.marking.Marked) (old between new : List Record)
       → Advances k start h m was mid old between → Advances k start m g mid later between new → Advances k start h g was later old new
@@ -152,7 +153,7 @@ module _ (k : KeptService) (start : World k.service) where
     legal = more.legal;
     keepings = more.keepings ∙ first.keepings;
     built = λ x b. more.built x (first.built x b);
-    adds = λ since a. more.adds since (first.adds since a);
+    adds = λ since was_first a. more.adds since was_first (first.adds since was_first a);
   }
 
   -- ---- a drawn cut
@@ -167,7 +168,7 @@ module _ (k : KeptService) (start : World k.service) where
         let there = cuts_stay_said k.marking start h step.mid (put_all rs x) was legal step.others b in
         said_by _ g was later _ _ (sym step.added) (sym same) refl
         (said_at_register k.marking start step.mid step.before was (DrawnCut number c) (put_all rs x) refl there);
-    adds = λ since a. subst (λ (w : ℕ → k.marking.Marked). AddCuts k start since g w rs) (sym same) (then_drawn h g was number c rs a cut);
+    adds = λ since first a. subst (λ (w : ℕ → k.marking.Marked). AddCuts k start since first g w rs) (sym same) (then_drawn h g was number c rs a cut);
   }
 
   -- ---- a lane's cut
@@ -187,7 +188,7 @@ module _ (k : KeptService) (start : World k.service) where
             said_by _ g (changed_at l cut.now was) later _ _ (sym step.added) (sym cut.later_is) (with_added old new cut.added x cut.appended)
             (said_with_lane k.marking start step.mid step.before was l number c cut.now (put_all old x) (put_all cut.added (put_all old x))
             cut.still cut.objects_are (λ below. cut.writes.own _ (there.says l below)) (cut.writes.others _) (cut.writes.catalogue _) there);
-        adds = λ since a. then_lane h g was later l number c true old new a taken;
+        adds = λ since first a. then_lane h g was later l number c true old new a taken;
       }
   takes_advance h g was later l number c false old new legal taken =
       let step = taken.step in
@@ -200,7 +201,7 @@ module _ (k : KeptService) (start : World k.service) where
             let there = cuts_stay_said k.marking start h step.mid (put_all old x) was legal step.others b in
             said_by _ g was later _ _ (sym step.added) (sym cut.later_is) (sym (ap (λ (rs : List Record). put_all rs x) cut.appended))
             (said_with_short k.marking start step.mid step.before was l number c (put_all old x) there);
-        adds = λ since a. then_lane h g was later l number c false old new a taken;
+        adds = λ since first a. then_lane h g was later l number c false old new a taken;
       }
 
   -- ---- each lane's cut
@@ -214,6 +215,9 @@ module _ (k : KeptService) (start : World k.service) where
     short = λ (is : true ≡ false). absurd (cc);
     before = λ l n e here. inl here;
     register = refl;
+    uncut = refl;
+    once = λ whole l few. absurd (omega arith);
+    others = λ l many. refl;
   }
 
   module _ (h m g : History k.service) (was mid later : ℕ → k.marking.Marked) (number c lane : ℕ) (old between new : List Record) where
@@ -229,6 +233,10 @@ module _ (k : KeptService) (start : World k.service) where
       before = λ l n e here. ⊎_elim (λ earlier. each.before l n e (cut_before k.service m one.step.mid l n e one.step.others earlier)) (λ same. inr same)
           (added l n e (subst (λ (x : History k.service). IsIn (x.lane l) (WasCut n e true)) one.step.added here));
       register = ap (λ (x : History k.service). register_cut x.register) one.step.added ∙ register_before k.service m one.step.mid one.step.others ∙ each.register;
+      uncut = register_stays k.service start m g lane (WasCut number c found) one.step ∙ each.uncut;
+      once = λ is l few. once_by whole found each one is l few;
+      others = λ l many. other_same k.service start m g lane (WasCut number c found) one.step l (λ same. absurd (omega (arith, many, same)))
+          ∙ each.others l (omega (arith, many));
     }
       where
         longer : (found : Bool) → TakesCut k start m g mid later lane number c found between new → IsPrefix m g
@@ -250,6 +258,20 @@ module _ (k : KeptService) (start : World k.service) where
         here_now : (found : Bool) (one : TakesCut k start m g mid later lane number c found between new) → IsIn (g.lane lane) (WasCut number c found)
         here_now found one = subst (λ (x : History k.service). IsIn (x.lane lane) (WasCut number c found)) (sym one.step.added)
             (lane_has k.service one.step.mid lane (WasCut number c found))
+
+        once_by : (whole found : Bool) → CutsEach k start h m was mid number c lane whole old between
+            → TakesCut k start m g mid later lane number c found between new → (whole && found) ≡ true
+            → (l : ℕ) → l < lane + 1 → cuts_of_lane (g.lane l) ≡ cuts_of_lane (h.lane l) ++ (let i : LaneItem k.service.Task k.service.Reply = WasCut number c true in i) ∷ []
+        once_by false found each one is l few = absurd (cc)
+        once_by true false each one is l few = absurd (cc)
+        once_by true true each one is l few =
+            let i : LaneItem k.service.Task k.service.Reply = WasCut number c true in
+            ⊎_elim
+            (λ same. subst (λ (n : ℕ). cuts_of_lane (g.lane n) ≡ cuts_of_lane (h.lane n) ++ i ∷ []) (sym same.1)
+            (lane_more k.service start m g lane i one.step
+            ∙ ap (λ (zs : LaneList k.service). zs ++ i ∷ []) (each.others lane (omega arith))))
+            (λ other. let apart : l ≢ lane = other.1 in other_same k.service start m g lane i one.step l apart ∙ each.once refl l (omega arith))
+            (eqb_tells l lane)
 
         short_by : (whole found : Bool) → CutsEach k start h m was mid number c lane whole old between
             → TakesCut k start m g mid later lane number c found between new → (whole && found) ≡ false
@@ -287,7 +309,7 @@ module _ (k : KeptService) (start : World k.service) where
             (with_added old new added x taken.cut.1)
             (said_with_register k.marking start step.mid step.before was (put_all old x) (put_all added (put_all old x)) (writes.lanes _)
             (writes.own _ there.catalogue) there);
-        adds = λ since a. subst (λ (w : ℕ → k.marking.Marked). AddCuts k start since g w new) (sym same) (then_register h g was p true old new a taken);
+        adds = λ since first a. subst (λ (w : ℕ → k.marking.Marked). AddCuts k start since first g w new) (sym same) (then_register h g was p true old new a taken);
       }
   registers_advance h g was later p false old new legal same taken =
       let step = taken.step in
@@ -299,7 +321,7 @@ module _ (k : KeptService) (start : World k.service) where
             let there = cuts_stay_said k.marking start h step.mid (put_all old x) was legal step.others b in
             said_by _ g was later _ _ (sym step.added) (sym same) (sym (ap (λ (rs : List Record). put_all rs x) taken.cut))
             (said_at_register k.marking start step.mid step.before was (RegisterCut p false) (put_all old x) refl there);
-        adds = λ since a. subst (λ (w : ℕ → k.marking.Marked). AddCuts k start since g w new) (sym same) (then_register h g was p false old new a taken);
+        adds = λ since first a. subst (λ (w : ℕ → k.marking.Marked). AddCuts k start since first g w new) (sym same) (then_register h g was p false old new a taken);
       }
 
   module _ (h g : History k.service) (p : ℕ) (old new : List Record) where

@@ -1,5 +1,5 @@
 -- A desk after the steps of the callers' side.
-use Rattle.std.proofs.Common.{◌≡◌, inl, inr, ⊎_elim, ℕ, ◌≤◌, Bool, true, false, List, Some, None, refl, ap, sym, ◌∙◌, subst, arith}
+use Rattle.std.proofs.Common.{◌≡◌, inl, inr, ⊎_elim, ℕ, ◌≤◌, Bool, true, false, List, [], ◌∷◌, ◌++◌, Some, None, refl, ap, sym, ◌∙◌, subst, arith}
 use Rattle.std.specs.List.{AllByRecursion}
 use Rattle.edge_traits.specs.declared.disk.Disk.{Ghosts}
 use Rattle.flush_journal.specs.Moments.{CrashLeaves}
@@ -9,8 +9,9 @@ use Rattle.flush_journal.specs.declared.journal.Journal.{Journal}
 use Rattle.flush_journal.proofs.Moments.{no_call}
 use Rattle.flush_journal.proofs.Unchanged.{same_here}
 use Rattle.lane_histories.specs.Services.{World}
-use Rattle.lane_histories.specs.Histories.{History, IsIn, places}
+use Rattle.lane_histories.specs.Histories.{History, IsIn, LaneList, places}
 use Rattle.lane_histories.specs.declared.items.LaneItem.TheVariants.{WasCut}
+use Rattle.lane_histories.specs.declared.items.RegisterItem.TheVariants.{DrawnCut, RegisterCut}
 use Rattle.lane_histories.specs.declared.items.Reach.{Reach}
 use Rattle.lane_histories.specs.Legal.{IsLegal, IsPrefix}
 use Rattle.lane_histories.specs.Cuts.{IsOfCuts, IsWholeCut, last_cut, register_cut}
@@ -23,38 +24,48 @@ use Rattle.journal_desk.specs.KeptServices.{contents}
 use Rattle.journal_desk.specs.Notes.{AreAlike, NoteOf, at_lanes}
 use Rattle.journal_desk.specs.Standing.{standing_of}
 use Rattle.journal_desk.specs.Desks.{IsDesk, HoldsAsFar}
-use Rattle.journal_desk.specs.Cuts.{Advances, CutsEach, DrawsCut, Resumes, TakesRegisterCut}
+use Rattle.journal_desk.specs.Cuts.{Advances, CutsEach, CutsLanes, CutsRegister, DrawsCut, Resumes, TakesRegisterCut, cuts_of_lane, cuts_of_register}
 use Rattle.journal_desk.specs.Keepings.{Continues}
+use Rattle.journal_desk.specs.Owed.{OwesCuts}
 use Rattle.journal_desk.specs.declared.note.Note.{Ghosts as Notes}
 use Rattle.journal_desk.proofs.ImageLemmas.{as_far, image_kept, longer_image}
 use Rattle.journal_desk.proofs.ContinueLemmas.{continues_by}
 use Rattle.journal_desk.proofs.OwedLemmas.{owes_cut, owes_on}
 use Rattle.journal_desk.proofs.DeskLemmas.{grown_desk}
+use Rattle.journal_desk.proofs.OrderLemmas.{lanes_same, register_more}
 use Rattle.journal_desk.proofs.StepLemmas.{advances_both, draws_advance, draws_it, draws_register, drawn_cut_before, drawn_earlier, drawn_last}
 use Rattle.journal_desk.proofs.StepLemmas.{not_both, places_at, register_before, register_in, register_last, register_now, register_same}
 use Rattle.journal_desk.proofs.StepLemmas.{registers_advance, registers_whole, whole_before}
 
 -- what is true of the desk and its note after the lanes' cuts
-pub record AreLanesCut {D N : Type 0} {met : Ghosts D} (notes : NoteOf N) (j : Journal D met) (built : List Record) (cut kept : Reach) (before after : N)
-    (whole : Bool) (c : ℕ) : Type 0 where
+pub record AreLanesCut {D N : Type 0} {met : Ghosts D} (notes : NoteOf N) (j : Journal D met) (building built : List Record) (cut kept : Reach)
+    (before after : N) (whole : Bool) (c : ℕ) : Type 0 where
   pub start : notes.start after ≡ notes.start before
   pub legal : IsLegal notes.kept.service (notes.start before) (notes.history after)
   pub longer : IsPrefix (notes.history before) (notes.history after)
   pub keepings : (notes.history after).keepings ≡ (notes.history before).keepings
   pub places_are : places (notes.history before).register ≤ c
+  pub owes : (since : N) → OwesCuts notes.kept (notes.start before) (notes.history since) (notes.was since) (notes.history before) (notes.was before)
+      (pending_of j) building kept
+      → OwesCuts notes.kept (notes.start after) (notes.history since) (notes.was since) (notes.history after) (notes.was after) (pending_of j) built kept
   pub short : whole ≡ false → IsDesk notes.kept (notes.start after) (notes.history after) (notes.was after) j built cut kept
+  pub order : whole ≡ true → (number : ℕ) × CutsLanes notes.kept.service (notes.history before) (notes.history after) number c
   pub well : whole ≡ true → IsDesk notes.kept (notes.start after) (notes.history after) (notes.was after) j built (record cut { c = c }) kept
 
 -- and after the register's
-pub record IsRegisterCut {D N : Type 0} {met : Ghosts D} (notes : NoteOf N) (j : Journal D met) (built : List Record) (cut kept : Reach) (before after : N)
-    (found : Bool) (p : ℕ) : Type 0 where
+pub record IsRegisterCut {D N : Type 0} {met : Ghosts D} (notes : NoteOf N) (j : Journal D met) (building built : List Record) (cut kept : Reach)
+    (before after : N) (found : Bool) (p : ℕ) : Type 0 where
   pub start : notes.start after ≡ notes.start before
   pub legal : IsLegal notes.kept.service (notes.start before) (notes.history after)
   pub longer : IsPrefix (notes.history before) (notes.history after)
   pub keepings : (notes.history after).keepings ≡ (notes.history before).keepings
   pub places_are : places (notes.history before).register ≤ p
+  pub owes : (since : N) → OwesCuts notes.kept (notes.start before) (notes.history since) (notes.was since) (notes.history before) (notes.was before)
+      (pending_of j) building kept
+      → OwesCuts notes.kept (notes.start after) (notes.history since) (notes.was since) (notes.history after) (notes.was after) (pending_of j) built kept
   pub short : found ≡ false → IsDesk notes.kept (notes.start after) (notes.history after) (notes.was after) j built cut kept
   pub well : found ≡ true → IsDesk notes.kept (notes.start after) (notes.history after) (notes.was after) j built (record cut { p = p }) kept
+  pub order : found ≡ true → CutsRegister notes.kept.service (notes.history before) (notes.history after) p
   pub last : found ≡ true → last_cut None (notes.history after).register ≡ Some p
 
 module _ {D N : Type 0} {met : Ghosts D} (notes : NoteOf N) (j : Journal D met) (building : List Record) (cut kept : Reach) (before : N)
@@ -63,10 +74,10 @@ module _ {D N : Type 0} {met : Ghosts D} (notes : NoteOf N) (j : Journal D met) 
   pub continues_grown : (after : N) → notes.start after ≡ notes.start before → IsLegal notes.kept.service (notes.start before) (notes.history after)
       → IsPrefix (notes.history before) (notes.history after)
       → (met.honest → (c : List ℕ) → met.left_since (disk_of j) (met.moment (disk_of j)) c → met.images (disk_of j) c)
-      → (lanes : ℕ) (at : D) (built : List Record) (now : Reach)
-      → Continues met notes (standing_of lanes j building cut kept at before) (standing_of lanes j built now kept at after)
-  continues_grown after start legal prefix only_now lanes at built now =
-      continues_by met notes (standing_of lanes j building cut kept at before) (standing_of lanes j built now kept at after) refl start legal prefix
+      → (lanes : ℕ) (at : D) (since : N) (built : List Record) (now : Reach)
+      → Continues met notes (standing_of lanes j building cut kept at since before) (standing_of lanes j built now kept at since after)
+  continues_grown after start legal prefix only_now lanes at since built now =
+      continues_by met notes (standing_of lanes j building cut kept at since before) (standing_of lanes j built now kept at since after) refl start legal prefix
       (same_here met (disk_of j)) (as_far kept) (λ honest. omega arith) leaves
     where
       leaves : met.honest → CrashLeaves met (disk_of j) (disk_of j) (HoldsAsFar notes.kept (notes.start before) (notes.history after) kept)
@@ -88,8 +99,18 @@ module _ {D N : Type 0} {met : Ghosts D} (notes : NoteOf N) (j : Journal D met) 
       (λ x b. cuts_stay_said notes.kept.marking (notes.start before) (notes.history before) (notes.history after) _ (notes.was before) inv.legal more.others b)
       (cuts_longer notes.kept.service (contents notes.kept) (notes.start before) (notes.history before) (notes.history after) here more.others.longer cut inv.cut_cuts)
       (λ number e whole. inv.last_lanes number e (whole_before notes.kept.service (notes.history before) (notes.history after) number e more.others whole))
-      (inv.last_register ∙ sym (register_before notes.kept.service (notes.history before) (notes.history after) more.others)) inv.far
-      (owes_on notes.kept (notes.start before) (notes.history before) (notes.history after) (notes.was before) (pending_of j) building kept more.others) (inl refl))
+      (inv.last_register ∙ sym (register_before notes.kept.service (notes.history before) (notes.history after) more.others)) inv.far (inl refl))
+
+  -- and what is owed stays
+  pub resumed_owes : (since after : N) → notes.start after ≡ notes.start before → notes.was after ≡ notes.was before
+      → Resumes (notes.history before) (notes.history after) kept
+      → OwesCuts notes.kept (notes.start before) (notes.history since) (notes.was since) (notes.history before) (notes.was before) (pending_of j) building kept
+      → OwesCuts notes.kept (notes.start after) (notes.history since) (notes.was since) (notes.history after) (notes.was after) (pending_of j) building kept
+  resumed_owes since after start was more owes =
+      subst (λ (x : World notes.kept.service × (ℕ → notes.kept.marking.Marked)). OwesCuts notes.kept x.0 (notes.history since) (notes.was since)
+      (notes.history after) x.1 (pending_of j) building kept) (λ i. (sym start i, sym was i))
+      (owes_on notes.kept (notes.start before) (notes.history since) (notes.was since) (notes.history before) (notes.history after) (notes.was before)
+      (pending_of j) building kept more.others owes)
 
   module _ (idle : pending_of j ≡ None) where
     -- the callers' side advanced, and the cuts may reach farther
@@ -102,8 +123,19 @@ module _ {D N : Type 0} {met : Ghosts D} (notes : NoteOf N) (j : Journal D met) 
         subst (λ (x : World notes.kept.service × History notes.kept.service × (ℕ → notes.kept.marking.Marked)). IsDesk notes.kept x.0 x.1 x.2 j built now kept)
         (λ i. (sym start i, sym same i, sym alike i))
         (grown_desk notes.kept (notes.start before) (notes.history before) g (notes.was before) later adv.legal adv.longer j building built cut now kept inv
-        (subst (AllByRecursion (λ i. IsAsFar i.own kept)) (sym adv.keepings) inv.keepings) adv.built cuts lanes register far
-        (owes_cut notes.kept (notes.start before) (notes.history before) g (notes.was before) later (pending_of j) building built kept idle adv) (inr idle))
+        (subst (AllByRecursion (λ i. IsAsFar i.own kept)) (sym adv.keepings) inv.keepings) adv.built cuts lanes register far (inr idle))
+
+    -- and what they cut is owed
+    advanced_owes : (g : History notes.kept.service) (later : ℕ → notes.kept.marking.Marked) (built : List Record) (since after : N)
+        → Advances notes.kept (notes.start before) (notes.history before) g (notes.was before) later building built
+        → notes.start after ≡ notes.start before → notes.history after ≡ g → notes.was after ≡ later
+        → OwesCuts notes.kept (notes.start before) (notes.history since) (notes.was since) (notes.history before) (notes.was before) (pending_of j) building kept
+        → OwesCuts notes.kept (notes.start after) (notes.history since) (notes.was since) (notes.history after) (notes.was after) (pending_of j) built kept
+    advanced_owes g later built since after adv start same alike owes =
+        subst (λ (x : World notes.kept.service × History notes.kept.service × (ℕ → notes.kept.marking.Marked)). OwesCuts notes.kept x.0
+        (notes.history since) (notes.was since) x.1 x.2 (pending_of j) built kept) (λ i. (sym start i, sym same i, sym alike i))
+        (owes_cut notes.kept (notes.start before) (notes.history since) (notes.was since) (notes.history before) g (notes.was before) later
+        (pending_of j) building built kept idle adv owes)
 
     -- ---- the lanes' cuts
 
@@ -192,14 +224,25 @@ module _ {D N : Type 0} {met : Ghosts D} (notes : NoteOf N) (j : Journal D met) 
       lanes_keepings : (notes.history after).keepings ≡ (notes.history before).keepings
       lanes_keepings = ap (λ (h : History notes.kept.service). h.keepings) noted.history ∙ both.keepings
 
-      pub lanes_are_cut : AreLanesCut notes j built cut kept before after whole c
+      lanes_order : whole ≡ true → CutsLanes notes.kept.service (notes.history before) (notes.history after) number c
+      lanes_order is = record {
+        register = ap (λ (h : History notes.kept.service). cuts_of_register h.register) noted.history ∙ each_here.uncut
+            ∙ register_more notes.kept.service (notes.start before) (notes.history before) (notes.history n1) (DrawnCut number c) drawn_here.step;
+        lanes = λ l few. ap (λ (h : History notes.kept.service). cuts_of_lane (h.lane l)) noted.history ∙ each_here.once is l few
+            ∙ ap (λ (zs : LaneList notes.kept.service). zs ++ WasCut number c true ∷ [])
+            (lanes_same notes.kept.service (notes.start before) (notes.history before) (notes.history n1) (DrawnCut number c) drawn_here.step l);
+      }
+
+      pub lanes_are_cut : AreLanesCut notes j building built cut kept before after whole c
       lanes_are_cut = record {
         start = same_start;
         legal = lanes_legal;
         longer = lanes_longer;
         keepings = lanes_keepings;
         places_are = lanes_places;
+        owes = λ since owes. advanced_owes (notes.history n2) (notes.was n2) built since after both same_start noted.history noted.was owes;
         short = short_desk;
+        order = λ is. (number, lanes_order is);
         well = whole_desk;
       }
 
@@ -271,14 +314,24 @@ module _ {D N : Type 0} {met : Ghosts D} (notes : NoteOf N) (j : Journal D met) 
       register_keepings : (notes.history after).keepings ≡ (notes.history before).keepings
       register_keepings = ap (λ (h : History notes.kept.service). h.keepings) noted.history ∙ advance.keepings
 
-      pub register_is_cut : IsRegisterCut notes j built cut kept before after found p
+      register_order : found ≡ true → CutsRegister notes.kept.service (notes.history before) (notes.history after) p
+      register_order is = let step = (found_here is).step in record {
+        register = ap (λ (h : History notes.kept.service). cuts_of_register h.register) noted.history
+            ∙ register_more notes.kept.service (notes.start before) (notes.history before) (notes.history n1) (RegisterCut p true) step;
+        lanes = λ l. ap (λ (h : History notes.kept.service). cuts_of_lane (h.lane l)) noted.history
+            ∙ lanes_same notes.kept.service (notes.start before) (notes.history before) (notes.history n1) (RegisterCut p true) step l;
+      }
+
+      pub register_is_cut : IsRegisterCut notes j building built cut kept before after found p
       register_is_cut = record {
         start = register_start;
         legal = register_legal;
         longer = register_longer;
         keepings = register_keepings;
         places_are = register_places;
+        owes = λ since owes. advanced_owes (notes.history n1) (notes.was n1) built since after advance register_start noted.history noted.was owes;
         short = uncut_desk;
+        order = register_order;
         well = recut_desk;
         last = last_is;
       }
@@ -295,7 +348,7 @@ module _ {D N : Type 0} {met : Ghosts D} (family : Notes N) (lanes : ℕ) (j : J
       → CutsEach (family.kept l1) (family.start l1 n1) (family.history l1 n1) (family.history l1 n2) (family.was l1 n1) (family.was l1 n2) number c
       (family.kept l1).service.lanes whole building built
       → family.start l1 n2 ≡ family.start l1 n1 → AreAlike (at_lanes family l2) after n2
-      → AreLanesCut (at_lanes family lanes) j built cut kept before after whole c
+      → AreLanesCut (at_lanes family lanes) j building built cut kept before after whole c
   lanes_are_cut_over built whole number c n0 n1 n2 after l l1 l2 e e1 e2 at draws first first_was each second noted =
       let f1 : l1 ≡ lanes = e1 ∙ e in
       let f2 : l2 ≡ lanes = e2 ∙ f1 in
@@ -310,7 +363,7 @@ module _ {D N : Type 0} {met : Ghosts D} (family : Notes N) (lanes : ℕ) (j : J
       → l ≡ lanes → l1 ≡ l → AreAlike (at_lanes family lanes) before n0
       → TakesRegisterCut (family.kept l) (family.start l n0) (family.history l n0) (family.history l n1) p found building built
       → family.start l n1 ≡ family.start l n0 → family.was l n1 ≡ family.was l n0 → AreAlike (at_lanes family l1) after n1
-      → IsRegisterCut (at_lanes family lanes) j built cut kept before after found p
+      → IsRegisterCut (at_lanes family lanes) j building built cut kept before after found p
   register_is_cut_over built found p n0 n1 after l l1 e e1 at cuts first first_was noted =
       let f1 : l1 ≡ lanes = e1 ∙ e in
       register_is_cut (at_lanes family lanes) j building cut kept before inv idle built found p n0 n1 after at

@@ -3,10 +3,9 @@
 --     HoldsAsFar k start h own image    with numbers that are at least these
 --     HoldSince ..                      so does whatever a crash since a moment leaves
 --     IsFileOf ..       what the disk holds, what is pending and what is building, as contents
---     IsDesk ..         the numbers are those of the note's cuts; what is pending or building is what cuts added since those that are kept; and
---                       where the disk is honest, what it holds is kept from the note's lists
+--     IsDesk ..         the numbers are those of the note's cuts; and where the disk is honest, what it holds is kept from the note's lists
 --     AreAnswered ..    and since their moments so was what was answered
---     IsSoundDesk ..    all of it
+--     IsSoundDesk ..    all of it; and what is pending or building is what cuts added since what is kept was cut
 --     Opens ..          a journal before any request
 use Rattle.std.specs.Prelude.{◌≡◌, ℕ, ◌≤◌, List, [], Some, None}
 use Rattle.std.specs.List.{AllByRecursion}
@@ -76,7 +75,6 @@ pub record IsDesk {D : Type 0} {met : Ghosts D} (k : KeptService) (start : World
   pub far : IsAsFar kept cut
   -- of each keeping in the note
   pub keepings : AllByRecursion (λ i. IsAsFar i.own kept) h.keepings
-  pub owes : OwesCuts k start h was (pending_of j) building kept
   pub on_disk : met.honest → IsOnDisk k start h was j building cut kept
 
 -- what was kept, since the disk was so; and for each keeping in the note that was answered Ok, what it kept, since its moment
@@ -86,9 +84,11 @@ pub record AreAnswered {D : Type 0} (met : Ghosts D) (k : KeptService) (start : 
   pub each : met.honest → (i : Keeping) → IsIn h.keepings i → i.answer ≡ Kept
       → (i.moment ≤ met.moment disk) × HoldSince met k start h disk i.moment i.own
 
-pub record IsSoundDesk {D : Type 0} {met : Ghosts D} (k : KeptService) (start : World k.service) (h : History k.service)
-    (was : ℕ → k.marking.Marked) (j : Journal D met) (building : List Record) (cut kept : Reach) (at : D) : Type 0 where
+pub record IsSoundDesk {D : Type 0} {met : Ghosts D} (k : KeptService) (start : World k.service) (since : History k.service)
+    (first : ℕ → k.marking.Marked) (h : History k.service) (was : ℕ → k.marking.Marked) (j : Journal D met) (building : List Record)
+    (cut kept : Reach) (at : D) : Type 0 where
   pub desk : IsDesk k start h was j building cut kept
+  pub owes : OwesCuts k start since first h was (pending_of j) building kept
   pub answered : AreAnswered met k start h (disk_of j) at kept
 
 -- ---- the opening

@@ -44,6 +44,7 @@ pub record SameJournal {D N : Type 0} (old new : Standing D N) : Type 0 where
   pub pending : new.pending ≡ old.pending
   pub kept : new.kept ≡ old.kept
   pub at : new.at ≡ old.at
+  pub since : new.since ≡ old.since
 
 -- how many bytes a batch needs that is pending, 0 where none is
 abbrev pub owed_by : Option (List Record) → ℕ

@@ -7,7 +7,8 @@ use Rattle.flush_journal.specs.declared.journal.Journal.{Journal}
 use Rattle.lane_histories.specs.declared.items.Reach.{Reach}
 
 -- how many lanes there are; the disk; the end of the journal's file and the batch that is pending; what was cut and not appended yet; how
--- far the last cuts reach, and how far what the disk holds; the disk as it was when that was reached; and the note
+-- far the last cuts reach, and how far what the disk holds; the disk as it was when that was reached, and the note as it was when that was cut;
+-- and the note
 pub record Standing (D N : Type 0) : Type 0 where
   pub lanes : ℕ
   pub disk : D
@@ -17,10 +18,11 @@ pub record Standing (D N : Type 0) : Type 0 where
   pub cut : Reach
   pub kept : Reach
   pub at : D
+  pub since : N
   pub note : N
 
-abbrev pub standing_of : {D N : Type 0} {met : Ghosts D} → ℕ → Journal D met → List Record → Reach → Reach → D → N → Standing D N
-standing_of lanes j building cut kept at note = record {
+abbrev pub standing_of : {D N : Type 0} {met : Ghosts D} → ℕ → Journal D met → List Record → Reach → Reach → D → N → N → Standing D N
+standing_of lanes j building cut kept at since note = record {
   lanes = lanes;
   disk = disk_of j;
   end = end_of j;
@@ -29,5 +31,6 @@ standing_of lanes j building cut kept at note = record {
   cut = cut;
   kept = kept;
   at = at;
+  since = since;
   note = note;
 }

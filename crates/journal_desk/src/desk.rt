@@ -20,8 +20,8 @@ ghost use Rattle.journal_desk.specs.Desks.{HoldsAsFar, HoldsKept};
 ghost use Rattle.journal_desk.specs.Keepings.{AreItsKeepings, Continues, HasKept, IsAllKept};
 ghost use Rattle.journal_desk.specs.Keepings.{IsFullWhere, IsUpTo, MayRefuseTurn, SameJournal};
 ghost use Rattle.journal_desk.specs.Keepings.{SettlesFirst};
-ghost use Rattle.journal_desk.specs.Cuts.{CutsEach, Resumes};
-ghost use Rattle.journal_desk.specs.Owed.{OwesCuts};
+ghost use Rattle.journal_desk.specs.Cuts.{CutsAll, CutsEach, CutsLanes, CutsRegister, Resumes};
+ghost use Rattle.journal_desk.specs.Owed.{AppendsCuts, OwesCuts, since_held};
 ghost use Rattle.journal_desk.specs.Notes.{at_lanes};
 
 use crate::note::Note;
@@ -53,8 +53,9 @@ pub struct Desk<D: Disk, N: Note> {
     // How far what the disk holds reaches.
     kept: Reach,
 
-    // The journal as it was when that was reached.
+    // The journal as it was when that was reached, and the note as it was when that was cut.
     at: Snapshot<Journal<D>>,
+    since: Snapshot<N>,
     note: N,
 }
 
@@ -69,9 +70,10 @@ impl<D: Disk, N: Note> Model for Desk<D, N> {
     ghost use Rattle.journal_desk.specs.Standing.{standing_of};
 
     ghost view = { λ d. standing_of d.lanes d.journal (records d.building) d.cut d.kept
-        (disk_of d.at.value) d.note };
+        (disk_of d.at.value) d.since.value d.note };
 
     ghost invariant = { λ d. IsSoundDesk (N.kept d.lanes) (N.start d.lanes d.note)
+        (N.history d.lanes d.since.value) (N.was d.lanes d.since.value)
         (N.history d.lanes d.note) (N.was d.lanes d.note) d.journal (records d.building)
         d.cut d.kept (disk_of d.at.value) };
 }
@@ -95,9 +97,10 @@ impl<D: Disk, N: Note> Desk<D, N> {
             × (result.end ≡ end_of journal) }
         ensures idle { (result.pending ≡ None) × (result.building ≡ []) }
         ensures reach { (result.cut ≡ nowhere) × (result.kept ≡ nowhere) }
-        ensures note { result.note ≡ note }
+        ensures note { (result.note ≡ note) × (result.since ≡ note) }
     {
         let at = Snapshot::of(&journal);
+        let since = Snapshot::of(&note);
         let none = Reach { c: 0, p: 0 };
         Desk {
             alloc,
@@ -107,6 +110,7 @@ impl<D: Disk, N: Note> Desk<D, N> {
             cut: none,
             kept: none,
             at,
+            since,
             note,
         }
     }
@@ -167,10 +171,11 @@ impl<D: Disk, N: Note> Desk<D, N> {
     }
 
     /// What is pending, or was cut and not appended yet, is just what cuts of lanes and of the
-    /// catalogue added since the cuts that are kept, in their order. While a batch is pending,
-    /// nothing is cut.
+    /// catalogue added since what is kept was cut, in their order, and all of it. While a batch is
+    /// pending, nothing is cut.
     pub fn owed_is_of_cuts(&self)
         ensures owed { OwesCuts (N.kept self.now.lanes) (N.start self.now.lanes self.now.note)
+            (N.history self.now.lanes self.now.since) (N.was self.now.lanes self.now.since)
             (N.history self.now.lanes self.now.note) (N.was self.now.lanes self.now.note)
             self.now.pending self.now.building self.now.kept }
     {
@@ -229,6 +234,8 @@ impl<D: Disk, N: Note> Desk<D, N> {
         ensures grown { (rs : List Record) → self.old.pending ≡ Some rs
             → OnOk result (self.new.end ≡ self.old.end + frame_size rs) }
         ensures stays { OnErr result (self.new.end ≡ self.old.end) }
+        ensures since { OnOk result (self.new.since ≡ since_held self.old) }
+        ensures unwritten { OnErr result (self.new.since ≡ self.old.since) }
         ensures same { (self.new.building ≡ self.old.building) × (self.new.cut ≡ self.old.cut)
             × (self.new.note ≡ self.old.note) }
         ensures cause { IfErr result (MayRefuseTurn D.Disk self.old self.new) }
@@ -240,6 +247,7 @@ impl<D: Disk, N: Note> Desk<D, N> {
             self.journal.settle()?;
             self.kept = self.cut;
             self.at = Snapshot::of(&self.journal);
+            self.since = Snapshot::of(&self.note);
         }
         Ok(())
     }
@@ -264,6 +272,9 @@ impl<D: Disk, N: Note> Desk<D, N> {
         ensures ok { IfOk result (λ c. (self.new.cut.c ≡ c)
             × (places (N.history self.old.lanes self.old.note).register ≤ c)) }
         ensures err { OnErr result (self.new.cut ≡ self.old.cut) }
+        ensures order { OnOk result ((number : ℕ) × CutsLanes (N.kept self.old.lanes).service
+            (N.history self.old.lanes self.old.note) (N.history self.old.lanes self.new.note)
+            number self.new.cut.c) }
     {
         let c = turns.draw_cut();
         let whole = cut_each(turns, &mut self.building);
@@ -297,6 +308,9 @@ impl<D: Disk, N: Note> Desk<D, N> {
             × (places (N.history self.old.lanes self.old.note).register ≤ self.new.cut.p)) }
         ensures err { OnErr result (self.new.cut ≡ self.old.cut) }
         ensures drawn { T.drawn turns.new ≡ T.drawn turns.old }
+        ensures order { OnOk result (CutsRegister (N.kept self.old.lanes).service
+            (N.history self.old.lanes self.old.note) (N.history self.old.lanes self.new.note)
+            self.new.cut.p) }
     {
         let places = turns.cut_register(&mut self.building);
         self.note = turns.note();
@@ -325,6 +339,7 @@ impl<D: Disk, N: Note> Desk<D, N> {
             → OnOk result (self.new.end ≡ self.old.end + frame_size self.old.building) }
         ensures stays { OnErr result (self.new.end ≡ self.old.end) }
         ensures nothing { self.old.building ≡ [] → self.new.end ≡ self.old.end }
+        ensures wrote { AppendsCuts (at_lanes N.Note self.old.lanes) self.old self.new result }
         ensures same { (self.new.building ≡ []) × (self.new.cut ≡ self.old.cut)
             × (self.new.note ≡ self.old.note) }
         ensures cause { IfErr result (MayRefuseTurn D.Disk self.old self.new) }
@@ -334,11 +349,12 @@ impl<D: Disk, N: Note> Desk<D, N> {
         append_all(self.alloc, &mut self.journal, &mut self.building)?;
         self.kept = self.cut;
         self.at = Snapshot::of(&self.journal);
+        self.since = Snapshot::of(&self.note);
         Ok(())
     }
 
-    /// Keeps all that was done: writes what is pending, cuts each lane and then the register, and
-    /// appends. Answers how many places are kept, which are at least those that had been given.
+    /// Keeps all that was done: writes what is pending, cuts each lane and then the register, once
+    /// each, and appends just what was cut. Answers how many places are kept, which are at least those that had been given.
     /// Where a batch is pending on a disk that has stopped, or doesn't fit, it is refused, and
     /// nothing is cut.
     ///
@@ -359,9 +375,13 @@ impl<D: Disk, N: Note> Desk<D, N> {
         ensures ok { IfOk result (λ c. (self.new.kept.c ≡ c)
             × (places (N.history self.old.lanes self.old.note).register ≤ c)) }
         ensures all { OnOk result (IsAllKept self.new) }
+        ensures wrote { AppendsCuts (at_lanes N.Note self.old.lanes) self.old self.new result }
         ensures cause { IfErr result (MayRefuseTurn D.Disk self.old self.new) }
         ensures full { IsFullWhere D.Disk self.new result }
         ensures first { SettlesFirst D.Disk self.old self.new result }
+        ensures order { OnOk result ((number : ℕ) × CutsAll (N.kept self.old.lanes).service
+            (N.history self.old.lanes self.old.note) (N.history self.old.lanes self.new.note)
+            number self.new.cut.c self.new.cut.p) }
         ensures stopped { self.old.pending ≢ None → D.stopped self.old.disk → IsErr result }
     {
         self.settle()?;
@@ -392,9 +412,13 @@ impl<D: Disk, N: Note> Desk<D, N> {
         ensures ok { IfOk result (λ p. (self.new.kept.p ≡ p)
             × (places (N.history self.old.lanes self.old.note).register ≤ p)) }
         ensures all { OnOk result (IsAllKept self.new) }
+        ensures wrote { AppendsCuts (at_lanes N.Note self.old.lanes) self.old self.new result }
         ensures cause { IfErr result (MayRefuseTurn D.Disk self.old self.new) }
         ensures full { IsFullWhere D.Disk self.new result }
         ensures first { SettlesFirst D.Disk self.old self.new result }
+        ensures order { OnOk result (CutsRegister (N.kept self.old.lanes).service
+            (N.history self.old.lanes self.old.note) (N.history self.old.lanes self.new.note)
+            self.new.cut.p) }
         ensures stopped { self.old.pending ≢ None → D.stopped self.old.disk → IsErr result }
     {
         self.settle()?;

@@ -4,7 +4,9 @@ use Rattle.std.specs.List.{AllByRecursion}
 use Rattle.lane_histories.specs.Services.{Service}
 use Rattle.lane_histories.specs.Histories.{IsIn, objects_step, objects_after, places, RegisterItem, Entered, DrawnCut, RegisterCut, Passed, WasCut, RegisterList, LaneList}
 use Rattle.lane_histories.specs.Legal.{IsLegalRegister}
-use Rattle.lane_histories.specs.Cuts.{last_cut, objects_cut, register_cut, register_cut_from, IsEntry, IsNoCut}
+use Rattle.lane_histories.specs.declared.items.Outcome.{Outcome}
+use Rattle.lane_histories.specs.declared.items.Part.{Part}
+use Rattle.lane_histories.specs.Cuts.{behind_cut_from, last_cut, objects_cut, register_cut, register_cut_from, IsEntry, IsNoCut}
 use Rattle.lane_histories.proofs.RegisterLists.{register_at_most}
 
 module _ (s : Service) where
@@ -26,6 +28,27 @@ module _ (s : Service) where
   objects_cut_now cut now (Passed place part task y ∷ xs) number c = objects_cut_now cut (objects_step s now (Passed place part task y)) xs number c
   objects_cut_now cut now (WasCut earlier e true ∷ xs) number c = objects_cut_now now now xs number c
   objects_cut_now cut now (WasCut earlier e false ∷ xs) number c = objects_cut_now cut now xs number c
+
+  -- what is behind the last cut, with one item more
+  pub behind_passed : (since xs : LaneList s) (place : ℕ) (part : Part) (task : s.Task) (y : Outcome s.Reply)
+      → behind_cut_from since (xs ++ Passed place part task y ∷ []) ≡ behind_cut_from since xs ++ Passed place part task y ∷ []
+  behind_passed since [] place part task y = refl
+  behind_passed since (Passed p q t z ∷ xs) place part task y = behind_passed (since ++ Passed p q t z ∷ []) xs place part task y
+  behind_passed since (WasCut number c true ∷ xs) place part task y = behind_passed [] xs place part task y
+  behind_passed since (WasCut number c false ∷ xs) place part task y = behind_passed (since ++ WasCut number c false ∷ []) xs place part task y
+
+  pub behind_short : (since xs : LaneList s) (number c : ℕ)
+      → behind_cut_from since (xs ++ WasCut number c false ∷ []) ≡ behind_cut_from since xs ++ WasCut number c false ∷ []
+  behind_short since [] number c = refl
+  behind_short since (Passed p q t z ∷ xs) number c = behind_short (since ++ Passed p q t z ∷ []) xs number c
+  behind_short since (WasCut earlier e true ∷ xs) number c = behind_short [] xs number c
+  behind_short since (WasCut earlier e false ∷ xs) number c = behind_short (since ++ WasCut earlier e false ∷ []) xs number c
+
+  pub behind_found : (since xs : LaneList s) (number c : ℕ) → behind_cut_from since (xs ++ WasCut number c true ∷ []) ≡ []
+  behind_found since [] number c = refl
+  behind_found since (Passed p q t z ∷ xs) number c = behind_found (since ++ Passed p q t z ∷ []) xs number c
+  behind_found since (WasCut earlier e true ∷ xs) number c = behind_found [] xs number c
+  behind_found since (WasCut earlier e false ∷ xs) number c = behind_found (since ++ WasCut earlier e false ∷ []) xs number c
 
   -- ---- the register
 

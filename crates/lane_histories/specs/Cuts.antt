@@ -4,8 +4,9 @@
 --     last_cut None items         the places at the last of all cuts, if that is a register cut that found memory
 --     register_cut items          the places at the last register cut that found memory
 --     objects_at_cut s o items    a lane's objects at its last cut that found memory
+--     behind_cut items            its items behind that cut
 --     GoesOn h g                  requests and turns came, and no cut
-use Rattle.std.specs.Prelude.{◌≡◌, ◌⊎◌, ℕ, ◌<◌, ◌≤◌, Bool, true, false, List, [], ◌∷◌, Option, Some, None}
+use Rattle.std.specs.Prelude.{◌≡◌, ◌⊎◌, ℕ, ◌<◌, ◌≤◌, Bool, true, false, List, [], ◌∷◌, ◌++◌, Option, Some, None}
 use Rattle.std.specs.List.{AllByRecursion}
 use Rattle.lane_histories.specs.Services.{Service}
 use Rattle.lane_histories.specs.Histories.{RegisterItem, Entered, DrawnCut, RegisterCut, LaneItem, Passed, WasCut, LaneList, Reach, History, IsIn, objects_step}
@@ -66,6 +67,16 @@ objects_cut s cut now (WasCut number c false ∷ items) = objects_cut s cut now 
 -- and those at the opening before there is one
 abbrev pub objects_at_cut : (s : Service) → s.Objects → LaneList s → s.Objects
 objects_at_cut s o items = objects_cut s o o items
+
+abbrev pub behind_cut_from : {T R : Type 0} → List (LaneItem T R) → List (LaneItem T R) → List (LaneItem T R)
+behind_cut_from since [] = since
+behind_cut_from since (Passed place part task y ∷ items) = behind_cut_from (since ++ Passed place part task y ∷ []) items
+behind_cut_from since (WasCut number c true ∷ items) = behind_cut_from [] items
+behind_cut_from since (WasCut number c false ∷ items) = behind_cut_from (since ++ WasCut number c false ∷ []) items
+
+-- all of them before there is one
+abbrev pub behind_cut : {T R : Type 0} → List (LaneItem T R) → List (LaneItem T R)
+behind_cut items = behind_cut_from [] items
 
 -- ---- between cuts
 

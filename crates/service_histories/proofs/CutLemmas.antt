@@ -126,7 +126,9 @@ module _ (lanes : ℕ) where
 
     -- the records are the same, whatever is held
     pub owner_cuts_write : OwnerCutsWrite lanes
-    owner_cuts_write l was old new first last lane_is lanes_are since cuts =
+    owner_cuts_write l items was old new first last is cuts =
+        let lane_is = is.owner.lane_is in
+        let lanes_are = is.owner.lanes_are in
         let added = (cuts empty).cut.added in
         let same : (x : Held) → (cuts x).cut.added ≡ added = (λ x. same_back first _ _ (sym (cuts x).cut.appended ∙ (cuts empty).cut.appended)) in
         record {
@@ -138,8 +140,9 @@ module _ (lanes : ℕ) where
           appended = (cuts empty).cut.appended;
           writes = record {
             once = (cuts empty).cut.once;
+            changed = record { old = old; since = is; objects = (cuts empty).objects; changed = (cuts empty).cut.changed };
             own = λ x says. subst (λ (rs : List Record). SaysOwner lanes l (put_all rs x) new) (same x)
-                (same_owner l old new x (put_all (cuts x).cut.added x) (cuts x).same (since x says) (cuts x).cut.stands);
+                (same_owner l old new x (put_all (cuts x).cut.added x) (cuts x).same (is.owner.since x says) (cuts x).cut.stands);
             others = λ x m far. subst (λ (rs : List Record). KeepsSaid (array_marking lanes) m x (put_all rs x)) (same x)
                 (other_owner l old new x first last (cuts x) lane_is lanes_are m far);
             catalogue = λ x. subst (λ (rs : List Record). KeepsCatalogue (array_contents lanes) x (put_all rs x)) (same x)
@@ -202,6 +205,7 @@ module _ (lanes : ℕ) where
         (cuts empty).cut.appended,
         record {
           once = (cuts empty).cut.once;
+          changed = (cuts empty).cut.changed;
           own = λ x told. subst (λ (rs : List Record). TellsRegister (put_all rs x) (kept_part old)) (same x) (told_then others old new x first last (cuts x) k since told);
           lanes = λ x m. subst (λ (rs : List Record). KeepsSaid (array_marking lanes) m x (put_all rs x)) (same x)
               (each_owner_stays others old new x first last (cuts x) m);

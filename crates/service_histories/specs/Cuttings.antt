@@ -1,28 +1,42 @@
 -- What cuts of an owner and of the register do to what is held.
 --     OwnersMark           a change that leaves what is said of each id is marked
 --     IsOwnerSince         each change of an owner since it was so is marked
+--     MarksOnly task ..    a turn that is done marks what it changes, and nothing else
+--     AreMarkedBy items .. all that is marked was so by these items of the lane
+--     IsOwnerMarked ..     each change by these items since an owner was so is marked, and nothing else
+--     WritesMarked ..      a cut writes only what such an owner has marked
 --     OwnerCutsTell        a cut of an owner makes what was cut tell its lane as it stands, and leaves all else
 --     RegisterCutsTell     so does one of the register
 --     SaidCutsAreTold      what says each owner as it was at its last cut tells all cuts
-use Rattle.std.specs.Prelude.{◌≡◌, ◌≢◌, ℕ, List}
+use Rattle.std.specs.Prelude.{◌≡◌, ◌≢◌, ℕ, List, [], ◌∷◌, ◌++◌}
 use Rattle.std.specs.FinMap.{get}
+use Rattle.std.specs.List.{AllByRecursion}
 use Rattle.flush_journal.specs.Cuts.Cuts.{IsCut}
 use Rattle.flush_journal.specs.Records.{Held, Record, put_all}
 use Rattle.object_ids.specs.IdValues.{Id}
 use Rattle.object_ids.specs.Ids.{InRange}
 use Rattle.chunk_owner.specs.Lanes.{IsSameLane, Lane}
+use Rattle.chunk_owner.specs.Marks.{IsStepMark}
+use Rattle.chunk_owner.specs.Slots.Marking.{AddsMarks, IsToForget}
 use Rattle.chunk_owner.specs.Slots.Slots.{AreStill, IsMarked, Says, StillSays}
+use Rattle.object_ops.specs.declared.replies.Reply.{Reply}
 use Rattle.register.specs.Decided.{RegisterState}
 use Rattle.register.specs.Installed.Registers.{DescribesRegister}
 use Rattle.register.specs.Kept.{IsRegisterMarked, RegisterSays, all_kept}
 use Rattle.register.specs.Marks.{no_marks}
-use Rattle.lane_histories.specs.Histories.{History}
+use Rattle.lane_histories.specs.Histories.{History, LaneList, objects_step}
+use Rattle.lane_histories.specs.declared.items.LaneItem.{LaneItem}
+use Rattle.lane_histories.specs.declared.items.LaneItem.TheVariants.{Passed, WasCut}
+use Rattle.lane_histories.specs.declared.items.Outcome.{Outcome}
+use Rattle.lane_histories.specs.declared.items.Outcome.TheVariants.{Done, Short, Skipped}
 use Rattle.lane_histories.specs.Services.{World}
 use Rattle.lane_histories.specs.JournalContents.{CutsCatalogue, CutsLane, TellsCuts}
 use Rattle.lane_histories.specs.Since.{IsSince, KeepsSaid, Marks, SaysCuts}
 use Rattle.service_histories.specs.ArrayServices.{KeptPart, array_service, kept_part}
 use Rattle.service_histories.specs.JournalParts.{IsKeptPart, TellsRegister, array_contents, kept_register}
 use Rattle.service_histories.specs.Markings.{IsOwner, IsStillOwner, SaysOwner, array_marking}
+use Rattle.service_histories.specs.declared.tasks.Task.{Task}
+use Rattle.service_histories.specs.declared.tasks.Task.TheVariants.{DropsDomain, TakesStep}
 
 -- ---- owners
 
@@ -38,6 +52,29 @@ pub record IsOwnerSince (lanes l : ℕ) (was now : Lane) : Type 0 where
   pub still : AreStill was.slots
   pub since : IsSince (array_marking lanes) l was now
 
+-- what the turn changes alone is marked beside what was; and nothing, where it found no memory or was skipped
+abbrev pub MarksOnly : Task → Outcome Reply → Lane → Lane → Type 0
+MarksOnly (TakesStep g op step) (Done reply) old new = AddsMarks (IsStepMark g op step old.slots) old.slots new.slots
+MarksOnly (DropsDomain number) (Done reply) old new = AddsMarks (IsToForget number (get old.slots)) old.slots new.slots
+MarksOnly task Short old new = AddsMarks (λ key. ⊥) old.slots new.slots
+MarksOnly task Skipped old new = AddsMarks (λ key. ⊥) old.slots new.slots
+
+-- nor by a cut
+abbrev pub MarksNoMore : LaneItem Task Reply → Lane → Lane → Type 0
+MarksNoMore (Passed place part task y) old new = MarksOnly task y old new
+MarksNoMore (WasCut number c found) old new = AddsMarks (λ key. ⊥) old.slots new.slots
+
+-- the lane was so, and these items left it with these objects and marks, one after another
+pub data AreMarkedBy (lanes : ℕ) (was : Lane) : LaneList (array_service lanes) → Lane → Type 0 where
+  no_item : AreMarkedBy lanes was [] was
+  then_item : (items : LaneList (array_service lanes)) (i : LaneItem Task Reply) (old new : Lane) → AreMarkedBy lanes was items old
+      → new.objects ≡ objects_step (array_service lanes) old.objects i → MarksNoMore i old new
+      → AreMarkedBy lanes was (items ++ i ∷ []) new
+
+pub record IsOwnerMarked (lanes l : ℕ) (items : LaneList (array_service lanes)) (was now : Lane) : Type 0 where
+  pub owner : IsOwnerSince lanes l was now
+  pub alone : AreMarkedBy lanes was items now
+
 -- a cut of an owner that found memory
 pub record CutsOwner (old new : Lane) (base : Held) (first last : List Record) : Type 0 where
   pub cut : IsCut (IsMarked old.slots) base first last
@@ -46,6 +83,13 @@ pub record CutsOwner (old new : Lane) (base : Held) (first last : List Record) :
   pub still : IsStillOwner new
   pub objects : new.objects ≡ old.objects
   pub same : IsSameLane old new
+
+-- these records are of keys that the owner had marked by these items since it was so, when it was cut and came to be so
+pub record WritesMarked (lanes l : ℕ) (items : LaneList (array_service lanes)) (was new : Lane) (added : List Record) : Type 0 where
+  pub old : Lane
+  pub since : IsOwnerMarked lanes l items was old
+  pub objects : new.objects ≡ old.objects
+  pub changed : AllByRecursion (λ r. IsMarked old.slots r.0) added
 
 -- with its records, what was cut tells the lane, the owner is since this cut, and each other owner is said as before
 pub record IsOwnerCut (lanes l : ℕ) (old new : Lane) (base held : Held) : Type 0 where

@@ -82,6 +82,6 @@ module _ {D : Type 0} (met : Disks D) (start : ArrayStart (Snapshot (Journal D m
         (λ flushed. refused_turn (λ r. r.c) result flushed.0)
         turn)
     kept_cause (Some KeepRegister) kept (result, same, turn) =
-        subst (λ (r : Result (Unit {0}) Why). IfErr r (MayHaveRefused before w.seen.keepings)) (sym same) (refused_turn (λ r. r.p) result turn)
+        subst (λ (r : Result (Unit {0}) Why). IfErr r (MayHaveRefused before w.seen.keepings)) (sym same) (refused_turn (λ r. r.p) result turn.0)
     kept_cause (Some Look) kept (result, same, (n, ok, looked)) =
         subst (λ (r : Result (Unit {0}) Why). IfErr r (MayHaveRefused before w.seen.keepings)) (sym (same ∙ ap without_number ok)) tt

@@ -1,6 +1,7 @@
-use Rattle.std.proofs.Common.{sym, ap, subst, ◌∙◌}
+use Rattle.std.proofs.Common.{ℕ, sym, ap, subst, ◌∙◌}
 use Rattle.journal_desk.specs.Notes.{AreAlike, at_lanes}
 use Rattle.journal_desk.specs.Standing.{Standing}
+use Rattle.hall.specs.DeskTurns.{OwesItsCuts}
 use Rattle.hall.proofs.DeskWorkLemmas.{alike_at, keepings_note, legal_note, resumes_note}
 use Rattle.hall.proofs.desk_work.take_turn.Goals as goal
 
@@ -60,3 +61,10 @@ returns-clause-noted g c =
     let a = alike_at g.N.Note _ d.lanes _ _ b.lanes_are n.start n.history n.was in
     subst (λ (x : Standing g.row.D.Denot g.row.N.Denot). AreAlike (at_lanes g.N.Note d.lanes) x.note (g.T.Turns.seen c.args.turns.now))
     (sym (c.of-before.ensures ∙ c.resume.ensures.note)) a
+
+pub returns-clause-owing : goal.returns-clause-owing
+returns-clause-owing g c =
+    let d = c.args.desk.now in
+    let many = ap (λ (x : Standing g.row.D.Denot g.row.N.Denot). x.lanes) c.resume.ensures.note in
+    subst (λ (x : Standing g.row.D.Denot g.row.N.Denot). OwesItsCuts (at_lanes g.N.Note d.lanes) x) (sym c.of-before.ensures)
+    (subst (λ (k : ℕ). OwesItsCuts (at_lanes g.N.Note k) c.resume.new.self) many c.owed_is_of_cuts.ensures.owed)

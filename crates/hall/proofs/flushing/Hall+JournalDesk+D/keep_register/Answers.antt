@@ -17,7 +17,7 @@ pub invariant_of-pass : goal.invariant_of-pass
 invariant_of-pass g c =
     let p = c.args.pass.now in
     let start = start_of c.args.self.now.table.shared.key in
-    let kept = c.take_desk.ensures.turn.turn in record {
+    let kept = c.take_desk.ensures.turn.0.turn in record {
       idle = ap (λ v. v.claims) kept.is;
       bare = c.take_desk.ensures.slots ∙ p.bare;
       live = ap (λ v. v.live) kept.is ∙ p.live;
@@ -29,7 +29,7 @@ invariant_of-pass g c =
 pub returns : goal.returns
 returns g c =
     let of = c.requires.of_this_hall in
-    let kept = c.take_desk.ensures.turn.turn in record {
+    let kept = c.take_desk.ensures.turn.0.turn in record {
       of_this_hall = record { table = c.take_desk.ensures.table.0 ∙ of.table; begun = ap (λ v. v.start) kept.is ∙ of.begun; opened = of.opened };
       same = (
         λ i. (

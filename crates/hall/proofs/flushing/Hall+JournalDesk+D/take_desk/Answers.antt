@@ -183,7 +183,7 @@ returns-clause-turn g c =
     let gone = gone_on g.D.Disk start laws noted (record noted { desk = end }) noted.desk.lanes refl refl noted.desk.desk before end.desk reads reads'
     c.wait.new.seat.me.0 w.new.seat.me.0 is turn w.ensures.resumed w.ensures.continues w.ensures.up_to
     (ap (λ (d : Standing _ _). d.disk) w.ensures.before) c.images_are_kept.ensures.since c.keepings_are_kept.ensures.own
-    c.keepings_are_kept.ensures.reached c.images_are_kept.ensures.settled
+    c.keepings_are_kept.ensures.each c.keepings_are_kept.ensures.reached c.images_are_kept.ensures.settled
     (record {
       lanes = c.reach_is_of_cuts.ensures.lanes;
       register = c.reach_is_of_cuts.ensures.register;
@@ -194,7 +194,8 @@ returns-clause-turn g c =
     let begins = noted_begins g.D.Disk start laws noted (record noted { desk = end }) noted.desk.lanes refl refl noted.desk.desk before end.desk reads reads'
     c.wait.new.seat.me.0 w.new.seat.me.0 is turn w.ensures.resumed w.ensures.continues w.ensures.up_to (keeping_by g.D.Disk before end.desk did)
     c.exchange-2.new.seat.me.0 c.leave.new.seat.me.0 (ap (λ me. me.0) c.exchange-2.ensures.3) passed in
-    turn_is g.D.Disk start noted.desk.desk.lanes before end.desk w.result v c.leave.new.seat.me.0 far gone begins (c.what_is_kept_stays_kept.ensures (lanes_in start)) c.args.work
+    turn_is g.D.Disk start noted.desk.desk.lanes before end.desk w.result v c.leave.new.seat.me.0
+    (since_here g.D.Disk start noted noted.desk.lanes noted.desk.desk reads _ is).1.lanes w.ensures.owing far gone begins (c.what_is_kept_stays_kept.ensures (lanes_in start)) c.args.work
     (subst (λ (x : DeskWork × Result ℕ Why). (y : HasKept (machines (lanes_in start)) start
     (item_of g.D.Disk before end.desk x.0 x.1) [] v c.leave.new.seat.me.0)
     × IsFound start before end.desk y.before)

@@ -75,7 +75,7 @@ leave-requires g c =
         at_lane turn.lane (Passed job.place c.requires.may.0 (task_of job.grant job.op.now turn.step) c.perform-outcome.result)
             c.perform-outcome.new.owner,
         refl,
-        may_pass g.D.AtDesk t here laws mine c.requires.may.1 marks.marks marks.turn c.noted.result refl c.noted.ensures did.did did.skips did.same did.says,
+        may_pass g.D.AtDesk t here laws mine c.requires.may.1 marks.marks marks.turn c.noted.result refl c.noted.ensures did.did did.skips did.same did.says did.alone,
       );
     }
 
@@ -100,6 +100,6 @@ returns g c =
       acted = λ part may.
           has_acted g.D.AtDesk t here laws mine may
           (c.leave.ensures.passed _
-          (may_pass g.D.AtDesk t here laws mine may marks.marks marks.turn c.noted.result refl c.noted.ensures did.did did.skips did.same did.says));
+          (may_pass g.D.AtDesk t here laws mine may marks.marks marks.turn c.noted.result refl c.noted.ensures did.did did.skips did.same did.says did.alone));
       gone = c.before-2.ensures;
     }

@@ -52,7 +52,7 @@ returns-clause-note g c =
     let s = c.args.world in
     let parts = c.parts-register.ensures in
     let world : c.of.result.value ≡ s = c.of.ensures ∙ c.of_parts-world.ensures ∙ (λ i. record { register = parts.register i; lanes = (parts.owners i).owners }) in
-    ap (of_lanes (length s.lanes)) (ap seen_in c.begin-desk.ensures.note ∙ first_lists c.lanes-lanes.result c.blank.result.views c.of.result c.blank.ensures
+    ap (of_lanes (length s.lanes)) (ap seen_in c.begin-desk.ensures.note.0 ∙ first_lists c.lanes-lanes.result c.blank.result.views c.of.result c.blank.ensures
     ∙ ap (λ (x : State). nothing x.lanes) world) ∙ of_nothing (length s.lanes) s.lanes refl
 
 pub returns-clause-since : goal.returns-clause-since
@@ -64,12 +64,12 @@ returns-clause-since g c =
     let desk = c.begin-desk.result in
     let lanes = c.lanes-lanes.ensures.lanes ∙ ap (λ (d : RegisterState). length d.issued) parts.register ∙ sym parts.built.count in
     let world : c.of.result.value ≡ s = c.of.ensures ∙ c.of_parts-world.ensures ∙ (λ i. record { register = parts.register i; lanes = (parts.owners i).owners }) in
-    let seen = ap seen_in begun.note ∙ first_lists c.lanes-lanes.result c.blank.result.views c.of.result c.blank.ensures ∙ ap (λ (x : State). nothing x.lanes) world in
+    let seen = ap seen_in begun.note.0 ∙ first_lists c.lanes-lanes.result c.blank.result.views c.of.result c.blank.ensures ∙ ap (λ (x : State). nothing x.lanes) world in
     let first = ap disk_of c.of-first.ensures in
     let moment : met.moment desk.disk ≡ met.moment (disk_of c.of-first.result.value) = ap met.moment (begun.disk.0 ∙ sym first) in
     record {
       lanes = begun.lanes ∙ lanes;
-      world = ap (λ (x : State). opening desk.lanes x) (ap world_in begun.note
+      world = ap (λ (x : State). opening desk.lanes x) (ap world_in begun.note.0
           ∙ first_world c.lanes-lanes.result c.blank.result.views c.of.result c.blank.ensures ∙ world);
       lists = are_of_lanes desk.lanes (seen_in desk.note) (ap (of_lanes desk.lanes) seen ∙ of_nothing desk.lanes s.lanes (sym (begun.lanes ∙ lanes)) ∙ sym seen);
       disk = subst (λ (x : g.row.D.Denot × g.row.D.Denot). SameDisk met x.0 x.1) (λ i. (sym first i, sym begun.disk.0 i)) (same_here met (disk_of c.args.journal));

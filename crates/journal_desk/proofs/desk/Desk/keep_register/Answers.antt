@@ -1,8 +1,10 @@
-use Rattle.std.proofs.Common.{◌≡◌, false, true, Result, ap, subst}
+use Rattle.std.proofs.Common.{◌≡◌, false, true, Result, refl, ap, ◌∙◌, subst}
 use Rattle.std.specs.Prelude.{IsErr}
 use Rattle.flush_journal.specs.declared.why.Why.{Why}
 use Rattle.std.specs.Result.{is_err}
+use Rattle.journal_desk.proofs.AppendLemmas.{appends_on, settled_end}
 use Rattle.journal_desk.proofs.ContinueLemmas.{continues_both, still_up_to}
+use Rattle.journal_desk.proofs.OrderLemmas.{order_register}
 use Rattle.journal_desk.proofs.ImageLemmas.{farther}
 use Rattle.journal_desk.proofs.RefusalLemmas.{first_handed, first_on}
 use Rattle.journal_desk.proofs.desk.Desk.keep_register.Goals as goal
@@ -58,3 +60,18 @@ pub returns-clause-first : goal.returns-clause-first
 returns-clause-first g c =
     first_on g.D.Disk _ _ _ _ _ (ap is_err c.in_ok-settle.was)
     (farther _ _ _ c.cut_register.ensures.continues.own c.append.ensures.continues.own) c.settle.ensures.first
+
+pub returns-clause-wrote : goal.returns-clause-wrote
+returns-clause-wrote g c =
+    appends_on g.N.Note c.args.self.now c.settle.new.self c.cut_register.new.self c.append.new.self
+    (settled_end c.args.self.now c.settle.new.self (λ rs some. c.in_ok-settle.ensures.grown rs some) c.settle.ensures.idle)
+    c.in_ok-settle.ensures.since (c.cut_register.ensures.journal.pending ∙ c.in_ok-settle.ensures.ok)
+    (c.cut_register.ensures.journal.end) (c.cut_register.ensures.journal.since)
+    (c.cut_register.ensures.continues.lanes ∙ c.settle.ensures.continues.lanes)
+    (continues_both g.D.Disk g.N.Note _ _ _ c.settle.ensures.continues c.cut_register.ensures.continues).start
+    c.append.result _ _ _ c.in_ok-append.was refl c.append.ensures.wrote
+
+pub returns-clause-order : goal.returns-clause-order
+returns-clause-order g c =
+    order_register g.N.Note c.args.self.now c.settle.new.self c.cut_register.new.self c.cut_register.new.self c.append.new.self
+    c.settle.ensures.same.2 c.settle.ensures.continues.lanes c.append.ensures.same.2 c.append.ensures.same.1 c.in_ok-cut_register.ensures.order

@@ -8,7 +8,7 @@ use Rattle.journal_desk.specs.Keepings.{AreItsKeepings}
 use Rattle.journal_desk.specs.Cuts.{Resumes}
 use Rattle.journal_desk.proofs.AnsweredLemmas.{answered_note}
 use Rattle.journal_desk.proofs.ContinueLemmas.{continues_from}
-use Rattle.journal_desk.proofs.TurnLemmas.{continues_grown, resumed}
+use Rattle.journal_desk.proofs.TurnLemmas.{continues_grown, resumed, resumed_owes}
 use Rattle.journal_desk.proofs.desk.Desk.resume.Goals as goal
 
 pub invariant_of-self : goal.invariant_of-self
@@ -28,6 +28,7 @@ invariant_of-self g c =
     (sym c.self.view_is) c.requires.keepings in
     record {
       desk = resumed note d.journal _ _ _ d.note c.self.invariant.desk after start was there more;
+      owes = resumed_owes note d.journal _ _ _ d.note c.self.invariant.desk d.since.value after start was more c.self.invariant.owes;
       answered = answered_note g.D.Disk note (disk_of d.journal) (disk_of d.at.value) d.kept d.note after start legal more.others.longer
           c.self.invariant.answered known;
     }
@@ -45,4 +46,4 @@ returns-clause-continues g c =
     let legal = subst (λ (w : World (notes.kept d.lanes).service). IsLegal (notes.kept d.lanes).service w (notes.history d.lanes after)) start there in
     continues_from g.D.Disk notes _ _ _ c.self.view_is
     (continues_grown (at_lanes notes d.lanes) d.journal _ _ _ d.note c.self.invariant.desk after start legal more.others.longer
-    (λ honest image left. g.met.D.Disk.only_now _ image honest left) d.lanes _ _ _)
+    (λ honest image left. g.met.D.Disk.only_now _ image honest left) d.lanes _ d.since.value _ _)
