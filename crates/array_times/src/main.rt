@@ -1,4 +1,4 @@
-//! Measures reads and writes of arrays beside plain copies of 4,000,000 bytes, and a plain print of numbers.
+//! Measures reads and writes of arrays beside plain copies of 4,000,000 bytes, and a plain print and a plain read of numbers.
 #![tactic(auto)]
 
 mod arrays;
@@ -9,7 +9,7 @@ mod times;
 
 use crate::cases::{CASES, measured};
 use crate::copies::{new_copies, standing_copies};
-use crate::prints::least_print;
+use crate::prints::{least_print, least_read};
 use crate::times::{Ratio, Times, lesser};
 use std::env;
 use std::time::{Clock, Duration};
@@ -62,6 +62,12 @@ fn print_all<R: Clock + Print + AllocGlobal>(rt: &R, rounds: u32) -> anyhow::Res
         text.time.as_micros(),
         text.numbers,
         text.bytes
+    )?;
+    let read = least_read(rt, rounds)?;
+    println!(rt;
+        "read of numbers, digit by digit: {} us; {} numbers",
+        read.time.as_micros(),
+        read.numbers
     )?;
     for case in &CASES {
         let times = measured(rt, case, rounds)?;

@@ -1,4 +1,4 @@
-//! A plain loop that prints numbers.
+//! Plain loops that print numbers and read them again.
 
 use crate::times::lesser;
 use std::alloc::{AllocError, Global};
@@ -19,6 +19,13 @@ pub struct PrintedText {
     pub time: Duration,
     pub numbers: usize,
     pub bytes: usize,
+}
+
+/// The least time in which that text is read, and how many numbers were.
+#[derive(Clone, Copy)]
+pub struct ReadText {
+    pub time: Duration,
+    pub numbers: usize,
 }
 
 /// The numbers that `measure` writes into a dataset, in their order.
@@ -67,5 +74,40 @@ pub fn least_print<R: Clock + AllocGlobal>(rt: &R, rounds: u32) -> anyhow::Resul
         time: least,
         numbers: commas,
         bytes: text.len(),
+    })
+}
+
+/// Appends the numbers of a text, each of which has a comma behind it, digit by digit.
+fn read_numbers(text: &[u8], numbers: &mut Vec<u32>) -> Result<(), AllocError> {
+    let mut number: u32 = 0;
+    for byte in text {
+        if *byte == b',' {
+            numbers.push(number)?;
+            number = 0;
+        } else {
+            let digit = u32::from(byte.wrapping_sub(b'0'));
+            number = number.wrapping_mul(10).wrapping_add(digit);
+        }
+    }
+    Ok(())
+}
+
+/// The least time in which the printed numbers are read into memory that is there before.
+pub fn least_read<R: Clock + AllocGlobal>(rt: &R, rounds: u32) -> anyhow::Result<ReadText> {
+    let mut text = Vec::with_capacity(rt.alloc(), MANY * WIDEST)?;
+    for number in numbers(rt.alloc())?.as_slice() {
+        print_number(&mut text, *number)?;
+    }
+    let mut read = Vec::with_capacity(rt.alloc(), MANY)?;
+    let mut least = Duration::MAX;
+    for _ in 0..rounds {
+        read.clear();
+        let start = Instant::now(rt)?;
+        read_numbers(text.as_slice(), &mut read)?;
+        least = lesser(least, start.elapsed(rt)?);
+    }
+    Ok(ReadText {
+        time: least,
+        numbers: read.len(),
     })
 }
