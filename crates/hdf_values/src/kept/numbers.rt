@@ -9,6 +9,9 @@ use hdf_types::IntType;
 use std::alloc::{AllocError, Global};
 use std::marker::Model;
 
+/// The most bytes of numbers of 32 bits that are written again as numbers of 64: 2^24.
+const MAX_WIDENED: usize = 16_777_216;
+
 /// Whole numbers as bytes, seen as the numbers: each of 32 bits while all fit, else of 64.
 #[derive(Drop)]
 pub(crate) struct Numbers {
@@ -36,6 +39,13 @@ impl Numbers {
             is_wide: false,
             bytes: Vec::new(alloc),
         }
+    }
+
+    /// Whether a number may be added. It may not where more than [`MAX_WIDENED`] bytes would be
+    /// written again for it.
+    #[inline(always)]
+    pub(crate) fn may_push(&self, number: i64) -> bool {
+        self.bytes.len() <= MAX_WIDENED || self.is_wide || i32::try_from(number).is_ok()
     }
 
     /// Adds a number at the end.

@@ -49,8 +49,9 @@ impl Model for Packed {
 }
 
 /// Reads the rectangular list of whole numbers that comes next, packed. None where anything else
-/// comes, or a number that is no `i64`, or a list without an item, or more axes than an array has;
-/// the reader then stands anywhere.
+/// comes, or a number that is no `i64`, or a list without an item, or more axes than an array has, or
+/// a first number of 64 bits so late that too much would be written again; the reader then stands
+/// anywhere.
 ///
 /// # Errors
 ///
@@ -153,6 +154,9 @@ fn read_row(
     let Some(number) = whole_of(first) else {
         return Ok(None);
     };
+    if !numbers.may_push(number) {
+        return Ok(None);
+    }
     numbers.push(number)?;
     for got in 1..u64::MAX {
         if reader.take_end_array() {
@@ -164,6 +168,9 @@ fn read_row(
         let Some(number) = whole_of(text) else {
             return Ok(None);
         };
+        if !numbers.may_push(number) {
+            return Ok(None);
+        }
         numbers.push(number)?;
     }
     Ok(None)

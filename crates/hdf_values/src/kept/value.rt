@@ -1,13 +1,11 @@
 //! Values that are kept.
 
-ghost use Rattle.std.specs.Prelude.{◌≡◌, ◌≤◌, Err, IfOk, IfSome, None, Ok};
-ghost use Rattle.json.specs.Json.{value};
-ghost use Rattle.serde_json.specs.Read.{converted, max_depth, of_json};
+ghost use Rattle.std.specs.Prelude.{◌≡◌, ◌≤◌, IfOk, IfSome, Ok};
+ghost use Rattle.serde_json.specs.Read.{max_depth};
 ghost use Rattle.serde_json.specs.View.{view};
 ghost use Rattle.json_trees.specs.Copied.{Reads};
 ghost use Rattle.json_trees.specs.Faults.{Fails, Gives};
 ghost use Rattle.json_trees.specs.Trees.{AreTexts};
-ghost use Rattle.json_trees.specs.declared.kept.fault.ReadFault.TheVariants.{NotJson};
 ghost use Rattle.hdf_types.specs.Types.{IsSoundType};
 ghost use Rattle.hdf_types.specs.Views.{elem};
 ghost use Rattle.shapes.specs.RowMajor.{cell_count};
@@ -19,7 +17,7 @@ use crate::kept::streams::read_cells;
 use crate::kept::unpacking::{have_texts, unpacked_cells, unpacked_tree};
 use hdf_types::ElemType;
 use json::Reader;
-use json_trees::{KeptTree, ReadFault};
+use json_trees::KeptTree;
 use serde_json::Value;
 use shapes::Dims;
 use std::alloc::{AllocError, Global};
@@ -62,25 +60,6 @@ impl KeptValue {
         KeptValue {
             form: Form::Text(tree),
         }
-    }
-
-    /// The value that comes next in a reader, kept as its text. Arrays and objects may nest `depth`
-    /// deep.
-    ///
-    /// # Errors
-    ///
-    /// `NotJson` where `serde_json` reads no value so deep.
-    pub fn take(
-        alloc: Global,
-        reader: &mut Reader<'_>,
-        depth: usize,
-    ) -> Result<KeptValue, ReadFault>
-        requires { depth ≤ max_depth }
-        ensures read { IfOk result (λ value. Reads depth reader.old value reader.new) }
-        ensures refused { result ≡ Err NotJson → converted of_json (value depth reader.old) ≡ None }
-    {
-        let tree = KeptTree::take(alloc, reader, depth)?;
-        Ok(KeptValue::of(tree))
     }
 
     /// The value that comes next in a reader, packed. Where it can't be, there is none, and the
