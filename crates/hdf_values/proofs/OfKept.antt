@@ -1,4 +1,3 @@
-pub mod StreamLemmas
 pub mod MemberLemmas
 pub mod ValueLemmas
 pub mod PartLemmas

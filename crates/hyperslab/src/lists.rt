@@ -1,6 +1,6 @@
 //! Selections by lists of numbers.
 
-ghost use Rattle.std.specs.Prelude.{◌≡◌, ◌<◌, ◌^◌, ◌⊎◌, ℕ, List, [], All, Option, None, Ok, Err, IfOk, IsOk};
+ghost use Rattle.std.specs.Prelude.{◌≡◌, ◌<◌, ◌^◌, ◌⊎◌, ℕ, List, [], All, Option, None, Ok, Err, IfOk};
 ghost use Rattle.shapes.specs.Shapes.{IsSound, dims_of};
 ghost use Rattle.serde_json.specs.Data.{Data};
 ghost use Rattle.shapes.specs.declared.Shape.{Shape};
@@ -15,39 +15,32 @@ ghost use Rattle.hyperslab.specs.Judged.{is_scalar as scalar, judged as judged_b
 use crate::all_cells::whole;
 use crate::judging::judged;
 use crate::{Slab, SlabFault};
-use json_trees::KeptTree;
-use shapes::{Dims, Shape, read_kept_dims};
-use std::alloc::{AllocError, Global};
+use shapes::{Dims, KeptDims, Shape};
 
-/// The selection by lists of starts, stops and steps, which are read token by token: no more of a list
-/// is held than a number for each axis. An absent list is a 0 for each axis, the dims or a 1 for each
-/// axis. A scalar's one cell is selected where all three are absent.
+/// The selection by lists of starts, stops and steps. An absent list is a 0 for each axis, the dims
+/// or a 1 for each axis. A scalar's one cell is selected where all three are absent.
 ///
 /// # Errors
 ///
-/// The first fault in the order of [`SlabFault`], as its text says; outside of that, want of memory
-/// where a list is given.
+/// The first fault in the order of [`SlabFault`], as its text says.
 pub fn from_lists(
-    alloc: Global,
-    start: &Option<KeptTree>,
-    stop: &Option<KeptTree>,
-    step: &Option<KeptTree>,
+    start: &Option<KeptDims>,
+    stop: &Option<KeptDims>,
+    step: &Option<KeptDims>,
     shape: &Shape,
-) -> Result<Result<Slab, SlabFault>, AllocError>
+) -> Result<Slab, SlabFault>
     requires { IsSound shape.now }
-    ensures first { IfOk result
-        (λ slab. slab ≡ lists_slab shape.now start.now stop.now step.now) }
-    ensures within { IfOk result (λ slab. IfOk slab (λ s. SlabIn s shape.now)) }
-    ensures steps { IfOk result (λ slab. IfOk slab (λ s. All (λ c. c < 10 ^ 10) s.step)) }
-    ensures sound { IfOk result (λ slab. IfOk slab IsSlab) }
-    ensures absent { start.now ≡ None → stop.now ≡ None → step.now ≡ None → IsOk result }
+    ensures first { result ≡ lists_slab shape.now start.now stop.now step.now }
+    ensures within { IfOk result (λ s. SlabIn s shape.now) }
+    ensures steps { IfOk result (λ s. All (λ c. c < 10 ^ 10) s.step) }
+    ensures sound { IfOk result IsSlab }
 {
     if is_scalar(shape) && is_absent(start) && is_absent(stop) && is_absent(step) {
-        return Ok(whole(shape));
+        return whole(shape);
     }
-    match lists(alloc, &shape.dims(), start, stop, step)? {
-        None => Ok(Err(SlabFault::Syntax { byte: 0 })),
-        Some(slab) => Ok(judged(shape, &slab)),
+    match lists(&shape.dims(), start, stop, step) {
+        None => Err(SlabFault::Syntax { byte: 0 }),
+        Some(slab) => judged(shape, &slab),
     }
 }
 
@@ -78,43 +71,34 @@ fn is_scalar(shape: &Shape) -> bool
     }
 }
 
-fn is_absent(tree: &Option<KeptTree>) -> bool
-    ensures { result ≡ absent tree.now }
+fn is_absent(list: &Option<KeptDims>) -> bool
+    ensures { result ≡ absent list.now }
 {
-    match tree {
+    match list {
         None => true,
         Some(_) => false,
     }
 }
 
 fn lists(
-    alloc: Global,
     dims: &Dims,
-    start: &Option<KeptTree>,
-    stop: &Option<KeptTree>,
-    step: &Option<KeptTree>,
-) -> Result<Option<Slab>, AllocError>
-    ensures read { IfOk result (λ slab. slab ≡ lists_in dims.now start.now stop.now step.now) }
-    ensures absent { start.now ≡ None → stop.now ≡ None → step.now ≡ None → IsOk result }
+    start: &Option<KeptDims>,
+    stop: &Option<KeptDims>,
+    step: &Option<KeptDims>,
+) -> Option<Slab>
+    ensures { result ≡ lists_in dims.now start.now stop.now step.now }
 {
-    let Some(start) = list_or(alloc, Dims::repeated(0, dims.len()), start)? else {
-        return Ok(None);
-    };
-    let Some(stop) = list_or(alloc, *dims, stop)? else {
-        return Ok(None);
-    };
-    let Some(step) = list_or(alloc, Dims::repeated(1, dims.len()), step)? else {
-        return Ok(None);
-    };
-    Ok(Some(Slab { start, stop, step }))
+    let start = list_or(Dims::repeated(0, dims.len()), start)?;
+    let stop = list_or(*dims, stop)?;
+    let step = list_or(Dims::repeated(1, dims.len()), step)?;
+    Some(Slab { start, stop, step })
 }
 
-fn list_or(alloc: Global, absent: Dims, tree: &Option<KeptTree>) -> Result<Option<Dims>, AllocError>
-    ensures read { IfOk result (λ dims. dims ≡ list_from absent tree.now) }
-    ensures absent { tree.now ≡ None → IsOk result }
+fn list_or(absent: Dims, list: &Option<KeptDims>) -> Option<Dims>
+    ensures { result ≡ list_from absent list.now }
 {
-    match tree {
-        None => Ok(Some(absent)),
-        Some(tree) => read_kept_dims(alloc, tree),
+    match list {
+        None => Some(absent),
+        Some(list) => list.dims(),
     }
 }

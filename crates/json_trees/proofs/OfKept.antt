@@ -5,3 +5,4 @@ pub mod KeptLemmas
 pub mod NumberLemmas
 pub mod PassLemmas
 pub mod KeyLemmas
+pub mod StreamLemmas

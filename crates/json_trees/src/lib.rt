@@ -16,8 +16,8 @@ mod kept;
 mod tree;
 
 pub use kept::{
-    KeptTree, ReadFault, check_value, has_number, member_at, negative_of, pass_rest, pass_value,
-    unsigned_of,
+    KeptList, KeptTree, ReadFault, check_value, has_number, member_at, negative_of, pass_rest,
+    pass_value, unsigned_of,
 };
 use serde_json::Value;
 pub use tree::Tree;

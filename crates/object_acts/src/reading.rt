@@ -14,7 +14,7 @@ use crate::attribute_acts::{get_attribute, list_attributes};
 use crate::link_acts::{get_link, list_links};
 use crate::objects::{Body, Object};
 use crate::trees::object_json;
-use json_trees::KeptTree;
+use json_trees::KeptList;
 use object_ids::{Name, ObjectId};
 use object_ops::{Op, Refusal, Reply, SelectText};
 use std::alloc::{AllocError, Global};
@@ -98,7 +98,7 @@ fn points_of(
     alloc: Global,
     body: &Body,
     id: &ObjectId,
-    points: &KeptTree,
+    points: &KeptList,
 ) -> Result<Reply, AllocError>
     ensures { IfOk result (λ r. r ≡ of_array id.now (points_read points.now) body.now) }
 {

@@ -4,6 +4,8 @@ use Rattle.std.proofs.Crossing.{crosses}
 use Rattle.std.proofs.MapsCrossing as maps
 use Rattle.serde_json.proofs.value.Value.TheLaws.TheKnot.{send-Value}
 use Rattle.json_trees.specs.contracts.kept.kept_tree.KeptTree as tree
+use Rattle.json_trees.specs.contracts.kept.list.KeptList as list
+use Rattle.shapes.specs.contracts.kept_dims.KeptDims as dims
 use Rattle.hdf_types.proofs.types.Fields.TheLaws.TheKnot as knot
 use Rattle.hdf_types.specs.contracts.types.ElemType as elem
 use Rattle.hdf_values.specs.contracts.attributes.Attribute as attribute
@@ -36,6 +38,12 @@ make_send = search (sendable, crosses, maps.crosses, elem_send) depth 40 fits 20
 tree_send : IsSend tree.the_field.row
 tree_send = search (sendable, crosses, maps.crosses) depth 40 fits 20000
 
+list_send : IsSend list.the_field.row
+list_send = search (sendable, crosses, tree_send) depth 40 fits 20000
+
+dims_send : IsSend dims.the_field.row
+dims_send = search (sendable, crosses, maps.crosses, tree_send) depth 40 fits 20000
+
 packed_send : IsSend packed.the_field.row
 packed_send = search (sendable, crosses, maps.crosses, elem_send) depth 40 fits 20000
 
@@ -46,7 +54,7 @@ value_send : IsSend value.the_field.row
 value_send = search (sendable, crosses, kept_send) depth 40 fits 20000
 
 part_send : IsSend part.the_field.row
-part_send = search (sendable, crosses, tree_send) depth 40 fits 20000
+part_send = search (sendable, crosses, list_send, dims_send) depth 40 fits 20000
 
 select_send : IsSend select.the_field.row
 select_send = search (sendable, crosses, maps.crosses) depth 40 fits 20000
@@ -67,7 +75,7 @@ rights_send : IsSend rights.the_field.row
 rights_send = search (sendable, crosses, maps.crosses) depth 40 fits 20000
 
 pub op_send : IsSend op.the_field.row
-op_send = search (sendable, crosses, attribute_send, make_send, tree_send, value_send, part_send, select_send, place_send, link_send, name_send, id_send, rights_send) depth 60 fits 400000
+op_send = search (sendable, crosses, attribute_send, make_send, list_send, value_send, part_send, select_send, place_send, link_send, name_send, id_send, rights_send) depth 60 fits 400000
 
 cells_send : IsSend cells.the_field.row
 cells_send = search (sendable, crosses, maps.crosses, elem_send) depth 40 fits 20000

@@ -5,9 +5,9 @@ use chunk_layout::Layout;
 use groups_links::LinkTo;
 use hdf_types::ElemType;
 use hdf_values::{Attribute, Bytes, KeptValue};
-use json_trees::KeptTree;
+use json_trees::KeptList;
 use object_ids::{DomainPath, Kind, Name, ObjectId};
-use shapes::{Dims, Shape};
+use shapes::{Dims, KeptDims, Shape};
 use std::marker::Model;
 
 /// The text of a selection, as a query has it; it need not be one.
@@ -192,7 +192,7 @@ pub enum Op {
         /// The dataset.
         id: ObjectId,
         /// The points.
-        points: KeptTree,
+        points: KeptList,
     },
 }
 
@@ -281,15 +281,15 @@ pub enum Part {
     /// A strided part; an absent list stands for 0, the dims or 1.
     Slab {
         /// The first coordinate on each axis.
-        start: Option<KeptTree>,
+        start: Option<KeptDims>,
         /// The end on each axis.
-        stop: Option<KeptTree>,
+        stop: Option<KeptDims>,
         /// The distance on each axis.
-        step: Option<KeptTree>,
+        step: Option<KeptDims>,
     },
     /// Points, in their order.
     Points {
         /// The points.
-        points: KeptTree,
+        points: KeptList,
     },
 }

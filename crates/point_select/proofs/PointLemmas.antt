@@ -17,7 +17,7 @@ use Rattle.shapes.specs.declared.Shape.TheVariants.{Null, Scalar, Simple}
 use Rattle.shapes.specs.RowMajor.{IsInside, is_inside}
 use Rattle.shapes.specs.Shapes.{IsDims, LiesIn}
 use Rattle.shapes.proofs.ShapeLemmas.{dims_alone_told, dims_alone_read}
-use Rattle.shapes.proofs.StreamLemmas.{IsLeft, left_more, left_next, left_some}
+use Rattle.json_trees.proofs.OfKept.StreamLemmas.{IsLeft, left_more, left_next, left_some}
 use Rattle.point_select.specs.declared.TheConstants.{MAX_POINTS}
 use Rattle.point_select.specs.declared.PointFault.{PointFault}
 use Rattle.point_select.specs.declared.PointFault.TheVariants.{Syntax, TooMany, Rank, Past, NoMemory}

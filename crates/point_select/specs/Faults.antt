@@ -1,5 +1,5 @@
 -- The tests of points in order: the first that fails decides.
-use Rattle.std.specs.Prelude.{ℕ, suc, List, [], ◌∷◌, ◌++◌, length, Option, Some, None, option_and_then, Result, Ok, Err, nat_lt, nat_eq, if◌then◌else◌}
+use Rattle.std.specs.Prelude.{ℕ, ◌≤◌, suc, List, [], ◌∷◌, ◌++◌, length, Option, Some, None, option_and_then, Result, Ok, Err, nat_lt, nat_eq, if◌then◌else◌}
 use Rattle.serde_json.specs.Data.{Data}
 use Rattle.json_trees.specs.Trees.{list_in}
 use Rattle.json_trees.specs.Faults.{◌>>=◌, Gives, Fails}
@@ -43,6 +43,13 @@ points_in (Simple dims limits) ds = points_from dims 0 ds
 abbrev pub counted_points : Shape → Option (List Data) → Result (List (List ℕ)) PointFault
 counted_points shape None = Err (Syntax 0)
 counted_points shape (Some ds) = if nat_lt MAX_POINTS (length ds) then Err (TooMany (length ds)) else points_in shape ds
+
+-- what is read point by point, for which memory is taken: a list that isn't too long, on a shape with axes
+abbrev pub IsRead : Shape → Option (List Data) → Type 0
+IsRead Null found = ⊥
+IsRead Scalar found = ⊥
+IsRead (Simple dims limits) None = ⊥
+IsRead (Simple dims limits) (Some ds) = length ds ≤ MAX_POINTS
 
 -- the points that a tree spells on a shape, or its first fault
 unfoldable pub points_of : Data → Shape → Result (List (List ℕ)) PointFault

@@ -1,7 +1,7 @@
 //! How JSON spells points, read from kept trees token by token: no more of a tree is held than its
 //! points.
 
-ghost use Rattle.std.specs.Prelude.{◌≡◌, ◌≤◌, ◌+◌, ◌↔◌, ℕ, List, All, Some, length, option_map, Ok, Err, IfOk, OnOk};
+ghost use Rattle.std.specs.Prelude.{◌≡◌, ◌≤◌, ◌↔◌, ℕ, List, All, Some, length, Ok, Err, IfOk, IsErrOf, OnOk};
 ghost use Rattle.json.specs.Token.{Token as SpecToken};
 ghost use Rattle.serde_json.specs.Data.{Data, Items, array};
 ghost use Rattle.shapes.specs.declared.Shape.{Shape};
@@ -12,26 +12,28 @@ ghost use Rattle.json_trees.specs.Begun.{AreTrees};
 ghost use Rattle.json_trees.specs.Kept.{Begins};
 ghost use Rattle.json_trees.specs.Trees.{list_of, list_in};
 ghost use Rattle.point_select.specs.Points.{SpellsPoints, IsFirstBad};
-ghost use Rattle.point_select.specs.Faults.{point_at, point_of, points_from, points_of, GivesPoint, GivesPoints};
+ghost use Rattle.point_select.specs.Faults.{point_at, point_of, points_from, points_of, GivesPoint, GivesPoints, IsRead};
 ghost use Rattle.point_select.specs.declared.PointFault.{PointFault};
 
 use crate::{MAX_POINTS, PointFault, Points};
 use json::{Reader, Scratch, Token};
-use json_trees::{KeptTree, pass_value};
+use json_trees::{KeptList, KeptTree};
 use shapes::{Dims, Shape, next_dims};
-use std::alloc::{AllocError, Global};
+use std::alloc::Global;
 
 /// The points of a shape that a kept tree spells: a list of at most [`MAX_POINTS`] points, each a
 /// list of coordinates, or one coordinate where the shape has one axis.
 ///
 /// # Errors
 ///
-/// The first fault in the order of [`PointFault`], or want of memory.
-pub fn read_points(alloc: Global, tree: &KeptTree, shape: &Shape) -> Result<Points, PointFault>
+/// The first fault in the order of [`PointFault`]; or want of memory, which comes only of a list of at
+/// most [`MAX_POINTS`] items on a shape with axes.
+pub fn read_points(alloc: Global, tree: &KeptList, shape: &Shape) -> Result<Points, PointFault>
     ensures spelled { IfOk result (SpellsPoints tree.now shape.now) }
     ensures only { (points : List (List ℕ)) → SpellsPoints tree.now shape.now points
         → GivesPoints result (Ok points) }
     ensures first { GivesPoints result (points_of tree.now shape.now) }
+    ensures memory { IsErrOf result PointFault.NoMemory → IsRead shape.now (list_in tree.now) }
     ensures inside { IfOk result (All (λ at. LiesIn at shape.now)) }
     ensures few { IfOk result (λ points. length points ≤ 65536) }
 {
@@ -53,11 +55,11 @@ pub fn points_or_fault()
 {}
 
 #[tactic(auto, unfolding(crate::specs::Faults::points_of))]
-fn first_of(alloc: Global, tree: &KeptTree, shape: &Shape) -> Result<Points, PointFault>
-    ensures { GivesPoints result (points_of tree.now shape.now) }
+fn first_of(alloc: Global, tree: &KeptList, shape: &Shape) -> Result<Points, PointFault>
+    ensures first { GivesPoints result (points_of tree.now shape.now) }
+    ensures memory { IsErrOf result PointFault.NoMemory → IsRead shape.now (list_in tree.now) }
 {
-    let mut scratch = Scratch::new(alloc);
-    let Some(count) = count_items(tree, &mut scratch)? else {
+    let Some(count) = tree.count() else {
         return Err(PointFault::Syntax { index: 0 });
     };
     if MAX_POINTS < count {
@@ -66,53 +68,16 @@ fn first_of(alloc: Global, tree: &KeptTree, shape: &Shape) -> Result<Points, Poi
         });
     }
     match shape {
-        Shape::Simple { dims, .. } => {
-            all_points(alloc, tree, &mut scratch, shape, dims.len(), count)
-        }
+        Shape::Simple { dims, .. } => { all_points(alloc, tree.tree(), shape, dims.len(), count) }
         Shape::Null => Err(PointFault::Rank { index: 0 }),
         Shape::Scalar => Err(PointFault::Rank { index: 0 }),
     }
-}
-
-/// How many items a kept tree has that is a list; all of them are passed over.
-fn count_items(tree: &KeptTree, scratch: &mut Scratch) -> Result<Option<usize>, AllocError>
-    ensures { IfOk result (λ count. count ≡ option_map length (list_in tree.now)) }
-{
-    let mut reader = tree.reader(scratch)?;
-    let Some(first) = reader.next() else {
-        return Err(AllocError);
-    };
-    match first {
-        Token::BeginArray => Ok(Some(count_left(&mut reader)?)),
-        _ => Ok(None),
-    }
-}
-
-/// How many items are left of a list.
-fn count_left(reader: &mut Reader<'_>) -> Result<usize, AllocError>
-    ensures { IfOk result (λ count. (trees : Items) (rest : List SpecToken)
-        → AreTrees reader.old trees rest → count ≡ length (list_of trees)) }
-{
-    let mut count = 0usize;
-    'items: while !reader.take_end_array() {
-        pass_value(reader)?;
-        count = one_more(count)?;
-    }
-    Ok(count)
-}
-
-/// The next number. Where it is too large for any text, it fails.
-fn one_more(count: usize) -> Result<usize, AllocError>
-    ensures { IfOk result (λ more. more ≡ count + 1) }
-{
-    count.checked_add(1).ok_or(AllocError)
 }
 
 /// The points of a list with so many items.
 fn all_points(
     alloc: Global,
     tree: &KeptTree,
-    scratch: &mut Scratch,
     shape: &Shape,
     rank: usize,
     count: usize,
@@ -123,7 +88,8 @@ fn all_points(
     ensures { (ds : List Data) → list_in tree.now ≡ Some ds → length ds ≡ count
         → GivesPoints result (points_from (dims_of shape.now) 0 ds) }
 {
-    let mut reader = tree.reader(scratch)?;
+    let mut scratch = Scratch::new(alloc);
+    let mut reader = tree.reader(&mut scratch)?;
     match reader.next() {
         Some(Token::BeginArray) => each_point(alloc, &mut reader, shape, rank, count),
         _ => Err(PointFault::NoMemory),

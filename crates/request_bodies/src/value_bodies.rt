@@ -1,5 +1,6 @@
 //! Bodies that bring elements, or ask for some: of their object only what stands at five keys is kept, the elements
-//! packed where they can be and all else as its text. What stands at other keys is read and not kept.
+//! packed where they can be and all else as its text, of which it is then known how many points there are and which
+//! numbers the lists have. What stands at other keys is read and not kept.
 
 ghost use Rattle.std.specs.Prelude.{◌≡◌, ◌∷◌, true, false, List, Some, None, Err, IfOk, length};
 ghost use Rattle.json.specs.Json.{members, value as value_in};
@@ -15,7 +16,8 @@ ghost use Rattle.request_bodies.specs.ValueBodies.{IsObjectIn, TellsAsked, asked
 use crate::faults::BodyFault;
 use hdf_values::KeptValue;
 use json::{Invalid, Reader, Scratch, Token};
-use json_trees::{KeptTree, ReadFault, check_value};
+use json_trees::{KeptList, KeptTree, ReadFault, check_value};
+use shapes::KeptDims;
 use std::alloc::{AllocError, Global};
 
 /// How deep arrays and objects nest at most in a member of a body.
@@ -27,13 +29,13 @@ pub struct ValueBody {
     /// The elements.
     pub value: Option<KeptValue>,
     /// The points.
-    pub points: Option<KeptTree>,
+    pub points: Option<KeptList>,
     /// The first coordinate on each axis.
-    pub start: Option<KeptTree>,
+    pub start: Option<KeptDims>,
     /// The end on each axis.
-    pub stop: Option<KeptTree>,
+    pub stop: Option<KeptDims>,
     /// The distance on each axis.
-    pub step: Option<KeptTree>,
+    pub step: Option<KeptDims>,
 }
 
 /// Why an object is not read.
@@ -204,7 +206,7 @@ fn read_member(
         return Ok(());
     }
     let tree = KeptTree::take(alloc, reader, MEMBER_DEPTH)?;
-    keep(body, key, tree);
+    keep(alloc, body, key, tree)?;
     Ok(())
 }
 
@@ -226,18 +228,19 @@ fn is_kept(key: &str) -> bool
 }
 
 /// Keeps a tree at its key, in place of one that stands there.
-fn keep(body: &mut ValueBody, key: &str, tree: KeptTree)
-    ensures { body.new ≡ with_key key.now tree body.old }
+fn keep(alloc: Global, body: &mut ValueBody, key: &str, tree: KeptTree) -> Result<(), AllocError>
+    ensures { IfOk result (λ _. body.new ≡ with_key key.now tree body.old) }
 {
     if key == "value" {
         body.value = Some(KeptValue::of(tree));
     } else if key == "points" {
-        body.points = Some(tree);
+        body.points = Some(KeptList::of(alloc, tree)?);
     } else if key == "start" {
-        body.start = Some(tree);
+        body.start = Some(KeptDims::of(alloc, tree)?);
     } else if key == "stop" {
-        body.stop = Some(tree);
+        body.stop = Some(KeptDims::of(alloc, tree)?);
     } else if key == "step" {
-        body.step = Some(tree);
+        body.step = Some(KeptDims::of(alloc, tree)?);
     }
+    Ok(())
 }

@@ -9,8 +9,9 @@ use crate::faults::BodyFault;
 use crate::keys::bad_field;
 use crate::value_bodies::ValueBody;
 use hdf_values::KeptValue;
-use json_trees::KeptTree;
+use json_trees::KeptList;
 use object_ops::{FieldWord, Part};
+use shapes::KeptDims;
 
 /// The part of a dataset that is written, and the value (PUT of a value). Both are taken out of the body
 /// as they are, which takes no memory.
@@ -40,7 +41,7 @@ pub fn write_of(body: ValueBody) -> Result<(Part, KeptValue), BodyFault>
 /// # Errors
 ///
 /// `BadField` with `points` where there are none.
-pub fn points_of(body: ValueBody) -> Result<KeptTree, BodyFault>
+pub fn points_of(body: ValueBody) -> Result<KeptList, BodyFault>
     ensures exact { Answers result (points_by body) }
     ensures memory { IsErrOf result NoMemory → ⊥ }
 {
@@ -48,10 +49,10 @@ pub fn points_of(body: ValueBody) -> Result<KeptTree, BodyFault>
 }
 
 fn part_of(
-    points: Option<KeptTree>,
-    start: Option<KeptTree>,
-    stop: Option<KeptTree>,
-    step: Option<KeptTree>,
+    points: Option<KeptList>,
+    start: Option<KeptDims>,
+    stop: Option<KeptDims>,
+    step: Option<KeptDims>,
 ) -> Result<Part, BodyFault>
     ensures exact { Answers result (part_by points start stop step) }
     ensures memory { IsErrOf result NoMemory → ⊥ }

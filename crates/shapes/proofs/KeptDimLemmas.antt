@@ -1,14 +1,12 @@
 -- Dims that are kept extent by extent are those of the whole list.
-use Rattle.std.proofs.Common.{◌≡◌, ◌≤◌, ◌++◌, ◌∷◌, ℕ, Bool, true, false, cond, nat_le, nat_lt, List, [], length, All, Option, Some, None, Result, Ok, Err, IfOk, IfSome, option_map, option_and_then, refl, sym, ap, ◌∙◌, arith, append_assoc, append-nil, length-append}
+use Rattle.std.proofs.Common.{◌≡◌, ◌≤◌, ◌++◌, ◌∷◌, ℕ, Bool, true, false, cond, nat_le, nat_lt, List, [], length, Option, Some, None, option_map, option_and_then, refl, sym, ap, ◌∙◌, arith, append_assoc, append-nil, length-append}
 use Rattle.std.proofs.Math.Bool.{and-false}
 use Rattle.std.proofs.lemmas.Bool.Decides.{nat_tests}
 use Rattle.serde_json.specs.Data.{Data}
 use Rattle.json_trees.specs.Trees.{all_in}
-use Rattle.shapes.specs.declared.TheConstants.{MAX_EXTENT, MAX_RANK}
-use Rattle.shapes.specs.Extents.{dims_in, extent_in}
-use Rattle.shapes.specs.Shapes.{IsDims}
+use Rattle.shapes.specs.declared.TheConstants.{MAX_RANK}
+use Rattle.shapes.specs.Extents.{extent_in}
 use Rattle.shapes.specs.Spelled.{dims_with, few_of}
-use Rattle.shapes.proofs.ShapeLemmas.{dims_alone_read, dims_alone_told, small_dims}
 
 -- dims with the extents of trees, one after another
 abbrev pub dims_after : Option (List ℕ) → List Data → Option (List ℕ)
@@ -45,19 +43,3 @@ dims_kept ns (d ∷ ds) = dims_step ns ds (extent_in d) (nat_lt (length ns) MAX_
 
 pub dims_of_all : (ds : List Data) → option_and_then few_of (dims_after (Some []) ds) ≡ option_and_then few_of (all_in extent_in ds)
 dims_of_all ds = dims_kept [] ds
-
--- ---- from an answer to what it says
-
-pub dims_spelled : {E : Type 0} (r : Result (Option (List ℕ)) E) (d : Data) → IfOk r (λ dims. dims ≡ option_and_then few_of (dims_in d)) → IfOk r (λ dims. IfSome dims (IsDims d))
-dims_spelled (Ok None) d e = tt
-dims_spelled (Ok (Some ns)) d e = dims_alone_told d ns (sym e)
-dims_spelled (Err x) d e = tt
-
-pub dims_only : {E : Type 0} (r : Result (Option (List ℕ)) E) (d : Data) → IfOk r (λ dims. dims ≡ option_and_then few_of (dims_in d)) → IfOk r (λ dims. (ns : List ℕ) → IsDims d ns → dims ≡ Some ns)
-dims_only (Ok dims) d e = λ ns h. e ∙ dims_alone_read d ns h
-dims_only (Err x) d e = tt
-
-pub dims_small : {E : Type 0} (r : Result (Option (List ℕ)) E) (d : Data) → IfOk r (λ dims. dims ≡ option_and_then few_of (dims_in d)) → IfOk r (λ dims. IfSome dims (All (λ n. n ≤ MAX_EXTENT)))
-dims_small (Ok None) d e = tt
-dims_small (Ok (Some ns)) d e = small_dims d ns (dims_alone_told d ns (sym e)).0
-dims_small (Err x) d e = tt

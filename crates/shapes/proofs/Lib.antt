@@ -7,5 +7,4 @@ pub mod InsideLemmas
 pub mod CellLemmas
 pub mod CapLemmas
 pub mod ChunkDimLemmas
-pub mod StreamLemmas
 pub mod KeptDimLemmas

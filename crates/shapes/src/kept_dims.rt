@@ -1,4 +1,4 @@
-//! Dims from kept trees, token by token: no more of a tree is held than its dims.
+//! Dims from kept trees, token by token.
 
 ghost use Rattle.std.specs.Prelude.{◌≡◌, ◌≤◌, ◌<◌, ◌∷◌, [], ℕ, List, Some, None, All, length, option_and_then, option_map};
 ghost use Rattle.std.specs.Prelude.{IfOk, IfSome, OnOk};
@@ -19,23 +19,70 @@ use crate::{Dims, MAX_EXTENT, MAX_RANK};
 use json::{Reader, Scratch, Token};
 use json_trees::{KeptTree, pass_rest, pass_value, unsigned_of};
 use std::alloc::{AllocError, Global};
+use std::marker::Model;
 
-/// The dims that a kept tree spells, as [`crate::read_dims`] tells them of the tree.
-///
-/// # Errors
-///
-/// Only where memory runs out.
-pub fn read_kept_dims(alloc: Global, tree: &KeptTree) -> Result<Option<Dims>, AllocError>
-    ensures spelled { IfOk result (λ dims. IfSome dims (IsDims tree.now)) }
-    ensures only { IfOk result
-        (λ dims. (ns : List ℕ) → IsDims tree.now ns → dims ≡ Some ns) }
-    ensures first { IfOk result (λ dims. dims ≡ option_and_then few_of (dims_in tree.now)) }
-    ensures small { IfOk result (λ dims. IfSome dims (All (λ n. n ≤ MAX_EXTENT))) }
-{
-    few_dims(alloc, tree)
+/// A kept tree of which it is known what dims it spells, so that asking for them takes no memory. It
+/// is seen as its data.
+#[derive(Drop)]
+pub struct KeptDims {
+    tree: KeptTree,
+    dims: Option<Dims>,
 }
 
-fn few_dims(alloc: Global, tree: &KeptTree) -> Result<Option<Dims>, AllocError>
+impl Model for KeptDims {
+    ghost use Rattle.std.specs.Prelude.{◌≡◌, option_and_then};
+    ghost use Rattle.serde_json.specs.Data.{Data};
+    ghost use Rattle.json_trees.specs.CodedData.{coded_data};
+    ghost use Rattle.shapes.specs.Extents.{dims_in};
+    ghost use Rattle.shapes.specs.Spelled.{few_of};
+
+    ghost Value = { Data };
+
+    ghost coded = { coded_data };
+
+    ghost view = { λ a. a.tree };
+
+    ghost invariant = { λ a. a.dims ≡ option_and_then few_of (dims_in a.tree) };
+}
+
+impl KeptDims {
+    /// The tree, with its dims read.
+    ///
+    /// # Errors
+    ///
+    /// Only where memory runs out.
+    pub fn of(alloc: Global, tree: KeptTree) -> Result<KeptDims, AllocError>
+        ensures { IfOk result (λ dims. dims ≡ tree) }
+    {
+        let dims = dims_of(alloc, &tree)?;
+        Ok(KeptDims { tree, dims })
+    }
+
+    /// The dims that the tree spells, as [`crate::read_dims`] tells them of a tree.
+    pub fn dims(&self) -> Option<Dims>
+        ensures spelled { IfSome result (IsDims self.now) }
+        ensures only { (ns : List ℕ) → IsDims self.now ns → result ≡ Some ns }
+        ensures first { result ≡ option_and_then few_of (dims_in self.now) }
+        ensures small { IfSome result (All (λ n. n ≤ MAX_EXTENT)) }
+    {
+        self.spelled()
+    }
+
+    /// The tree itself.
+    pub fn tree(&self) -> &KeptTree
+        ensures { result.now ≡ self.now }
+    {
+        &self.tree
+    }
+
+    fn spelled(&self) -> Option<Dims>
+        ensures { result ≡ option_and_then few_of (dims_in self.now) }
+    {
+        self.dims
+    }
+}
+
+fn dims_of(alloc: Global, tree: &KeptTree) -> Result<Option<Dims>, AllocError>
     ensures { IfOk result (λ dims. dims ≡ option_and_then few_of (dims_in tree.now)) }
 {
     let mut scratch = Scratch::new(alloc);

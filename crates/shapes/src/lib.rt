@@ -13,7 +13,7 @@ mod printing;
 mod reading;
 mod row_major;
 
-pub use kept_dims::{next_dims, read_kept_dims};
+pub use kept_dims::{KeptDims, next_dims};
 pub use laws::{cells_are_inside, indices_number_the_cells, limits_of_shapes};
 pub use printing::{Form, shape_json};
 pub use reading::{read_dims, read_shape, resized, shape_or_fault};

@@ -1,12 +1,9 @@
 -- Members of a list, one after another.
 use Rattle.std.proofs.Common.{◌≡◌, ◌≢◌, ◌<◌, ◌≤◌, ◌+◌, ◌*◌, ◌++◌, ◌∷◌, ℕ, Bool, true, false, IsTrue, nat_lt, List, [], length, get_or, drop, Option, Some, None, Result, Ok, Err, option_map, option_and_then, refl, sym, ap, subst, ◌∙◌, arith, append_assoc, append-nil, length-append, lt-ltb, eq-eqb, ne_eqb}
-use Rattle.json.specs.Json as json
 use Rattle.json.specs.Json.{after_end_array}
 use Rattle.json.specs.Token.{Token}
-use Rattle.json.specs.Tree.{items_tokens, items_depth}
 use Rattle.json.proofs.Found.{Some_inj}
-use Rattle.serde_json.specs.Data.{Data, Items, no_items, item, array}
-use Rattle.serde_json.specs.Read.{max_depth, of_json, of_items}
+use Rattle.serde_json.specs.Data.{Data, Items, array}
 use Rattle.json_trees.specs.Faults.{◌>>=◌}
 use Rattle.json_trees.specs.Trees.{list_of}
 use Rattle.hdf_types.specs.Elems.{Elem}
@@ -17,7 +14,7 @@ use Rattle.hdf_values.specs.Nested.{each_nested, nested_from}
 use Rattle.json_trees.specs.Kept.{Begins}
 use Rattle.json_trees.specs.Begun.{AreTrees}
 use Rattle.hdf_values.specs.Streamed.{MemberTold, Told, members_from}
-use Rattle.json_trees.proofs.OfKept.PassLemmas.{not_end, item_begins}
+use Rattle.json_trees.proofs.OfKept.StreamLemmas.{a_tree, none_more}
 
 -- ---- bytes of members
 
@@ -61,46 +58,6 @@ told_more None None old now new r k h m =
 told_more None (Some f) old now new r k h m = ap (λ x. both x k) h.1 ∙ ap (both (Ok h.0)) m
 told_more (Some f) None old now new r k h m = absurd (cc)
 told_more (Some f) (Some g) old now new r k h m = ap (λ x. both x k) h ∙ ap (λ x. Err x) (sym (Some_inj g f m))
-
--- ---- the trees that are left
-
--- a tree comes next, and others behind it
-pub record ATree (from : List Token) (trees : Items) (rest : List Token) : Type 0 where
-  pub tree : Data
-  pub others : Items
-  pub mid : List Token
-  pub are : trees ≡ item tree others
-  pub first : Begins from tree mid
-  pub behind : AreTrees mid others rest
-
-tree_found : (from rest : List Token) (trees : Items) (j : json.Json) (js : json.Items) (d : Option Data) (ds : Option Items) → of_json j ≡ d → of_items js ≡ ds → option_and_then (λ x. option_map (item x) ds) d ≡ Some trees
-    → from ≡ items_tokens (json.item j js) ++ rest → items_depth (json.item j js) ≤ max_depth → ATree from trees rest
-tree_found from rest trees j js None ds e f r is shallow = absurd (cc)
-tree_found from rest trees j js (Some d) None e f r is shallow = absurd (cc)
-tree_found from rest trees j js (Some d) (Some ds) e f r is shallow = record {
-  tree = d;
-  others = ds;
-  mid = items_tokens js ++ rest;
-  are = Some_inj trees (item d ds) (sym r);
-  first = record { value = j; tokens = is ∙ item_begins j js rest; shallow = omega (arith, shallow); reads = e };
-  behind = record { items = js; tokens = refl; shallow = omega (arith, shallow); reads = f };
-}
-
-tree_next : (from rest : List Token) (trees : Items) (js : json.Items) → from ≡ items_tokens js ++ rest → items_depth js ≤ max_depth → of_items js ≡ Some trees → after_end_array from ≡ None → ATree from trees rest
-tree_next from rest trees json.no_items is shallow r going = let closed : after_end_array from ≡ Some rest = ap after_end_array is in absurd (cc)
-tree_next from rest trees (json.item j js) is shallow r going = tree_found from rest trees j js (of_json j) (of_items js) refl refl r is shallow
-
-pub a_tree : (from rest : List Token) (trees : Items) → AreTrees from trees rest → after_end_array from ≡ None → ATree from trees rest
-a_tree from rest trees h going = tree_next from rest trees h.items h.tokens h.shallow h.reads going
-
-none_left : (from rest r : List Token) (trees : Items) (js : json.Items) → from ≡ items_tokens js ++ rest → of_items js ≡ Some trees → after_end_array from ≡ Some r → (r ≡ rest) × (trees ≡ no_items)
-none_left from rest r trees json.no_items is e closed = (Some_inj r rest (sym closed ∙ ap after_end_array is), Some_inj trees no_items (sym e))
-none_left from rest r trees (json.item j js) is e closed =
-    let none = ap after_end_array (is ∙ item_begins j js rest) ∙ not_end j (items_tokens js ++ rest) in
-    absurd (cc)
-
-pub none_more : (from rest r : List Token) (trees : Items) → AreTrees from trees rest → after_end_array from ≡ Some r → (r ≡ rest) × (trees ≡ no_items)
-none_more from rest r trees h closed = none_left from rest r trees h.items h.tokens h.reads closed
 
 -- ---- the walk
 
@@ -157,7 +114,7 @@ pub record IsOver (e : Elem) (dims : List ℕ) (want p : ℕ) (trees : Items) (r
 pub underway_over : (e : Elem) (dims : List ℕ) (want p : ℕ) (trees : Items) (rest r : List Token) (old : List ℕ) (from : List Token) (fault : Option ValueFault) (got next : ℕ) (now : List ℕ)
     → IsUnderway e dims want p trees rest old from fault got next now → after_end_array from ≡ Some r → IsOver e dims want p trees rest r old fault got now
 underway_over e dims want p trees rest r old from fault got next now u closed =
-    let last = none_left from rest r u.left u.here.items u.here.tokens u.here.reads closed in
+    let last = none_more from rest r u.left u.here closed in
     let all : list_of trees ≡ u.done = u.all ∙ ap (λ x. u.done ++ list_of x) last.1 ∙ append-nil u.done in
     record {
       rest_is = last.0;

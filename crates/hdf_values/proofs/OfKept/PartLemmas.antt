@@ -1,21 +1,32 @@
 -- The parts of an element, one after another.
-use Rattle.std.proofs.Common.{◌≡◌, ◌++◌, ◌∷◌, ℕ, Bool, true, false, List, [], length, Option, Some, None, Result, Ok, Err, option_map, refl, sym, ap, subst, ◌∙◌, append_assoc, append-nil, arith}
+use Rattle.std.proofs.Common.{◌≡◌, ◌++◌, ◌∷◌, ℕ, Bool, true, false, List, [], length, Option, Some, None, Result, Ok, Err, option_and_then, option_map, refl, sym, ap, subst, ◌∙◌, append_assoc, append-nil, arith}
 use Rattle.json.specs.Json.{after_end_array}
-use Rattle.json.specs.Token.{Token}
+use Rattle.json.specs.Token.{Token, number as number_token, string as string_token}
 use Rattle.serde_json.specs.Data.{Data, Items, no_items, item, array}
+use Rattle.serde_json.specs.Find.{as_integer}
 use Rattle.json_trees.specs.Begun.{AreTrees, IsValue}
+use Rattle.json_trees.specs.Kept.{Begins}
 use Rattle.json_trees.specs.Trees.{list_in, list_of}
 use Rattle.json_trees.proofs.OfKept.PassLemmas.{is_value}
 use Rattle.hdf_types.specs.declared.types.Field.{Field}
-use Rattle.hdf_types.specs.Elems.{Elem, compound, FieldList, no_fields, field}
+use Rattle.hdf_types.specs.declared.IntType.{IntType}
+use Rattle.hdf_types.specs.declared.TextType.{TextType}
+use Rattle.hdf_types.specs.Elems.{Elem, compound, int as int_type, text as text_type, FieldList, no_fields, field}
 use Rattle.hdf_types.specs.Views.{field_list}
 use Rattle.hdf_values.specs.declared.faults.Misfit.{Misfit}
 use Rattle.hdf_values.specs.declared.faults.Misfit.TheVariants.{NotOfType}
-use Rattle.hdf_values.specs.Elements.{encoded, fields_encoded, joined, listed_or, misfit_or}
+use Rattle.hdf_values.specs.Elements.{encoded, fields_encoded, int_encoded, joined, listed_or, misfit_or, text_encoded}
 use Rattle.hdf_values.specs.Faults.{at_place}
 use Rattle.hdf_values.specs.Nested.{placed}
 use Rattle.hdf_values.specs.Streamed.{Told, lowest}
-use Rattle.hdf_values.proofs.OfKept.MemberLemmas.{a_tree, none_more}
+use Rattle.json_trees.proofs.OfKept.StreamLemmas.{a_tree, no_number, no_text, none_more}
+
+-- a token of another value than the type has
+pub no_int : (int : IntType) (t : Token) (ts rest : List Token) (tree : Data) → ((s : List ℕ) → t ≡ number_token s → ⊥) → Begins (t ∷ ts) tree rest → encoded (int_type int) tree ≡ Err NotOfType
+no_int int t ts rest tree other h = ap (λ n. int_encoded int (option_and_then as_integer n)) (no_number t ts rest tree other h)
+
+pub no_chars : (kind : TextType) (t : Token) (ts rest : List Token) (tree : Data) → ((s : List ℕ) → t ≡ string_token s → ⊥) → Begins (t ∷ ts) tree rest → encoded (text_type kind) tree ≡ Err NotOfType
+no_chars kind t ts rest tree other h = ap (text_encoded kind) (no_text t ts rest tree other h)
 
 -- a part, and those behind it
 pub part_joined : (here rest : Option Misfit) (old mid new : List ℕ) (r k : Result (List ℕ) Misfit) → Told here old mid r → Told rest mid new k → Told (lowest here rest) old new (joined r k)

@@ -17,7 +17,7 @@ use crate::arrays::faults::{Stop, refused_slab, settle};
 use chunk_store::Array;
 use hdf_types::type_json;
 use hyperslab::{Slab, SlabFault, read_select, whole};
-use json_trees::KeptTree;
+use json_trees::KeptList;
 use object_ops::{Reply, SelectText};
 use point_select::Points;
 use serde_json::Value;
@@ -53,7 +53,7 @@ pub fn read_value(
 /// # Errors
 ///
 /// Only where memory runs out.
-pub fn read_points(alloc: Global, array: &Array, points: &KeptTree) -> Result<Reply, AllocError>
+pub fn read_points(alloc: Global, array: &Array, points: &KeptList) -> Result<Reply, AllocError>
     ensures { IfOk result (λ r. r ≡ points_read points.now array.now.grid) }
 {
     Ok(settle(points_reply(alloc, array, points))?)
@@ -125,7 +125,7 @@ fn cells_reply(alloc: Global, array: &Array, slab: &Slab) -> Result<Reply, Alloc
     Ok(Reply::cells(kind, slab.extents(), bytes))
 }
 
-fn points_reply(alloc: Global, array: &Array, points: &KeptTree) -> Result<Reply, Stop>
+fn points_reply(alloc: Global, array: &Array, points: &KeptList) -> Result<Reply, Stop>
     ensures { IfOk (settled result) (λ r. r ≡ points_read points.now array.now.grid) }
 {
     let points = point_select::read_points(alloc, points, array.shape())?;

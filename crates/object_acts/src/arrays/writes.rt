@@ -26,10 +26,10 @@ use crate::fault::ChangeFault;
 use chunk_store::Array;
 use hdf_values::KeptValue;
 use hyperslab::{Slab, from_lists};
-use json_trees::KeptTree;
+use json_trees::KeptList;
 use object_ops::{Part, Reply};
 use point_select::read_points;
-use shapes::{Dims, resized};
+use shapes::{Dims, KeptDims, resized};
 use std::alloc::Global;
 
 /// Other elements in a part of an array: a tree nested by how many numbers are selected on each axis, or a list with
@@ -87,9 +87,9 @@ pub fn change_shape(array: &mut Array, alloc: Global, dims: &Dims) -> Reply
 fn write_lists(
     alloc: Global,
     array: &mut Array,
-    start: &Option<KeptTree>,
-    stop: &Option<KeptTree>,
-    step: &Option<KeptTree>,
+    start: &Option<KeptDims>,
+    stop: &Option<KeptDims>,
+    step: &Option<KeptDims>,
     value: &KeptValue,
 ) -> Result<Reply, ChangeFault>
     ensures acts { Follows (slab_written array.old.grid value.now
@@ -108,7 +108,7 @@ fn write_lists(
         (lists_slab array.old.grid.shape start.now stop.now step.now)).0 ≡ true) }
 {
     array.is_whole();
-    match from_lists(alloc, start, stop, step, array.shape())? {
+    match from_lists(start, stop, step, array.shape()) {
         Ok(slab) => settle(write_slab(alloc, array, &slab, value)),
         Err(fault) => Ok(Reply::Refused(refused_slab(fault))),
     }
@@ -149,7 +149,7 @@ fn write_slab(
 fn write_points(
     alloc: Global,
     array: &mut Array,
-    points: &KeptTree,
+    points: &KeptList,
     value: &KeptValue,
 ) -> Result<Reply, Stop>
     ensures acts { Follows (points_written array.old.grid value.now

@@ -16,5 +16,5 @@ returns-in-Some-clause-within c =
 pub returns-in-Some-clause-steps : goal.returns-in-Some-clause-steps
 returns-in-Some-clause-steps c =
     let P = λ (r : Result Slab SlabFault). IfOk r (λ s. All (λ n. n < 10 ^ 10) s.step) in
-    let made = sym c.in_ok-lists.ensures.read ∙ c.in-Some.is in
+    let made = sym c.lists.ensures ∙ c.in-Some.is in
     subst P (sym c.judged.ensures.first) (given_short c.args.shape.now c.dims.result c.args.start.now c.args.stop.now c.args.step.now c.in-Some.slab c.dims.ensures made)

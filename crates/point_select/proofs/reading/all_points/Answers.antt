@@ -4,7 +4,7 @@ use Rattle.json_trees.specs.Kept.{Begins}
 use Rattle.json_trees.specs.Trees.{list_in}
 use Rattle.json.proofs.Found.{Some_inj}
 use Rattle.shapes.specs.Shapes.{dims_of}
-use Rattle.shapes.proofs.StreamLemmas.{a_list}
+use Rattle.json_trees.proofs.OfKept.StreamLemmas.{a_list}
 use Rattle.point_select.specs.Faults.{GivesPoints, points_from}
 use Rattle.point_select.proofs.reading.all_points.Goals as goal
 

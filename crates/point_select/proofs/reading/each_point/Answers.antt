@@ -2,7 +2,7 @@
 use Rattle.std.proofs.Common.{◌+◌, Ok, sym, ap, subst, ◌∙◌, arith}
 use Rattle.json_trees.specs.Trees.{list_of}
 use Rattle.shapes.specs.Shapes.{dims_of}
-use Rattle.shapes.proofs.StreamLemmas.{IsLeft}
+use Rattle.json_trees.proofs.OfKept.StreamLemmas.{IsLeft}
 use Rattle.point_select.proofs.PointLemmas.{AreBehind, behind_first, behind_more, behind_over, behind_stop, handed}
 use Rattle.point_select.proofs.reading.each_point.Goals as goal
 

@@ -5,7 +5,7 @@ use Rattle.serde_json.specs.Data.{Items}
 use Rattle.json_trees.specs.Begun.{AreTrees}
 use Rattle.json_trees.specs.Trees.{list_of}
 use Rattle.shapes.specs.Shapes.{dims_of}
-use Rattle.shapes.proofs.StreamLemmas.{IsLeft}
+use Rattle.json_trees.proofs.OfKept.StreamLemmas.{IsLeft}
 use Rattle.point_select.proofs.PointLemmas.{AreBehind}
 use Rattle.point_select.proofs.reading.each_point.Given as goal
 

@@ -5,7 +5,7 @@ use Rattle.serde_json.specs.Find.{as_u64}
 use Rattle.json_trees.specs.Kept.{Begins}
 use Rattle.json_trees.proofs.OfKept.PassLemmas.{is_value}
 use Rattle.shapes.specs.Extents.{extent_in, small}
-use Rattle.shapes.proofs.StreamLemmas.{a_number, no_whole, other_token}
+use Rattle.json_trees.proofs.OfKept.StreamLemmas.{a_number, no_number, other_token}
 use Rattle.shapes.proofs.kept_dims.extent.Goals as goal
 
 pub returns-in-Number-clause-told : goal.returns-in-Number-clause-told
@@ -17,7 +17,7 @@ pub returns-in_ok-pass_rest-in_default : goal.returns-in_ok-pass_rest-in_default
 returns-in_ok-pass_rest-in_default c = record {
   told = λ tree rest h. (
     c.in_ok-pass_rest-in_default.ensures.passed rest (is_value _ rest tree h),
-    sym (ap (option_and_then small) (no_whole (token_of c.args.first) c.args.reader.now rest tree (other_token c.args.first c.in_default.not-Number) h)),
+    sym (ap (λ n. option_and_then small (option_and_then as_u64 n)) (no_number (token_of c.args.first) c.args.reader.now rest tree (other_token c.args.first c.in_default.not-Number) h)),
   );
   not_longer = c.in_ok-pass_rest-in_default.ensures.not_longer;
 }

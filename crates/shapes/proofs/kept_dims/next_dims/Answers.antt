@@ -6,7 +6,7 @@ use Rattle.json_trees.specs.Kept.{Begins}
 use Rattle.json_trees.proofs.OfKept.PassLemmas.{no_array}
 use Rattle.shapes.specs.Extents.{dims_from, dims_in}
 use Rattle.shapes.specs.Spelled.{few_of}
-use Rattle.shapes.proofs.StreamLemmas.{a_list, no_list}
+use Rattle.json_trees.proofs.OfKept.StreamLemmas.{a_list, no_list}
 use Rattle.shapes.proofs.kept_dims.next_dims.Goals as goal
 
 pub returns-in-BeginArray-clause-told : goal.returns-in-BeginArray-clause-told

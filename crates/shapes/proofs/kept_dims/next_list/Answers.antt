@@ -5,7 +5,7 @@ use Rattle.json_trees.specs.Kept.{Begins}
 use Rattle.json_trees.specs.Trees.{list_of}
 use Rattle.shapes.specs.Spelled.{few_of}
 use Rattle.shapes.proofs.KeptDimLemmas.{dims_after, dims_of_all}
-use Rattle.shapes.proofs.StreamLemmas.{left_more, left_over}
+use Rattle.json_trees.proofs.OfKept.StreamLemmas.{left_more, left_over}
 use Rattle.shapes.proofs.kept_dims.next_list.Goals as goal
 
 pub items-init : goal.items-init

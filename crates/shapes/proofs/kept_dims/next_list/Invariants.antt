@@ -4,7 +4,7 @@ use Rattle.serde_json.specs.Data.{Items}
 use Rattle.json_trees.specs.Begun.{AreTrees}
 use Rattle.json_trees.specs.Trees.{list_of}
 use Rattle.shapes.proofs.KeptDimLemmas.{dims_after}
-use Rattle.shapes.proofs.StreamLemmas.{IsLeft}
+use Rattle.json_trees.proofs.OfKept.StreamLemmas.{IsLeft}
 use Rattle.shapes.proofs.kept_dims.next_list.Given as goal
 
 -- the dims so far with the items that are left are those of the whole list

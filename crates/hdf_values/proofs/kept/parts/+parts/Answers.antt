@@ -11,9 +11,8 @@ use Rattle.hdf_types.specs.Elems.{compound}
 use Rattle.hdf_types.specs.Views.{elem, field_list}
 use Rattle.hdf_values.specs.Elements.{encoded, fields_encoded}
 use Rattle.hdf_values.specs.Streamed.{Told}
-use Rattle.hdf_values.proofs.OfKept.MemberLemmas.{a_tree, none_more}
 use Rattle.hdf_values.proofs.OfKept.PartLemmas.{compound_told, ended_told, field_told, no_compound, no_field, none_told}
-use Rattle.hdf_values.proofs.OfKept.StreamLemmas.{a_list, no_list}
+use Rattle.json_trees.proofs.OfKept.StreamLemmas.{a_list, a_tree, no_list, none_more}
 use Rattle.hdf_values.proofs.kept.parts.+parts.Goals as goal
 
 pub read_fields-returns-in_default-clause-told : goal.read_fields-returns-in_default-clause-told

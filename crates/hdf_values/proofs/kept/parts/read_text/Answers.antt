@@ -7,7 +7,8 @@ use Rattle.hdf_values.specs.Elements.{encoded}
 use Rattle.hdf_values.specs.Streamed.{Told}
 use Rattle.json_trees.specs.Kept.{Begins}
 use Rattle.json_trees.proofs.OfKept.PassLemmas.{is_value}
-use Rattle.hdf_values.proofs.OfKept.StreamLemmas.{a_string, no_string, other_word}
+use Rattle.json_trees.proofs.OfKept.StreamLemmas.{a_string, other_word}
+use Rattle.hdf_values.proofs.OfKept.PartLemmas.{no_chars}
 use Rattle.hdf_values.proofs.kept.parts.read_text.Goals as goal
 
 pub returns-in-String-clause-told : goal.returns-in-String-clause-told
@@ -22,7 +23,7 @@ pub returns-in_ok-pass_rest-in_default : goal.returns-in_ok-pass_rest-in_default
 returns-in_ok-pass_rest-in_default c = record {
   told = λ tree rest h. (
     c.in_ok-pass_rest-in_default.ensures.passed rest (is_value _ rest tree h),
-    no_string c.args.kind.now (token_of c.args.first) c.args.reader.now rest tree (other_word c.args.first c.in_default.not-String) h,
+    no_chars c.args.kind.now (token_of c.args.first) c.args.reader.now rest tree (other_word c.args.first c.in_default.not-String) h,
   );
   not_longer = c.in_ok-pass_rest-in_default.ensures.not_longer;
 }

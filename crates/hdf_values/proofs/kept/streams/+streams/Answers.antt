@@ -12,7 +12,7 @@ use Rattle.hdf_values.proofs.ReadLemmas.{no_list as not_a_list}
 use Rattle.json_trees.specs.Kept.{Begins}
 use Rattle.hdf_values.specs.Streamed.{MemberTold, Told}
 use Rattle.json_trees.proofs.OfKept.PassLemmas.{no_array, is_value}
-use Rattle.hdf_values.proofs.OfKept.StreamLemmas.{a_list, no_list}
+use Rattle.json_trees.proofs.OfKept.StreamLemmas.{a_list, no_list}
 use Rattle.hdf_values.proofs.OfKept.MemberLemmas.{underway_first, underway_more, underway_over, wrong_count, right_count, list_told, no_extent, unwanted}
 use Rattle.hdf_values.proofs.kept.streams.+streams.Goals as goal
 

@@ -4,8 +4,8 @@ use Rattle.json.specs.Json.{after_end_array}
 use Rattle.json_trees.specs.Kept.{Begins}
 use Rattle.json_trees.specs.Trees.{list_of}
 use Rattle.json_trees.proofs.OfKept.PassLemmas.{is_value}
-use Rattle.shapes.proofs.StreamLemmas.{left_more, left_over}
-use Rattle.point_select.proofs.reading.count_left.Goals as goal
+use Rattle.json_trees.proofs.OfKept.StreamLemmas.{left_more, left_over}
+use Rattle.json_trees.proofs.kept.list.count_left.Goals as goal
 
 pub items-init : goal.items-init
 items-init c trees rest h = record { left = trees; here = h; holds = omega arith }

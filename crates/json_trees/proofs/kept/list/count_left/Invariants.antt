@@ -3,8 +3,8 @@ use Rattle.json.specs.Token.{Token}
 use Rattle.serde_json.specs.Data.{Items}
 use Rattle.json_trees.specs.Begun.{AreTrees}
 use Rattle.json_trees.specs.Trees.{list_of}
-use Rattle.shapes.proofs.StreamLemmas.{IsLeft}
-use Rattle.point_select.proofs.reading.count_left.Given as goal
+use Rattle.json_trees.proofs.OfKept.StreamLemmas.{IsLeft}
+use Rattle.json_trees.proofs.kept.list.count_left.Given as goal
 
 -- the items so far and those that are left are all
 abbrev pub invariant-items : goal.invariant-items

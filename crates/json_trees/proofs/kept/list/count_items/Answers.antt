@@ -4,8 +4,8 @@ use Rattle.json.specs.Reads.{token_of}
 use Rattle.json_trees.specs.Kept.{Begins}
 use Rattle.json_trees.specs.Trees.{list_in}
 use Rattle.json_trees.proofs.OfKept.PassLemmas.{no_array}
-use Rattle.shapes.proofs.StreamLemmas.{a_list, no_list}
-use Rattle.point_select.proofs.reading.count_items.Goals as goal
+use Rattle.json_trees.proofs.OfKept.StreamLemmas.{a_list, no_list}
+use Rattle.json_trees.proofs.kept.list.count_items.Goals as goal
 
 pub returns-in_ok-count_left-in-BeginArray : goal.returns-in_ok-count_left-in-BeginArray
 returns-in_ok-count_left-in-BeginArray c =

@@ -6,12 +6,13 @@ use Rattle.json.specs.Json.{after_end_array}
 use Rattle.json.specs.Reads.{token_of}
 use Rattle.json.specs.declared.token.Token.{Token as Handed}
 use Rattle.json.specs.declared.token.Token.TheVariants as read
-use Rattle.json.specs.Token.{Token, begin_array, number as number_token, bad}
+use Rattle.json.specs.Token.{Token, begin_array, number as number_token, string as string_token, bad}
 use Rattle.json.specs.Tree.{json_tokens, items_tokens, depth, items_depth}
 use Rattle.json.proofs.Found.{Some_inj}
 use Rattle.serde_json.specs.Data.{Data, Num, null, boolean, number, string, array, object, Items, no_items, item, Members, no_members}
+use Rattle.serde_json.specs.Find.{as_number, as_str}
 use Rattle.serde_json.specs.Read.{max_depth, number_of, of_json, of_items, of_members}
-use Rattle.json_trees.specs.Trees.{list_in, list_of, whole_in}
+use Rattle.json_trees.specs.Trees.{list_in, list_of}
 use Rattle.json_trees.specs.Kept.{Begins}
 use Rattle.json_trees.specs.Begun.{AreTrees}
 use Rattle.json_trees.proofs.OfKept.PassLemmas.{not_end, item_begins}
@@ -29,6 +30,10 @@ first_or d (t ∷ ts) = t
 number_in : Token → List ℕ
 number_in (number_token s) = s
 number_in t = []
+
+string_in : Token → List ℕ
+string_in (string_token s) = s
+string_in t = []
 
 -- a list
 pub record AList (ts : List Token) (tree : Data) (rest : List Token) : Type 0 where
@@ -69,6 +74,19 @@ number_begun s ts rest tree (json.object ms) e r = absurd (cc)
 pub a_number : (s : List ℕ) (ts rest : List Token) (tree : Data) → Begins (number_token s ∷ ts) tree rest → (ts ≡ rest) × ((x : Num) × (number_of s ≡ Some x) × (tree ≡ number x))
 a_number s ts rest tree h = number_begun s ts rest tree h.value h.tokens h.reads
 
+-- a text
+string_begun : (s : List ℕ) (ts rest : List Token) (tree : Data) (j : json.Json) → string_token s ∷ ts ≡ json_tokens j ++ rest → of_json j ≡ Some tree → (ts ≡ rest) × (tree ≡ string s)
+unfolding tail first_or string_in
+string_begun s ts rest tree json.null e r = absurd (cc)
+string_begun s ts rest tree (json.boolean b) e r = absurd (cc)
+string_begun s ts rest tree (json.number x) e r = absurd (cc)
+string_begun s ts rest tree (json.string x) e r = (ap tail e, Some_inj tree (string x) (sym r) ∙ ap string (sym (ap (λ l. string_in (first_or bad l)) e)))
+string_begun s ts rest tree (json.array js) e r = absurd (cc)
+string_begun s ts rest tree (json.object ms) e r = absurd (cc)
+
+pub a_string : (s : List ℕ) (ts rest : List Token) (tree : Data) → Begins (string_token s ∷ ts) tree rest → (ts ≡ rest) × (tree ≡ string s)
+a_string s ts rest tree h = string_begun s ts rest tree h.value h.tokens h.reads
+
 -- another tree than a list
 no_list_found : (o : Option Members) (tree : Data) → option_map object o ≡ Some tree → list_in tree ≡ None
 no_list_found None tree e = absurd (cc)
@@ -91,25 +109,50 @@ pub no_list : (t : Token) (ts rest : List Token) (tree : Data) → (t ≡ begin_
 no_list t ts rest tree other h = other_list t ts rest tree h.value other h.tokens h.reads
 
 -- another tree than a number
-no_whole_items : (o : Option Items) (tree : Data) → option_map array o ≡ Some tree → whole_in tree ≡ None
-no_whole_items None tree e = absurd (cc)
-no_whole_items (Some ds) tree e = ap whole_in (Some_inj tree (array ds) (sym e))
+no_number_items : (o : Option Items) (tree : Data) → option_map array o ≡ Some tree → as_number tree ≡ None
+no_number_items None tree e = absurd (cc)
+no_number_items (Some ds) tree e = ap as_number (Some_inj tree (array ds) (sym e))
 
-no_whole_members : (o : Option Members) (tree : Data) → option_map object o ≡ Some tree → whole_in tree ≡ None
-no_whole_members None tree e = absurd (cc)
-no_whole_members (Some ms) tree e = ap whole_in (Some_inj tree (object ms) (sym e))
+no_number_members : (o : Option Members) (tree : Data) → option_map object o ≡ Some tree → as_number tree ≡ None
+no_number_members None tree e = absurd (cc)
+no_number_members (Some ms) tree e = ap as_number (Some_inj tree (object ms) (sym e))
 
-other_whole : (t : Token) (ts rest : List Token) (tree : Data) (j : json.Json) → ((s : List ℕ) → t ≡ number_token s → ⊥) → t ∷ ts ≡ json_tokens j ++ rest → of_json j ≡ Some tree → whole_in tree ≡ None
+other_number : (t : Token) (ts rest : List Token) (tree : Data) (j : json.Json) → ((s : List ℕ) → t ≡ number_token s → ⊥) → t ∷ ts ≡ json_tokens j ++ rest → of_json j ≡ Some tree → as_number tree ≡ None
 unfolding first_or
-other_whole t ts rest tree json.null other e r = ap whole_in (Some_inj tree null (sym r))
-other_whole t ts rest tree (json.boolean b) other e r = ap whole_in (Some_inj tree (boolean b) (sym r))
-other_whole t ts rest tree (json.number x) other e r = absurd (other x (ap (first_or bad) e))
-other_whole t ts rest tree (json.string x) other e r = ap whole_in (Some_inj tree (string x) (sym r))
-other_whole t ts rest tree (json.array js) other e r = no_whole_items (of_items js) tree r
-other_whole t ts rest tree (json.object ms) other e r = no_whole_members (of_members ms no_members) tree r
+other_number t ts rest tree json.null other e r = ap as_number (Some_inj tree null (sym r))
+other_number t ts rest tree (json.boolean b) other e r = ap as_number (Some_inj tree (boolean b) (sym r))
+other_number t ts rest tree (json.number x) other e r = absurd (other x (ap (first_or bad) e))
+other_number t ts rest tree (json.string x) other e r = ap as_number (Some_inj tree (string x) (sym r))
+other_number t ts rest tree (json.array js) other e r = no_number_items (of_items js) tree r
+other_number t ts rest tree (json.object ms) other e r = no_number_members (of_members ms no_members) tree r
 
-pub no_whole : (t : Token) (ts rest : List Token) (tree : Data) → ((s : List ℕ) → t ≡ number_token s → ⊥) → Begins (t ∷ ts) tree rest → whole_in tree ≡ None
-no_whole t ts rest tree other h = other_whole t ts rest tree h.value other h.tokens h.reads
+pub no_number : (t : Token) (ts rest : List Token) (tree : Data) → ((s : List ℕ) → t ≡ number_token s → ⊥) → Begins (t ∷ ts) tree rest → as_number tree ≡ None
+no_number t ts rest tree other h = other_number t ts rest tree h.value other h.tokens h.reads
+
+-- another tree than a text
+no_text_number : (o : Option Num) (tree : Data) → option_map number o ≡ Some tree → as_str tree ≡ None
+no_text_number None tree e = absurd (cc)
+no_text_number (Some n) tree e = ap as_str (Some_inj tree (number n) (sym e))
+
+no_text_items : (o : Option Items) (tree : Data) → option_map array o ≡ Some tree → as_str tree ≡ None
+no_text_items None tree e = absurd (cc)
+no_text_items (Some ds) tree e = ap as_str (Some_inj tree (array ds) (sym e))
+
+no_text_members : (o : Option Members) (tree : Data) → option_map object o ≡ Some tree → as_str tree ≡ None
+no_text_members None tree e = absurd (cc)
+no_text_members (Some ms) tree e = ap as_str (Some_inj tree (object ms) (sym e))
+
+other_text : (t : Token) (ts rest : List Token) (tree : Data) (j : json.Json) → ((s : List ℕ) → t ≡ string_token s → ⊥) → t ∷ ts ≡ json_tokens j ++ rest → of_json j ≡ Some tree → as_str tree ≡ None
+unfolding first_or
+other_text t ts rest tree json.null other e r = ap as_str (Some_inj tree null (sym r))
+other_text t ts rest tree (json.boolean b) other e r = ap as_str (Some_inj tree (boolean b) (sym r))
+other_text t ts rest tree (json.number x) other e r = no_text_number (number_of x) tree r
+other_text t ts rest tree (json.string x) other e r = absurd (other x (ap (first_or bad) e))
+other_text t ts rest tree (json.array js) other e r = no_text_items (of_items js) tree r
+other_text t ts rest tree (json.object ms) other e r = no_text_members (of_members ms no_members) tree r
+
+pub no_text : (t : Token) (ts rest : List Token) (tree : Data) → ((s : List ℕ) → t ≡ string_token s → ⊥) → Begins (t ∷ ts) tree rest → as_str tree ≡ None
+no_text t ts rest tree other h = other_text t ts rest tree h.value other h.tokens h.reads
 
 -- the tokens of `src`
 pub other_token : (t : Handed) → ((x : Bor (List ℕ)) → t ≡ read.Number x → ⊥) → (s : List ℕ) → token_of t ≡ number_token s → ⊥
@@ -123,6 +166,18 @@ other_token (read.Number x) h s e = h x refl
 other_token (read.Bool b) h s e = cc
 other_token read.Null h s e = cc
 other_token read.Bad h s e = cc
+
+pub other_word : (t : Handed) → ((x : Bor (List ℕ)) → t ≡ read.String x → ⊥) → (s : List ℕ) → token_of t ≡ string_token s → ⊥
+other_word read.BeginObject h s e = cc
+other_word read.EndObject h s e = cc
+other_word read.BeginArray h s e = cc
+other_word read.EndArray h s e = cc
+other_word (read.Key x) h s e = cc
+other_word (read.String x) h s e = h x refl
+other_word (read.Number x) h s e = cc
+other_word (read.Bool b) h s e = cc
+other_word read.Null h s e = cc
+other_word read.Bad h s e = cc
 
 -- ---- the items that are left
 
@@ -152,11 +207,17 @@ tree_next : (from rest : List Token) (trees : Items) (js : json.Items) → from 
 tree_next from rest trees json.no_items is shallow r going = let closed : after_end_array from ≡ Some rest = ap after_end_array is in absurd (cc)
 tree_next from rest trees (json.item j js) is shallow r going = tree_found from rest trees j js (of_json j) (of_items js) refl refl r is shallow
 
+pub a_tree : (from rest : List Token) (trees : Items) → AreTrees from trees rest → after_end_array from ≡ None → ATree from trees rest
+a_tree from rest trees h going = tree_next from rest trees h.items h.tokens h.shallow h.reads going
+
 none_next : (from rest r : List Token) (trees : Items) (js : json.Items) → from ≡ items_tokens js ++ rest → of_items js ≡ Some trees → after_end_array from ≡ Some r → (r ≡ rest) × (trees ≡ no_items)
 none_next from rest r trees json.no_items is e closed = (Some_inj r rest (sym closed ∙ ap after_end_array is), Some_inj trees no_items (sym e))
 none_next from rest r trees (json.item j js) is e closed =
     let none = ap after_end_array (is ∙ item_begins j js rest) ∙ not_end j (items_tokens js ++ rest) in
     absurd (cc)
+
+pub none_more : (from rest r : List Token) (trees : Items) → AreTrees from trees rest → after_end_array from ≡ Some r → (r ≡ rest) × (trees ≡ no_items)
+none_more from rest r trees h closed = none_next from rest r trees h.items h.tokens h.reads closed
 
 -- of the items of a list some are left, of which this holds
 pub record IsLeft (P : List Data → Type 0) (from rest : List Token) : Type 0 where
@@ -175,7 +236,7 @@ pub record IsNext (P : List Data → Type 0) (from rest : List Token) : Type 0 w
 
 pub left_next : (P : List Data → Type 0) (from rest : List Token) → IsLeft P from rest → after_end_array from ≡ None → IsNext P from rest
 left_next P from rest u going =
-    let t : ATree from u.left rest = tree_next from rest u.left u.here.items u.here.tokens u.here.shallow u.here.reads going in
+    let t : ATree from u.left rest = a_tree from rest u.left u.here going in
     record { tree = t.tree; others = t.others; mid = t.mid; first = t.first; behind = t.behind; holds = subst (λ x. P (list_of x)) t.are u.holds }
 
 -- they end only where it can hold of none
@@ -199,5 +260,5 @@ left_more P Q from after rest u going step =
 
 pub left_over : (P : List Data → Type 0) (from r rest : List Token) → IsLeft P from rest → after_end_array from ≡ Some r → (r ≡ rest) × P []
 left_over P from r rest u closed =
-    let last = none_next from rest r u.left u.here.items u.here.tokens u.here.reads closed in
+    let last = none_more from rest r u.left u.here closed in
     (last.0, subst (λ x. P (list_of x)) last.1 u.holds)
