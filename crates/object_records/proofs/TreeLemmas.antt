@@ -38,7 +38,8 @@ use Rattle.groups_links.specs.Titles.{IsGoodTitle, most_of_title}
 use Rattle.groups_links.specs.declared.target.LinkTo.{LinkTo}
 use Rattle.groups_links.specs.declared.target.LinkTo.TheVariants.{Hard, Soft, External}
 use Rattle.groups_links.proofs.LinkLemmas as links
-use Rattle.object_acts.proofs.OfDepths.Depths.{attributes_deep, element_deep, links_deep, numbers_deep, shape_deep, sound_shallow, type_deep}
+use Rattle.hdf_values.proofs.OfKept.TreeLemmas.{element_deep}
+use Rattle.object_acts.proofs.OfDepths.Depths.{attributes_deep, links_deep, numbers_deep, shape_deep, sound_shallow, type_deep}
 use Rattle.chunk_layout.specs.Layouts.{Fits}
 use Rattle.chunk_store.specs.Grids.{Grid, IsWhole}
 use Rattle.object_acts.specs.Arrays.Creation.{creation_tree}

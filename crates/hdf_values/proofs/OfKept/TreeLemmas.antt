@@ -16,12 +16,13 @@ use Rattle.hdf_values.specs.Nested.{FitsNested, nested_decoded, pieces}
 
 -- ---- how deep they nest
 
-each_deep : {A : Type 0} (k : ℕ) (f : A → Data) (xs : List A) → ((x : A) → depth (f x) ≤ k) → items_depth (items_of (map f xs)) ≤ k
+-- the trees of a list, each no deeper than this
+pub each_deep : {A : Type 0} (k : ℕ) (f : A → Data) (xs : List A) → ((x : A) → depth (f x) ≤ k) → items_depth (items_of (map f xs)) ≤ k
 each_deep k f [] low = omega arith
 each_deep k f (x ∷ xs) low = omega (arith, low x, each_deep k f xs low)
 
 mutual
-  element_deep : (e : Elem) (bs : List ℕ) → depth (decoded e bs) ≤ nesting e
+  pub element_deep : (e : Elem) (bs : List ℕ) → depth (decoded e bs) ≤ nesting e
   element_deep (int t) bs = omega arith
   element_deep (text t) bs = omega arith
   element_deep (compound fs) bs = omega (arith, parts_deep fs bs)

@@ -23,7 +23,8 @@ use Rattle.object_acts.specs.declared.objects.Object.{Object}
 use Rattle.object_acts.specs.declared.objects.Body.{Body}
 use Rattle.object_acts.specs.declared.objects.Body.TheVariants.{Group, Dataset, Datatype}
 use Rattle.object_records.specs.Objects.{IsKeptBody}
-use Rattle.object_acts.proofs.OfDepths.Depths.{each_deep, link_deep, shape_deep, sound_shallow, type_deep, value_deep}
+use Rattle.hdf_values.proofs.OfKept.TreeLemmas.{each_deep}
+use Rattle.object_acts.proofs.OfDepths.Depths.{link_deep, shape_deep, sound_shallow, type_deep, value_deep}
 use Rattle.documents.specs.Domains.Documents.{collection_tree, document_tree, is_of, put_each, put_one}
 use Rattle.documents.specs.Domains.Entries.{body_tree, entry_tree, is_shown, titled_tree}
 use Rattle.documents.specs.declared.domains.home.Home.{Home}

@@ -1,5 +1,5 @@
 -- How deep trees nest.
-use Rattle.std.proofs.Common.{ℕ, zero, suc, ◌+◌, ◌*◌, ◌≤◌, Bool, true, false, List, [], ◌∷◌, map, length, take, drop, arith}
+use Rattle.std.proofs.Common.{ℕ, zero, suc, ◌+◌, ◌*◌, ◌≤◌, Bool, true, false, List, [], ◌∷◌, map, length, arith}
 use Rattle.std.specs.FinMap.{FinMap, entries}
 use Rattle.std.specs.List.{AllByRecursion}
 use Rattle.serde_json.specs.Data.{Data, depth, items_depth}
@@ -8,20 +8,17 @@ use Rattle.containers.specs.TextMaps.Keyed.{text_order}
 use Rattle.hdf_types.specs.Elems.{Elem, int, text, compound, FieldList, no_fields, field, fields_depth}
 use Rattle.hdf_types.specs.Elems.{depth as nesting}
 use Rattle.hdf_types.specs.Printed.{type_tree, fields_trees}
-use Rattle.hdf_types.specs.Reading.{size_of}
 use Rattle.hdf_types.specs.Types.{IsSoundType}
 use Rattle.shapes.specs.declared.Shape.{Shape}
 use Rattle.shapes.specs.declared.Shape.TheVariants.{Null, Scalar, Simple}
 use Rattle.shapes.specs.declared.printing.Form.{Form}
 use Rattle.shapes.specs.declared.printing.Form.TheVariants.{Rest, Document}
-use Rattle.shapes.specs.RowMajor.{cell_count}
 use Rattle.shapes.specs.Printed.{limit_tree, numbers_tree, shape_tree}
 use Rattle.shapes.specs.Shapes.{IsSound, dims_of}
 use Rattle.hdf_values.specs.Attributes.{Content, content}
 use Rattle.hdf_values.specs.declared.attributes.Attribute.{Attribute}
-use Rattle.hdf_values.specs.Elements.{decoded, fields_decoded}
-use Rattle.hdf_values.specs.Nested.{nested_decoded, pieces}
 use Rattle.hdf_values.specs.Shaped.{value_tree}
+use Rattle.hdf_values.proofs.OfKept.TreeLemmas.{each_deep, element_deep, nested_deep}
 use Rattle.attributes.specs.AttributeTrees.{attribute_tree, attributes_list, entry_tree}
 use Rattle.attributes.proofs.MapLemmas.{each_entry}
 use Rattle.groups_links.specs.declared.target.LinkTo.{LinkTo}
@@ -31,11 +28,6 @@ use Rattle.object_acts.specs.Depths.Shallow.{AreShallowAttributes, IsShallow}
 use Rattle.shapes.proofs.ShapeLemmas.{few_dims}
 
 -- ---- lists
-
--- the trees of a list, each no deeper than this
-pub each_deep : {A : Type 0} (k : ℕ) (f : A → Data) (xs : List A) → ((x : A) → depth (f x) ≤ k) → items_depth (items_of (map f xs)) ≤ k
-each_deep k f [] low = omega arith
-each_deep k f (x ∷ xs) low = omega (arith, low x, each_deep k f xs low)
 
 pub these_deep : {A : Type 0} (k : ℕ) (f : A → Data) (xs : List A) → AllByRecursion (λ x. depth (f x) ≤ k) xs
     → items_depth (items_of (map f xs)) ≤ k
@@ -53,22 +45,6 @@ mutual
   fields_deep : (fs : FieldList) → items_depth (items_of (fields_trees fs)) ≤ 3 * fields_depth fs + 2
   fields_deep no_fields = omega arith
   fields_deep (field n e rest) = omega (arith, type_deep e, fields_deep rest)
-
-mutual
-  pub element_deep : (e : Elem) (bs : List ℕ) → depth (decoded e bs) ≤ nesting e
-  element_deep (int t) bs = omega arith
-  element_deep (text t) bs = omega arith
-  element_deep (compound fs) bs = omega (arith, parts_deep fs bs)
-
-  parts_deep : (fs : FieldList) (bs : List ℕ) → items_depth (items_of (fields_decoded fs bs)) ≤ fields_depth fs
-  parts_deep no_fields bs = omega arith
-  parts_deep (field n e rest) bs = omega (arith, element_deep e (take (size_of e) bs), parts_deep rest (drop (size_of e) bs))
-
-pub nested_deep : (e : Elem) (dims bs : List ℕ) → depth (nested_decoded e dims bs) ≤ length dims + nesting e
-nested_deep e [] bs = omega (arith, element_deep e bs)
-nested_deep e (n ∷ ns) bs =
-    let rows = pieces n (cell_count ns * size_of e) bs in
-    omega (arith, each_deep (length ns + nesting e) (nested_decoded e ns) rows (nested_deep e ns))
 
 pub value_deep : (e : Elem) (s : Shape) (bs : List ℕ) → depth (value_tree e s bs) ≤ length (dims_of s) + nesting e
 value_deep e Null bs = omega arith

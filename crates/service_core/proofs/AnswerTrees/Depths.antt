@@ -14,7 +14,8 @@ use Rattle.chunk_store.specs.Grids.{Grid}
 use Rattle.object_acts.specs.Arrays.Arrays.{nested_by}
 use Rattle.object_acts.specs.Arrays.Creation.{creation_tree, fill_members, layout_members}
 use Rattle.object_acts.specs.Depths.Shallow.{IsShallow}
-use Rattle.object_acts.proofs.OfDepths.Depths.{element_deep, nested_deep, numbers_deep}
+use Rattle.hdf_values.proofs.OfKept.TreeLemmas.{element_deep, nested_deep}
+use Rattle.object_acts.proofs.OfDepths.Depths.{numbers_deep}
 
 layout_deep : (s : Shape) (chunk : List ℕ) → members_depth (layout_members s chunk) ≤ 2
 layout_deep Null chunk = omega arith

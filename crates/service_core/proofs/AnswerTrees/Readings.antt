@@ -34,7 +34,8 @@ use Rattle.service_core.specs.declared.answers.Answer.{Answer}
 use Rattle.service_core.specs.Steps.{Steps, World}
 use Rattle.service_core.specs.AnswerTrees.Readable.{AnswersAreReadable, AreShallow, CallsAreReadable, IsShallowBody, IsShallowGrid, IsShallowObject, NoneAreShallow, ReadsBack, RefusalsAreReadable, ShallowStaysShallow}
 use Rattle.hdf_values.specs.Attributes.{content}
-use Rattle.object_acts.proofs.OfDepths.Depths.{attribute_deep, attributes_deep, each_deep, link_deep, links_deep, nested_deep, shape_deep, type_deep}
+use Rattle.hdf_values.proofs.OfKept.TreeLemmas.{each_deep, nested_deep}
+use Rattle.object_acts.proofs.OfDepths.Depths.{attribute_deep, attributes_deep, link_deep, links_deep, shape_deep, type_deep}
 use Rattle.service_core.proofs.AnswerTrees.Depths.{creation_deep, part_deep}
 use Rattle.service_core.proofs.AnswerTrees.Shallow.{change_shallow, linked_shallow, made_shallow}
 use Rattle.service_core.proofs.AnswerTrees.Trees.{ArrayHas, Trees}
