@@ -11,8 +11,6 @@ mod coordinates;
 #[cfg(test)]
 mod draws;
 #[cfg(test)]
-mod hand_rows;
-#[cfg(test)]
 mod kept_rows;
 #[cfg(test)]
 mod layout_rows;
@@ -24,8 +22,6 @@ mod packed_rows;
 mod plain;
 #[cfg(test)]
 mod point_rows;
-#[cfg(test)]
-mod print_rows;
 #[cfg(test)]
 mod run_rows;
 #[cfg(test)]

@@ -1,21 +1,16 @@
-//! Links as trees spell them, and the links of a group.
+//! Links as trees spell them.
 
 use crate::tables::{Told, column, had, text_of, tree, try_rows};
-use groups_links::{
-    LinkFault, LinkTo, Links, MAX_TEXT, MAX_TITLE, good_title, link_json, read_link,
-};
+use groups_links::{LinkFault, LinkTo, MAX_TITLE, link_json, read_link};
 use object_ids::Name;
 use shapes::Form;
 use std::process::Abort;
 
-fn name(rt: &(impl Abort + AllocGlobal), text: &str, most: usize) -> Name {
-    Name::read(rt.alloc(), text, most).expect(rt, "a name")
-}
-
 /// A link copied and printed under the title `t`.
 fn printed(rt: &(impl Abort + AllocGlobal), link: &LinkTo, form: Form) -> String {
     let copy = link.copy().expect(rt, "memory");
-    let tree = link_json(rt.alloc(), &name(rt, "t", MAX_TITLE), &copy, form);
+    let title = Name::read(rt.alloc(), "t", MAX_TITLE).expect(rt, "a title");
+    let tree = link_json(rt.alloc(), &title, &copy, form);
     text_of(rt, &tree.expect(rt, "memory"))
 }
 
@@ -121,35 +116,3 @@ fn paths_and_files_have_a_greatest_length(rt: HostRuntime) {
         assert!(rt; is_link(&rt, *path, *file) == *wanted, "{path} {file}");
     }
 }
-
-/// Puts a soft link at a title.
-fn put_soft(rt: &(impl Abort + AllocGlobal), links: &mut Links, title: &str, path: &str) {
-    let title = name(rt, title, MAX_TITLE);
-    let path = Name::read(rt.alloc(), path, MAX_TEXT).expect(rt, "a path");
-    if good_title(&title) {
-        assert!(rt; links.put(title, LinkTo::Soft(path)).is_ok());
-    }
-}
-
-/// A row a line: a title and a path. There is no link at the last title.
-static SOFT: &str = "b|/1
-a|/2
-B|/4
-\u{e9}|/5
-/|/6";
-
-#[test]
-fn links_are_listed_by_their_titles(rt: HostRuntime) {
-    let mut links = Links::new(rt.alloc());
-    for row in SOFT.lines() {
-        put_soft(&rt, &mut links, column(row, 0), column(row, 1));
-    }
-    assert!(rt; links.remove(&name(&rt, "a", MAX_TITLE)).is_ok());
-    let listed = links.list(rt.alloc(), Form::Document);
-    let listed = text_of(&rt, &listed.expect(&rt, "memory"));
-    assert!(rt; listed.as_str() == LISTED, "{listed}");
-}
-
-/// The links that are left.
-static LISTED: &str =
-    r#"[{"class":"H5L_TYPE_SOFT","h5path":"/4","title":"B"},{"class":"H5L_TYPE_SOFT","h5path":"/1","title":"b"},{"class":"H5L_TYPE_SOFT","h5path":"/5","title":"é"}]"#;

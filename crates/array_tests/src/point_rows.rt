@@ -1,7 +1,7 @@
 //! Points as trees spell them.
 
 use crate::shape_rows::shape_in;
-use crate::tables::{Told, column, had, kept, number, try_rows};
+use crate::tables::{Told, column, had, kept_list, number, try_rows};
 use point_select::{Points, read_points};
 use shapes::Dims;
 use std::process::Abort;
@@ -9,7 +9,7 @@ use std::process::Abort;
 /// The points that a tree spells on a shape, each printed as its coordinates, or their fault.
 fn told(rt: &(impl Abort + AllocGlobal), shape: &str, points: &str) -> String {
     let shape = shape_in(rt, shape, "").expect(rt, "a shape");
-    match read_points(rt.alloc(), &kept(rt, points), &shape) {
+    match read_points(rt.alloc(), &kept_list(rt, points), &shape) {
         Ok(points) => printed(rt, &points),
         Err(fault) => had(rt, format!(in rt.alloc(); "{fault:?}")),
     }
@@ -115,7 +115,7 @@ fn list_of(rt: &(impl Abort + AllocGlobal), item: &str, more: usize) -> String {
 /// How many points a list of a zero and so many more has on a shape of four cells.
 fn count_of_zeros(rt: &(impl Abort + AllocGlobal), more: usize) -> usize {
     let shape = shape_in(rt, "[4]", "").expect(rt, "a shape");
-    let tree = kept(rt, list_of(rt, "0", more).as_str());
+    let tree = kept_list(rt, list_of(rt, "0", more).as_str());
     match read_points(rt.alloc(), &tree, &shape) {
         Ok(points) => points.len(),
         Err(_) => 0,

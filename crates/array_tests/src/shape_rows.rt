@@ -6,8 +6,7 @@ ghost use Rattle.shapes.specs.Shapes.{IsSound};
 use crate::tables::{Told, column, had, kept, text_of, tree, try_rows};
 use serde_json::Value;
 use shapes::{
-    Dims, Form, Shape, ShapeFault, count, read_dims, read_kept_dims, read_shape, resized,
-    shape_json,
+    Dims, Form, KeptDims, Shape, ShapeFault, count, read_dims, read_shape, resized, shape_json,
 };
 use std::process::Abort;
 
@@ -107,7 +106,8 @@ fn trees_spell_shapes_or_have_a_first_fault(rt: HostRuntime) {
 
 /// The dims that a text spells, as those of its tree and as those of the text that is kept.
 fn both_dims(rt: &(impl Abort + AllocGlobal), text: &str) -> Option<Dims> {
-    let dims = read_kept_dims(rt.alloc(), &kept(rt, text)).expect(rt, "memory");
+    let kept = KeptDims::of(rt.alloc(), kept(rt, text)).expect(rt, "memory");
+    let dims = kept.dims();
     assert!(rt; dims == read_dims(&tree(rt, text)), "{text}");
     dims
 }

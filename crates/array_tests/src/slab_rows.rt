@@ -3,7 +3,7 @@
 ghost use Rattle.shapes.specs.Shapes.{IsSound};
 
 use crate::shape_rows::shape_in;
-use crate::tables::{Told, column, had, kept, kept_at, try_rows};
+use crate::tables::{Told, column, dims_at, had, kept, try_rows};
 use hyperslab::{Slab, SlabFault, from_lists, read_select, whole};
 use shapes::Shape;
 use std::process::Abort;
@@ -137,13 +137,12 @@ impl Told for ListsRow {
     fn told(rt: &(impl Abort + AllocGlobal), row: &str) -> String {
         let keys = kept(rt, column(row, 1));
         let slab = from_lists(
-            rt.alloc(),
-            &kept_at(rt, &keys, "start"),
-            &kept_at(rt, &keys, "stop"),
-            &kept_at(rt, &keys, "step"),
+            &dims_at(rt, &keys, "start"),
+            &dims_at(rt, &keys, "stop"),
+            &dims_at(rt, &keys, "step"),
             &shape_of(rt, row),
         );
-        shown(rt, slab.expect(rt, "memory"))
+        shown(rt, slab)
     }
 }
 

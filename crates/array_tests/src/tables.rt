@@ -1,7 +1,8 @@
 //! Rows of tables: columns parted by strokes.
 
-use json_trees::{KeptTree, member_at};
+use json_trees::{KeptList, KeptTree, member_at};
 use serde_json::Value;
+use shapes::KeptDims;
 use std::process::Abort;
 
 /// A row's column, from 0; empty where the row has fewer.
@@ -23,9 +24,15 @@ pub fn kept(rt: &(impl Abort + AllocGlobal), text: &str) -> KeptTree {
     KeptTree::read(rt.alloc(), text.as_bytes()).expect(rt, "JSON")
 }
 
-/// What stands at a key of an object.
-pub fn kept_at(rt: &(impl Abort + AllocGlobal), tree: &KeptTree, key: &str) -> Option<KeptTree> {
-    member_at(rt.alloc(), tree, key).expect(rt, "memory")
+/// The list that a text is, kept.
+pub fn kept_list(rt: &(impl Abort + AllocGlobal), text: &str) -> KeptList {
+    KeptList::of(rt.alloc(), kept(rt, text)).expect(rt, "memory")
+}
+
+/// The numbers at a key of an object.
+pub fn dims_at(rt: &(impl Abort + AllocGlobal), tree: &KeptTree, key: &str) -> Option<KeptDims> {
+    let tree = member_at(rt.alloc(), tree, key).expect(rt, "memory")?;
+    Some(KeptDims::of(rt.alloc(), tree).expect(rt, "memory"))
 }
 
 /// The number that a text is.

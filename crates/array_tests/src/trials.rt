@@ -11,7 +11,7 @@ ghost use Rattle.hyperslab.specs.Selected.{IsSlab, SlabIn};
 
 use crate::coordinates::{are_from, are_selected, index_coords, slab_coords};
 use crate::plain::PlainArray;
-use crate::tables::{had, kept, text_of, tree};
+use crate::tables::{had, kept_list, text_of, tree};
 use crate::twins;
 use crate::twins::Twins;
 use chunk_layout::{Layout, read_layout};
@@ -179,7 +179,7 @@ pub fn points_of(rt: &(impl Abort + AllocGlobal), array: &Array, text: &str) -> 
     ensures inside { All (λ at. LiesIn at array.now.grid.shape) result }
 {
     array.is_whole();
-    match read_points(rt.alloc(), &kept(rt, text), array.shape()) {
+    match read_points(rt.alloc(), &kept_list(rt, text), array.shape()) {
         Ok(points) => points,
         Err(_) => panic!(rt; "points"),
     }

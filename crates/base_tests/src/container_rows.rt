@@ -1,12 +1,10 @@
-//! Containers at concrete types.
+//! Lists as keys of a map.
 
 ghost use Rattle.std.specs.Prelude.{◌≡◌, option_copied};
 ghost use Rattle.std.specs.BTreeMap.{get_by};
 ghost use Rattle.containers.specs.ShortLists.Order.{list_order};
 
 use containers::short_lists::ShortList;
-use containers::text_maps::{ByteMap, TextMap};
-use std::alloc::{AllocError, Global};
 use std::collections::BTreeMap;
 use std::process::Abort;
 
@@ -33,42 +31,4 @@ fn lists_are_keys(rt: HostRuntime) {
     put_list(&rt, &mut map, ShortList::repeated(2, 1), 21);
     assert!(rt; look_up(&map, &ShortList::repeated(1, 2)) == Some(&12));
     assert!(rt; look_up(&map, &ShortList::repeated(1, 1)).is_none());
-}
-
-#[test]
-fn a_short_list_keeps_what_fits(rt: HostRuntime) {
-    let mut few: ShortList<3> = ShortList::new();
-    for number in [7, u64::MAX, 0, 5] {
-        few.keep(number);
-    }
-    assert!(rt; few.as_slice() == [7, u64::MAX, 0].as_slice());
-    assert!(rt; ShortList::from_slice(few.as_slice()) == Some(few));
-    assert!(rt; ShortList::<3>::repeated(9, 2) < few);
-}
-
-/// A map with the values of three keys, of which the last stands for the first too.
-fn bytes(alloc: Global) -> Result<ByteMap<u64>, AllocError> {
-    let mut bytes = ByteMap::new(alloc);
-    bytes.put(b"tb".to_vec(alloc)?, 1_u64)?;
-    bytes.put_copy(b"ta", 2)?;
-    bytes.put_copy(b"tb", 3)?;
-    Ok(bytes)
-}
-
-fn texts(alloc: Global) -> Result<TextMap<u64>, AllocError> {
-    let mut texts = TextMap::new(alloc);
-    texts.put(String::from_str(alloc, "b")?, 1_u64)?;
-    texts.put_copy("g:x", 4)?;
-    texts.put_copy("b", 3)?;
-    Ok(texts)
-}
-
-#[test]
-fn maps_keep_the_last_value_of_a_key(rt: HostRuntime) {
-    let mut bytes = bytes(rt.alloc()).expect(&rt, "memory");
-    assert!(rt; bytes.get(b"tb").copied() == Some(3));
-    assert!(rt; bytes.remove(b"ta") == Some(2));
-    let mut texts = texts(rt.alloc()).expect(&rt, "memory");
-    assert!(rt; texts.get("b").copied() == Some(3));
-    assert!(rt; texts.remove("b") == Some(3));
 }

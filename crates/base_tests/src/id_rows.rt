@@ -1,9 +1,7 @@
 //! Names, paths and ids.
 
 use crate::tables::{Told, column, copied, had, number, try_rows};
-use object_ids::{
-    DomainPath, IdMap, Kind, Name, NameMap, ObjectId, id_text, path_text, read_id, read_path,
-};
+use object_ids::{DomainPath, Name, ObjectId, id_text, path_text, read_id, read_path};
 use std::process::Abort;
 
 /// The copy of the name that a text is, or its fault.
@@ -156,35 +154,4 @@ g-00000000-0001-8000-8000-010000000002 |none";
 #[test]
 fn ids_are_read_and_written(rt: HostRuntime) {
     try_rows::<IdRow>(&rt, IDS, 1);
-}
-
-#[test]
-fn maps_keep_the_last_value_of_an_id(rt: HostRuntime) {
-    let mut ids = IdMap::new(rt.alloc());
-    for serial in [7_u64, 3, 7] {
-        let id = ObjectId {
-            kind: Kind::Group,
-            domain: 1,
-            run: 1,
-            serial,
-        };
-        assert!(rt; ids.put(id, serial).is_ok());
-    }
-    assert!(rt; ids.len() == 2);
-}
-
-fn put_name(rt: &(impl Abort + AllocGlobal), names: &mut NameMap<u64>, text: &str) {
-    let name = Name::read(rt.alloc(), text, 9).expect(rt, "a name");
-    assert!(rt; names.put(name, 1).is_ok());
-}
-
-#[test]
-fn maps_keep_the_last_value_of_a_name(rt: HostRuntime) {
-    let mut names = NameMap::new(rt.alloc());
-    for text in ["b", "a", "b"] {
-        put_name(&rt, &mut names, text);
-    }
-    let name = Name::read(rt.alloc(), "c", 9).expect(&rt, "a name");
-    assert!(rt; names.put_within(3, name, 2) == Ok(()));
-    assert!(rt; names.len() == 3);
 }

@@ -5,9 +5,8 @@
 //! the document is read. A line that begins with blanks goes on with the row before it, and `$` stands for the type
 //! of a byte.
 
-use crate::rows::{column, told};
-use std::alloc::Global;
-use std::test::Fail;
+use crate::rows::{column, joined, told};
+use std::process::Abort;
 
 /// A place of a document: the text before it, the text behind it, and its path.
 type Place = (&'static str, &'static str, &'static str);
@@ -36,7 +35,7 @@ static DATATYPE: Place = (
     "datatypes/t",
 );
 
-/// The list of attributes of an object of each kind.
+/// The list of attributes of a group, of a dataset, and of a committed datatype.
 static LISTS: [Place; 3] = [
     (
         r#"{"groups":{"g":{"attributes":"#,
@@ -353,89 +352,104 @@ static DATASETS_IN_ORDER: &str =
 {"value":"x","attributes":7,$}|/attributes|NotADocument
 {$,"value":1,"links":7}||read"#;
 
-/// Texts that are no JSON and stand on no line.
-static NO_TEXTS: [&[u8]; 2] = [b"{\"id\":\"\xff\"}", b"{\"id\":\"\n\"}"];
+/// Values of datasets that are repeated, that don't fit or are no JSON, or that stand where none is looked at.
+static REPEATED: &str =
+    r#"{"groups":{"g":{}},"root":"g","datasets":{"d":{"type":"H5T_STD_I8LE","value":7}}}||read
+{"groups":{"g":{}},"root":"g","datasets":{"d":{"type":"H5T_STD_I8LE","value":700}}}|datasets/d/value|BadValue
+{"groups":{"g":{}},"root":"g","datasets":{"d":{"type":"H5T_STD_I8LE","value":700,"value":7}}}||read
+{"groups":{"g":{}},"root":"g","datasets":{"d":{"type":"H5T_STD_I8LE","value":7,"value":700}}}|datasets/d/value|BadValue
+{"groups":{"g":{}},"root":"g","datasets":{"d":{"type":"H5T_STD_I8LE","value":700},"d":{"type":"H5T_STD_I8LE"}}}||read
+{"groups":{"g":{}},"root":"g","datasets":{"d":{"type":"H5T_STD_I8LE","value":700}},"datasets":{}}||read
+{"groups":{"g":{}},"root":"g","datasets":{},"datasets":{"d":{"type":"H5T_STD_I8LE","value":700}}}|datasets/d/value|BadValue
+{"groups":{"g":{}},"root":"g","datasets":{"e":{"type":"H5T_STD_I8LE","value":[1]},"d":{"type":"H5T_STD_I8LE","value":[1]}}}|datasets/d/value|BadValue
+{"groups":{"g":{}},"root":"g","datasets":{"d":{"type":"H5T_STD_I8LE","value":1e400}}}||BadJson
+{"groups":{"g":{}},"root":"g","datasets":{"d":{"type":"H5T_STD_I8LE","value":[}}}||BadJson
+{"groups":{"g":{}},"root":"g","datasets":{"d":{"type":"H5T_STD_I8LE","value":7}}} 1||BadJson
+{"groups":{"g":{}},"root":"g","datasets":{"d":5}}|datasets/d|NotADocument
+{"groups":{"g":{}},"root":"g","datasets":{"e":5,"d":{"value":[1e400]}}}||BadJson
+{"groups":{"g":{}},"root":"g","datasets":[1,2]}|datasets|NotADocument
+{"groups":{"g":{}},"root":"g","datasets":[1,2],"datasets":{}}||read
+{"groups":{"d":{}},"root":"d","datasets":{"d":{"type":"H5T_STD_I8LE","value":7}}}|groups/d|NotADocument
+{"groups":{"g":{}},"root":"g","datasets":{"d":{"type":"H5T_STD_I8LE","shape":{"class":"H5S_NULL"},"value":null}}}||read
+{"groups":{"g":{}},"root":"g","datasets":{"d":{"type":"H5T_STD_I8LE","shape":{"class":"H5S_NULL"},"value":[null]}}}|datasets/d/value|BadValue
+{"groups":{"g":{}},"root":"g","datasets":{"d":{"type":"H5T_STD_I8LE","shape":[2],"value":[1,null]}}}|datasets/d/value|BadValue
+{"groups":{"g":{}},"root":"g","datasets":{"d":{"type":{"class":"H5T_STRING","length":2,"charSet":"H5T_CSET_ASCII","strPad":"H5T_STR_NULLPAD"},"shape":[2],"value":["a","bc"]}}}||read
+[]||NotADocument
+5||NotADocument"#;
 
-/// Documents at fault at an id that isn't printed, and the id.
-static ODD_IDS: [(&str, &str); 2] = [
+/// Texts that stand on no line, since they are no JSON or have an id that isn't printed, and the fault.
+static NO_LINES: [(&[u8], &str); 4] = [
+    (b"{\"id\":\"\xff\"}", "BadJson "),
+    (b"{\"id\":\"\n\"}", "BadJson "),
     (
-        r#"{"datatypes":{"\u0001":7},"groups":{"g":{}},"root":"g"}"#,
+        br#"{"datatypes":{"\u0001":7},"groups":{"g":{}},"root":"g"}"#,
         "NotADocument datatypes/\u{1}",
     ),
     (
-        r#"{"groups":{"\ud83d\ude00":7,"\uffff":7}}"#,
+        br#"{"groups":{"\ud83d\ude00":7,"\uffff":7}}"#,
         "NotADocument groups/\u{ffff}",
     ),
 ];
 
-/// Whether the fault of a row's document is told so at a place.
-fn holds(alloc: Global, place: &Place, row: &str) -> Result<bool, Fail> {
-    let (front, behind, at) = *place;
-    let part = column(row, 0).replace(alloc, "$", r#""type":"H5T_STD_I8LE""#)?;
-    let document = format!(in alloc; "{front}{part}{behind}")?;
-    let tail = column(row, 1);
-    let wanted = match column(row, 2) {
-        "read" => String::from_str(alloc, "read")?,
-        cause => format!(in alloc; "{cause} {at}{tail}")?,
+/// The document of a row at a place.
+fn document_of(rt: &(impl Abort + AllocGlobal), place: &Place, row: &str) -> String {
+    let (front, behind, _) = *place;
+    let part = column(row, 0).replace(rt.alloc(), "$", r#""type":"H5T_STD_I8LE""#);
+    let part = part.expect(rt, "a part");
+    let document = format!(in rt.alloc(); "{front}{part}{behind}");
+    document.expect(rt, "a document")
+}
+
+/// What is to be told of it.
+fn wanted(rt: &(impl Abort + AllocGlobal), place: &Place, row: &str) -> String {
+    let (cause, at, tail) = (column(row, 2), place.2, column(row, 1));
+    let text = match cause {
+        "read" => String::from_str(rt.alloc(), cause),
+        _ => format!(in rt.alloc(); "{cause} {at}{tail}"),
     };
-    Ok(told(alloc, document.as_bytes())? == wanted)
+    text.expect(rt, "a text")
 }
 
-/// The first row of a table that doesn't hold at a place, or `none`.
-fn wrong_row(alloc: Global, place: &Place, rows: &str) -> Result<String, Fail> {
-    let rows = rows.replace(alloc, "\n    ", "")?;
+/// Each row of a table holds at a place.
+fn try_table(rt: &(impl Abort + AllocGlobal), place: &Place, rows: &str) {
+    let rows = joined(rt, rows);
     for row in rows.as_str().split('\n') {
-        if !holds(alloc, place, row)? {
-            return Ok(String::from_str(alloc, row)?);
-        }
+        let document = document_of(rt, place, row);
+        let got = told(rt, document.as_bytes());
+        let want = wanted(rt, place, row);
+        assert!(rt; got.as_str() == want.as_str(), "{row} was told as {got}");
     }
-    Ok(String::from_str(alloc, "none")?)
 }
 
-/// The first row of some tables that doesn't hold at a place, or `none`.
-fn wrong_of(alloc: Global, place: &Place, tables: &[&str]) -> Result<String, Fail> {
+/// Each row of each of the tables holds at a place.
+fn try_tables(rt: &(impl Abort + AllocGlobal), place: &Place, tables: &[&str]) {
     for rows in tables {
-        let wrong = wrong_row(alloc, place, rows)?;
-        if wrong.as_str() != "none" {
-            return Ok(wrong);
-        }
+        try_table(rt, place, rows);
     }
-    Ok(String::from_str(alloc, "none")?)
 }
 
 #[test]
-fn texts_parts_and_ids(rt: HostRuntime) -> Result<(), Fail> {
-    let tables = [NO_JSON, PARTS, IDS, PARTS_IN_ORDER, OBJECTS_IN_ORDER];
-    let wrong = wrong_of(rt.alloc(), &WHOLE, tables.as_slice())?;
-    assert_eq!(rt; wrong.as_str(), "none");
-    Ok(())
+fn texts_parts_and_ids(rt: HostRuntime) {
+    let tables = [
+        NO_JSON,
+        PARTS,
+        IDS,
+        PARTS_IN_ORDER,
+        OBJECTS_IN_ORDER,
+        REPEATED,
+    ];
+    try_tables(&rt, &WHOLE, tables.as_slice());
 }
 
 #[test]
-fn texts_that_stand_on_no_line(rt: HostRuntime) -> Result<(), Fail> {
-    for text in NO_TEXTS.iter() {
-        assert!(rt; told(rt.alloc(), text)?.as_str() == "BadJson ");
-    }
-    for (document, fault) in ODD_IDS.iter() {
-        assert!(rt;
-            told(rt.alloc(), document.as_bytes())?.as_str() == *fault,
-            "{document}"
-        );
-    }
-    Ok(())
-}
-
-#[test]
-fn attributes_of_each_kind(rt: HostRuntime) -> Result<(), Fail> {
+fn attributes_of_each_kind(rt: HostRuntime) {
     for list in LISTS.iter() {
-        let wrong = wrong_of(rt.alloc(), list, [NAMES, CONTENTS].as_slice())?;
-        assert_eq!(rt; wrong.as_str(), "none");
+        try_tables(&rt, list, [NAMES, CONTENTS].as_slice());
     }
-    Ok(())
 }
 
 #[test]
-fn attributes_and_links_of_a_group(rt: HostRuntime) -> Result<(), Fail> {
+fn attributes_and_links_of_a_group(rt: HostRuntime) {
     let tables = [
         ATTRIBUTES,
         ATTRIBUTES_IN_ORDER,
@@ -444,18 +458,20 @@ fn attributes_and_links_of_a_group(rt: HostRuntime) -> Result<(), Fail> {
         LEADS,
         LINKS_IN_ORDER,
     ];
-    let wrong = wrong_of(rt.alloc(), &GROUP, tables.as_slice())?;
-    assert_eq!(rt; wrong.as_str(), "none");
-    Ok(())
+    try_tables(&rt, &GROUP, tables.as_slice());
 }
 
 #[test]
-fn datasets_and_committed_datatypes(rt: HostRuntime) -> Result<(), Fail> {
+fn datasets_and_committed_datatypes(rt: HostRuntime) {
     let tables = [TYPES, DATASETS, SHAPES, LAYOUTS, VALUES, DATASETS_IN_ORDER];
-    let wrong = wrong_of(rt.alloc(), &DATASET, tables.as_slice())?;
-    assert_eq!(rt; wrong.as_str(), "none");
-    let tables = [TYPES, DATATYPES_IN_ORDER];
-    let wrong = wrong_of(rt.alloc(), &DATATYPE, tables.as_slice())?;
-    assert_eq!(rt; wrong.as_str(), "none");
-    Ok(())
+    try_tables(&rt, &DATASET, tables.as_slice());
+    try_tables(&rt, &DATATYPE, [TYPES, DATATYPES_IN_ORDER].as_slice());
+}
+
+#[test]
+fn texts_that_stand_on_no_line(rt: HostRuntime) {
+    for (document, fault) in NO_LINES.iter() {
+        let got = told(&rt, document);
+        assert!(rt; got.as_str() == *fault, "{got}");
+    }
 }

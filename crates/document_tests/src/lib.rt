@@ -1,11 +1,7 @@
 //! Tests of documents (HDF5/JSON specification): what is read from texts and what is told of those that are none, the
-//! document of a domain that requests have filled, and documents as new domains.
+//! document of a domain that requests have filled, and a document as a new domain.
 #![tactic(auto)]
 
-#[cfg(test)]
-mod adoption;
-#[cfg(test)]
-mod dataset_values;
 #[cfg(test)]
 mod exports;
 #[cfg(test)]

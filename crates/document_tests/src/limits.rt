@@ -4,10 +4,8 @@
 //! stands as many times behind it, and an end; and then what is told: the length of the path of the fault and its
 //! cause, or that the document is read. A line that begins with blanks goes on with the row before it.
 
-use crate::rows::column;
-use documents::reader::{DocFault, read_document};
-use std::alloc::Global;
-use std::test::Fail;
+use crate::rows::{column, joined, told};
+use std::process::Abort;
 
 /// Lengths of ids, names, titles, paths and lists, and how far trees nest.
 static LIMITS: &str = r#"{"groups":{"|a|255|||":{}},"root":7}|4 NotADocument
@@ -39,65 +37,42 @@ static LIMITS: &str = r#"{"groups":{"|a|255|||":{}},"root":7}|4 NotADocument
 {"groups":{"g":{}},"root":"g","alias":|[|127||]|}|0 BadJson
 {"groups":{"|i|255|":{}},"root":"|i|"}|read"#;
 
-/// How long the path of a fault is, and its cause.
-fn fault_length(alloc: Global, fault: &DocFault) -> Result<String, Fail> {
-    match fault {
-        DocFault::NoMemory => Ok(String::from_str(alloc, "no memory")?),
-        DocFault::Refused { path, cause } => {
-            let length = path.text().len();
-            Ok(format!(in alloc; "{length} {cause:?}")?)
-        }
-    }
-}
-
-fn told(alloc: Global, document: &str) -> Result<String, Fail> {
-    match read_document(alloc, document.as_bytes()) {
-        Ok(_) => Ok(String::from_str(alloc, "read")?),
-        Err(fault) => fault_length(alloc, &fault),
-    }
-}
-
 /// The document of a row.
-fn document_of(alloc: Global, row: &str) -> Result<String, Fail> {
-    let times = column(row, 2).parse::<usize>().ok().ok_or("no number")?;
-    let first = column(row, 1).repeat(alloc, times)?;
-    let second = column(row, 4).repeat(alloc, times)?;
-    Ok(format!(in alloc;
+fn document_of(rt: &(impl Abort + AllocGlobal), row: &str) -> String {
+    let times = column(row, 2).parse::<usize>().ok().expect(rt, "a number");
+    let first = column(row, 1)
+        .repeat(rt.alloc(), times)
+        .expect(rt, "a piece");
+    let second = column(row, 4)
+        .repeat(rt.alloc(), times)
+        .expect(rt, "a piece");
+    let text = format!(in rt.alloc();
         "{}{first}{}{second}{}",
         column(row, 0),
         column(row, 3),
         column(row, 5)
-    )?)
+    );
+    text.expect(rt, "a document")
 }
 
-fn holds(alloc: Global, row: &str) -> Result<bool, Fail> {
-    let document = document_of(alloc, row)?;
-    Ok(told(alloc, document.as_str())?.as_str() == column(row, 6))
-}
-
-/// The first row that doesn't hold, or `none`.
-fn wrong_row(alloc: Global, rows: &str) -> Result<String, Fail> {
-    let rows = rows.replace(alloc, "\n    ", "")?;
-    for row in rows.as_str().split('\n') {
-        if !holds(alloc, row)? {
-            return Ok(String::from_str(alloc, row)?);
+/// Whether what is told is a cause with a path of a length, or that a document is read.
+fn is_as_said(rt: &impl Abort, said: &str, got: &str) -> bool {
+    match said.split_once(' ') {
+        Some((length, cause)) => {
+            let length = length.parse::<usize>().ok().expect(rt, "a length");
+            let (found, path) = got.split_once(' ').unwrap_or((got, ""));
+            found == cause && path.len() == length
         }
+        None => said == got,
     }
-    Ok(String::from_str(alloc, "none")?)
 }
 
 #[test]
-fn limits_of_documents_are_told(rt: HostRuntime) -> Result<(), Fail> {
-    let wrong = wrong_row(rt.alloc(), LIMITS)?;
-    assert_eq!(rt; wrong.as_str(), "none");
-    Ok(())
-}
-
-/// 2^27 bytes and one more, which are 87,211 times 1,539.
-#[test]
-fn one_byte_more_than_may_be_is_too_long(rt: HostRuntime) -> Result<(), Fail> {
-    let piece = " ".repeat(rt.alloc(), 1_539)?;
-    let text = piece.as_str().repeat(rt.alloc(), 87_211)?;
-    assert_eq!(rt; told(rt.alloc(), text.as_str())?.as_str(), "0 TooLong");
-    Ok(())
+fn limits_of_documents_are_told(rt: HostRuntime) {
+    let rows = joined(&rt, LIMITS);
+    for row in rows.as_str().split('\n') {
+        let document = document_of(&rt, row);
+        let got = told(&rt, document.as_bytes());
+        assert!(rt; is_as_said(&rt, column(row, 6), got.as_str()), "{row}");
+    }
 }

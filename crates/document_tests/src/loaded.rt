@@ -1,19 +1,18 @@
-//! What documents hold that other tools write, and the values of datasets.
+//! What documents hold that other tools write, and the cells of datasets.
 //!
 //! In the tables a row is an object, what is asked of it, a name, and what is told. A line that begins with blanks
 //! goes on with the row before it.
 
-use crate::rows::column;
+use crate::rows::{column, joined};
 use attributes::Attributes;
 use documents::reader::{Dataset, Loaded, Target, read_document};
 use hdf_types::type_json;
 use object_ids::Name;
 use shapes::{Form, shape_json};
-use std::alloc::Global;
-use std::test::Fail;
+use std::process::Abort;
 
 /// A file of two groups, a dataset with attributes and a committed datatype.
-static TALL: &str = r#"{
+const TALL: &str = r#"{
     "apiVersion": "1.1.0",
     "datasets": {
         "0568d8c5-a77e-11e4-9f7a-3c15c2da029e": {
@@ -193,7 +192,7 @@ static TALL: &str = r#"{
 "#;
 
 /// Datasets of each class of layout and of shape, with creation properties as the specification lists them.
-static LAYOUTS: &str = r#"{
+const LAYOUTS: &str = r#"{
   "apiVersion": "1.1.1",
   "datasets": {
     "a1000000-8c27-11e4-9f9c-3c15c2da029e": {
@@ -262,7 +261,7 @@ static LAYOUTS: &str = r#"{
 }"#;
 
 /// Groups whose links make circles, short ids, a table of compound elements, and no more than is needed.
-static CIRCLES: &str =
+const CIRCLES: &str =
     r#"{"created":"2014-08-04T21:12:46Z","datasets":{"table":{"shape":{"class":"H5S_SIMPLE","dims":[2]},"type":{
     "class":"H5T_COMPOUND","fields":[{"name":"n","type":"H5T_STD_U16BE"},{"name":"t","type":{"class":"H5T_STRING",
     "length":3}}]},"value":[[258,"ab"],[1,""]]}},"groups":{"g0":{"links":[{"id":"g1","title":"g1"},{"id":"g0",
@@ -273,7 +272,7 @@ static CIRCLES: &str =
     "lastModified":"2014-08-04T21:12:46Z","root":"g0"}"#;
 
 /// What the first holds.
-static IN_TALL: &str = r#"|counts||2 1 1
+const IN_TALL: &str = r#"|counts||2 1 1
 |root||0568d8c3-a77e-11e4-9f7a-3c15c2da029e
 0568d8c5-a77e-11e4-9f7a-3c15c2da029e|attribute|units|[107, 101, 108, 118, 105, 110, 0, 0]
 0568d8c5-a77e-11e4-9f7a-3c15c2da029e|attribute|valid range|[255, 255, 2, 1]
@@ -289,7 +288,7 @@ static IN_TALL: &str = r#"|counts||2 1 1
     "H5T_STD_I64LE","class":"H5T_INTEGER"}},{"name":"temp","type":{"base":"H5T_STD_I16LE","class":"H5T_INTEGER"}}]}"#;
 
 /// What the second holds.
-static IN_LAYOUTS: &str = r#"|counts||1 4 0
+const IN_LAYOUTS: &str = r#"|counts||1 4 0
 |root||a0000000-8c27-11e4-9f9c-3c15c2da029e
 a3000000-8c27-11e4-9f9c-3c15c2da029e|attribute|empty|[]
 a0000000-8c27-11e4-9f9c-3c15c2da029e|link|chunked|hard a1000000-8c27-11e4-9f9c-3c15c2da029e
@@ -315,7 +314,7 @@ a4000000-8c27-11e4-9f9c-3c15c2da029e|chunk||[]
 a4000000-8c27-11e4-9f9c-3c15c2da029e|fill||[110, 111, 110, 101, 32, 32]"#;
 
 /// What the third holds.
-static IN_CIRCLES: &str = r#"|counts||3 1 0
+const IN_CIRCLES: &str = r#"|counts||3 1 0
 |root||g0
 g1|attribute|row|[0, 3, 99, 0, 0]
 g0|link|g1|hard g1
@@ -327,12 +326,46 @@ g2|link|top|hard g0
 g2|link|round|soft /g1/g2/up/g2
 table|cells||[1, 2, 97, 98, 0, 0, 1, 0, 0, 0]"#;
 
-fn loaded(alloc: Global, document: &str) -> Result<Loaded, Fail> {
-    Ok(
-        read_document(alloc, document.as_bytes())
-            .ok()
-            .ok_or("no document")?,
-    )
+/// Documents, and what they hold; the last six have datasets whose cells are told.
+static DOCUMENTS: [(&str, &str); 9] = [
+    (TALL, IN_TALL),
+    (LAYOUTS, IN_LAYOUTS),
+    (CIRCLES, IN_CIRCLES),
+    (
+        r#"{"datasets":{"d":{"type":"H5T_STD_I16BE","shape":[2],"value":[258,-1]}},"groups":{"g":{}},"root":"g"}"#,
+        "d|cells||[1, 2, 255, 255]",
+    ),
+    (
+        r#"{"datasets":{"d":{"type":"H5T_STD_U8LE","shape":[2],"creationProperties":{"fillValue":7}}},"groups":{"g":{}},"root":"g"}"#,
+        "d|cells||[7, 7]",
+    ),
+    (
+        r#"{"datasets":{"d":{"type":"H5T_STD_U8LE","shape":{"class":"H5S_SIMPLE","dims":[2,2],"maxdims":["H5S_UNLIMITED",2]},"creationProperties":{"fillValue":7,"layout":{"class":"H5D_CHUNKED","dims":[1,1]}},"value":[[1,2],[3,4]]}},"groups":{"g":{}},"root":"g"}"#,
+        "d|cells||[1, 2, 3, 4]",
+    ),
+    (
+        r#"{"datasets":{"d":{"type":"H5T_STD_U8LE","value":9}},"groups":{"g":{}},"root":"g"}"#,
+        "d|cells||[9]",
+    ),
+    (
+        r#"{"datasets":{"d":{"type":"H5T_STD_U8LE","shape":"H5S_NULL","value":null}},"groups":{"g":{}},"root":"g"}"#,
+        "d|cells||[]",
+    ),
+    (
+        r#"{"datasets":{"d":{"type":"H5T_STD_U8LE","shape":[0],"value":[]}},"groups":{"g":{}},"root":"g"}"#,
+        "d|cells||[]",
+    ),
+];
+
+fn loaded(rt: &(impl Abort + AllocGlobal), document: &str) -> Loaded {
+    match read_document(rt.alloc(), document.as_bytes()) {
+        Ok(loaded) => loaded,
+        Err(_) => panic!(rt; "no document"),
+    }
+}
+
+fn name_of(rt: &(impl Abort + AllocGlobal), text: &str) -> Name {
+    Name::read(rt.alloc(), text, 255).expect(rt, "a name")
 }
 
 /// The attributes of an object of whatever kind.
@@ -349,144 +382,127 @@ fn attributes_of<'a>(loaded: &'a Loaded, id: &str) -> Option<&'a Attributes> {
     }
 }
 
-/// The bytes of an attribute.
-fn attribute_told(alloc: Global, loaded: &Loaded, id: &str, name: &str) -> Result<String, Fail> {
-    let name = Name::read(alloc, name, 255)?;
-    let attributes = attributes_of(loaded, id).ok_or("no object")?;
-    let attribute = attributes.get(&name).ok_or("no attribute")?;
-    Ok(format!(in alloc; "{:?}", attribute.bytes.as_slice())?)
+fn bytes_text(rt: &(impl Abort + AllocGlobal), bytes: &[u8]) -> String {
+    let text = format!(in rt.alloc(); "{bytes:?}");
+    text.expect(rt, "a text")
 }
 
-fn target_text(alloc: Global, target: &Target) -> Result<String, Fail> {
-    match target {
-        Target::Hard(id) => Ok(format!(in alloc; "hard {}", id.text())?),
-        Target::Soft(path) => Ok(format!(in alloc; "soft {}", path.text())?),
-        Target::External { path, file } => {
-            Ok(format!(in alloc; "external {} in {}", path.text(), file.text())?)
-        }
+/// The bytes of an attribute.
+fn attribute_told(
+    rt: &(impl Abort + AllocGlobal),
+    loaded: &Loaded,
+    id: &str,
+    name: &str,
+) -> String {
+    let attributes = attributes_of(loaded, id).expect(rt, "an object");
+    let name = name_of(rt, name);
+    match attributes.get(&name) {
+        Some(attribute) => bytes_text(rt, attribute.bytes.as_slice()),
+        None => panic!(rt; "no attribute"),
     }
+}
+
+fn target_text(rt: &(impl Abort + AllocGlobal), target: &Target) -> String {
+    let text = match target {
+        Target::Hard(id) => format!(in rt.alloc(); "hard {}", id.text()),
+        Target::Soft(path) => format!(in rt.alloc(); "soft {}", path.text()),
+        Target::External { path, file } => {
+            format!(in rt.alloc(); "external {} in {}", path.text(), file.text())
+        }
+    };
+    text.expect(rt, "a text")
 }
 
 /// Where a link leads.
-fn link_told(alloc: Global, loaded: &Loaded, id: &str, title: &str) -> Result<String, Fail> {
-    let title = Name::read(alloc, title, 255)?;
-    let group = loaded.groups.get(id).ok_or("no group")?;
-    target_text(alloc, group.links.get(&title).ok_or("no link")?)
+fn link_told(rt: &(impl Abort + AllocGlobal), loaded: &Loaded, id: &str, title: &str) -> String {
+    let group = loaded.groups.get(id).expect(rt, "a group");
+    let title = name_of(rt, title);
+    match group.links.get(&title) {
+        Some(target) => target_text(rt, target),
+        None => panic!(rt; "no link"),
+    }
 }
 
 /// The bytes of all cells of a dataset, one after another.
-fn cells(alloc: Global, dataset: &Dataset) -> Option<Vec<u8>> {
+fn cells_text(rt: &(impl Abort + AllocGlobal), dataset: &Dataset) -> String {
     let array = dataset.array.array();
     array.is_whole();
-    array
-        .read_places(alloc, 0, shapes::count(array.shape()))
-        .ok()
-}
-
-fn cells_text(alloc: Global, dataset: &Dataset) -> Result<String, Fail> {
-    let bytes = cells(alloc, dataset).ok_or("no cells")?;
-    Ok(format!(in alloc; "{:?}", bytes.as_slice())?)
-}
-
-fn fill_text(alloc: Global, fill: Option<&[u8]>) -> Result<String, Fail> {
-    match fill {
-        Some(bytes) => Ok(format!(in alloc; "{:?}", bytes)?),
-        None => Ok(String::from_str(alloc, "none")?),
+    let cells = array.read_places(rt.alloc(), 0, shapes::count(array.shape()));
+    match cells {
+        Ok(bytes) => bytes_text(rt, bytes.as_slice()),
+        Err(_) => panic!(rt; "no cells"),
     }
+}
+
+fn fill_text(rt: &(impl Abort + AllocGlobal), fill: Option<&[u8]>) -> String {
+    match fill {
+        Some(bytes) => bytes_text(rt, bytes),
+        None => String::from_str(rt.alloc(), "none").expect(rt, "a text"),
+    }
+}
+
+fn shape_text(rt: &(impl Abort + AllocGlobal), dataset: &Dataset) -> String {
+    let tree = shape_json(rt.alloc(), dataset.array.array().shape(), Form::Document);
+    let text = tree.expect(rt, "a tree").to_string(rt.alloc());
+    text.expect(rt, "a text")
+}
+
+fn chunk_text(rt: &(impl Abort + AllocGlobal), dataset: &Dataset) -> String {
+    let chunk = dataset.array.array().layout().chunk.as_slice();
+    let text = format!(in rt.alloc(); "{chunk:?}");
+    text.expect(rt, "a text")
 }
 
 /// The cells of a dataset, its shape, the dims of its chunks, or its fill.
-fn dataset_told(alloc: Global, dataset: &Dataset, what: &str) -> Result<String, Fail> {
-    let array = dataset.array.array();
+fn dataset_told(rt: &(impl Abort + AllocGlobal), dataset: &Dataset, what: &str) -> String {
     match what {
-        "cells" => cells_text(alloc, dataset),
-        "shape" => Ok(shape_json(alloc, array.shape(), Form::Document)?.to_string(alloc)?),
-        "chunk" => Ok(format!(in alloc; "{:?}", array.layout().chunk.as_slice())?),
-        _ => fill_text(alloc, array.fill()),
+        "cells" => cells_text(rt, dataset),
+        "shape" => shape_text(rt, dataset),
+        "chunk" => chunk_text(rt, dataset),
+        _ => fill_text(rt, dataset.array.array().fill()),
     }
 }
 
-fn type_told(alloc: Global, loaded: &Loaded, id: &str) -> Result<String, Fail> {
-    let datatype = loaded.datatypes.get(id).ok_or("no datatype")?;
-    Ok(type_json(alloc, datatype.kind.kind())?.to_string(alloc)?)
+fn type_told(rt: &(impl Abort + AllocGlobal), loaded: &Loaded, id: &str) -> String {
+    let datatype = loaded.datatypes.get(id).expect(rt, "a datatype");
+    let tree = type_json(rt.alloc(), datatype.kind.kind());
+    let text = tree.expect(rt, "a tree").to_string(rt.alloc());
+    text.expect(rt, "a text")
 }
 
 /// How many groups, datasets and committed datatypes there are.
-fn counts_text(alloc: Global, loaded: &Loaded) -> Result<String, Fail> {
+fn counts_text(rt: &(impl Abort + AllocGlobal), loaded: &Loaded) -> String {
     let (groups, datasets) = (loaded.groups.len(), loaded.datasets.len());
-    Ok(format!(in alloc; "{groups} {datasets} {}", loaded.datatypes.len())?)
+    let text = format!(in rt.alloc(); "{groups} {datasets} {}", loaded.datatypes.len());
+    text.expect(rt, "a text")
 }
 
 /// What is told of an object.
-fn told(alloc: Global, loaded: &Loaded, id: &str, what: &str, name: &str) -> Result<String, Fail> {
-    match what {
-        "counts" => counts_text(alloc, loaded),
-        "root" => Ok(String::from_str(alloc, loaded.root.text())?),
-        "attribute" => attribute_told(alloc, loaded, id, name),
-        "link" => link_told(alloc, loaded, id, name),
-        "type" => type_told(alloc, loaded, id),
-        _ => dataset_told(alloc, loaded.datasets.get(id).ok_or("no dataset")?, what),
+fn told(rt: &(impl Abort + AllocGlobal), loaded: &Loaded, row: &str) -> String {
+    let (id, name) = (column(row, 0), column(row, 2));
+    match column(row, 1) {
+        "counts" => counts_text(rt, loaded),
+        "root" => String::from_str(rt.alloc(), loaded.root.text()).expect(rt, "a text"),
+        "attribute" => attribute_told(rt, loaded, id, name),
+        "link" => link_told(rt, loaded, id, name),
+        "type" => type_told(rt, loaded, id),
+        what => dataset_told(rt, loaded.datasets.get(id).expect(rt, "a dataset"), what),
     }
 }
 
-/// The first row of a table that doesn't hold of a document, or `none`.
-fn wrong_row(alloc: Global, document: &str, rows: &str) -> Result<String, Fail> {
-    let loaded = loaded(alloc, document)?;
-    let rows = rows.replace(alloc, "\n    ", "")?;
+/// Each row of a table holds of a document.
+fn try_table(rt: &(impl Abort + AllocGlobal), document: &str, rows: &str) {
+    let loaded = loaded(rt, document);
+    let rows = joined(rt, rows);
     for row in rows.as_str().split('\n') {
-        let found = told(
-            alloc,
-            &loaded,
-            column(row, 0),
-            column(row, 1),
-            column(row, 2),
-        )?;
-        if found.as_str() != column(row, 3) {
-            return Ok(String::from_str(alloc, row)?);
-        }
+        let got = told(rt, &loaded, row);
+        assert!(rt; got.as_str() == column(row, 3), "{row} was told as {got}");
     }
-    Ok(String::from_str(alloc, "none")?)
 }
 
 #[test]
-fn documents_of_other_tools_are_read(rt: HostRuntime) -> Result<(), Fail> {
-    for (document, rows) in [
-        (TALL, IN_TALL),
-        (LAYOUTS, IN_LAYOUTS),
-        (CIRCLES, IN_CIRCLES),
-    ] {
-        let wrong = wrong_row(rt.alloc(), document, rows)?;
-        assert_eq!(rt; wrong.as_str(), "none");
+fn documents_of_other_tools_are_read(rt: HostRuntime) {
+    for (document, rows) in DOCUMENTS.iter() {
+        try_table(&rt, document, rows);
     }
-    Ok(())
-}
-
-// ---- values
-
-/// Datasets, and the bytes of their cells.
-static VALUES: &str = r#"{"type":"H5T_STD_I16BE","shape":[2],"value":[258,-1]}|[1, 2, 255, 255]
-{"type":"H5T_STD_U8LE","shape":[2],"creationProperties":{"fillValue":7}}|[7, 7]
-{"type":"H5T_STD_U8LE","shape":{"class":"H5S_SIMPLE","dims":[2,2],"maxdims":["H5S_UNLIMITED",2]},"creationProperties":
-    {"fillValue":7,"layout":{"class":"H5D_CHUNKED","dims":[1,1]}},"value":[[1,2],[3,4]]}|[1, 2, 3, 4]
-{"type":"H5T_STD_U8LE","value":9}|[9]
-{"type":"H5T_STD_U8LE","shape":"H5S_NULL","value":null}|[]
-{"type":"H5T_STD_U8LE","shape":[0],"value":[]}|[]"#;
-
-/// The bytes of the cells of the dataset `d`.
-fn value_told(alloc: Global, dataset: &str) -> Result<String, Fail> {
-    let document = format!(in alloc;
-        "{{\"datasets\":{{\"d\":{dataset}}},\"groups\":{{\"g\":{{}}}},\"root\":\"g\"}}"
-    )?;
-    let loaded = loaded(alloc, document.as_str())?;
-    cells_text(alloc, loaded.datasets.get("d").ok_or("no dataset")?)
-}
-
-#[test]
-fn values_stand_in_the_cells(rt: HostRuntime) -> Result<(), Fail> {
-    let rows = VALUES.replace(rt.alloc(), "\n    ", "")?;
-    for row in rows.as_str().split('\n') {
-        let found = value_told(rt.alloc(), column(row, 0))?;
-        assert_eq!(rt; found.as_str(), column(row, 1));
-    }
-    Ok(())
 }

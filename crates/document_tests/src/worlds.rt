@@ -23,14 +23,7 @@ pub fn opened(rt: &(impl Abort + AllocGlobal)) -> Result<World, Fail> {
 }
 
 /// A new domain of alice.
-pub fn add_domain(
-    rt: &(impl Abort + AllocGlobal),
-    world: &mut World,
-    path: &str,
-) -> Result<(), Fail> {
-    let path = read_path(rt.alloc(), path)?;
-    match world.make_domain(&path, &name(rt, "alice")) {
-        Ok(_) => Ok(()),
-        Err(fault) => Err(Fail::from(fault)),
-    }
+pub fn add_domain(rt: &(impl Abort + AllocGlobal), world: &mut World, path: &str) {
+    let path = read_path(rt.alloc(), path).expect(rt, "a path");
+    assert!(rt; world.make_domain(&path, &name(rt, "alice")).is_ok());
 }

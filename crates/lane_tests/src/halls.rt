@@ -1,4 +1,4 @@
-//! A hall over the world of a journal, asked row by row.
+//! A hall over the world of a journal, asked by several callers.
 
 mod asks;
 mod crowds;
@@ -6,5 +6,4 @@ mod doors;
 mod histories;
 mod patient_gate;
 mod rows;
-mod stops;
 mod worlds;

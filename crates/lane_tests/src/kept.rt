@@ -151,17 +151,6 @@ impl Past {
             && self.is_lane_kept(1, self.second.as_slice(), domains, reach, found)
     }
 
-    /// Whether a world is kept with this `c`, and with this `p` or a greater one. Where a cut was drawn at each place, all that is kept
-    /// with a greater `c` is kept with this one.
-    pub(crate) fn is_kept_past(&self, least: Reach, found: &Picture) -> bool {
-        for p in least.p..self.pictures.len() {
-            if self.is_kept_with(Reach { c: least.c, p }, found) {
-                return true;
-            }
-        }
-        false
-    }
-
     /// Whether a world is kept with the desk's own numbers, or with those of what is pending.
     pub(crate) fn is_kept(&self, found: &Picture) -> bool {
         if self.is_kept_with(self.own, found) {

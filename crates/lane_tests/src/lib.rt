@@ -1,6 +1,6 @@
 //! Tests of a service that is taken apart into a register, the owners of two lanes and a journal: lists of events, with
 //! the answers of one world in order of places, and after each event what every crash leaves. And tests of a hall over
-//! the same parts, asked by one caller, and by many at a time.
+//! the same parts, asked by many callers at a time, and by two links.
 //!
 //! Where a cut finds no memory in one lane, and where a link does, no list here can say: the laws over lists of
 //! `examples` show it, `tears` and `turns` there.

@@ -2,7 +2,7 @@
 
 use crate::events::happen_first;
 use crate::kept::Past;
-use crate::openings::{installed, opening, recovered};
+use crate::openings::{begun_world, opening};
 use crate::pictures::{Picture, picture_of};
 use crate::requests::column;
 use crate::services::{Entry, begun_service};
@@ -61,10 +61,10 @@ a later append fails|4|put0 0 cut 0 1 reg app deny put1 1 cut 0 1 reg app! see1 
 the register alone fails, and again|5 8|put0 0 cut 0 1 reg app deny reg app! set! see1 set reg app|201 201 403 1 3"#;
 
 /// The calls of the disk until the run has begun.
-pub(crate) const FIRST_CALL: u64 = 7;
+const FIRST_CALL: u64 = 7;
 
 /// How many of the bytes that were written since the last sync stand after a crash.
-pub(crate) static CRASHES: [u64; 12] = [0, 1, 4, 9, 20, 40, 70, 100, 150, 200, 300, 1000];
+static CRASHES: [u64; 12] = [0, 1, 4, 9, 20, 40, 70, 100, 150, 200, 300, 1000];
 
 /// Where nothing is pending, every crash leaves the same.
 fn crashes(past: &Past) -> &'static [u64] {
@@ -93,9 +93,8 @@ fn failing(alloc: Global, words: &str) -> Result<Vec<u64>, Fail> {
 }
 
 /// What is found behind a crash of a disk.
-pub(crate) fn found_behind(alloc: Global, disk: &MemDisk, crash: u64) -> Result<Picture, Fail> {
-    let (_, kept) = recovered(alloc, disk.crash(crash)?)?;
-    let world = installed(alloc, kept)?;
+fn found_behind(alloc: Global, disk: &MemDisk, crash: u64) -> Result<Picture, Fail> {
+    let (world, _) = begun_world(alloc, disk.crash(crash)?)?;
     picture_of(alloc, &world)
 }
 
@@ -156,57 +155,45 @@ fn summary(alloc: Global, past: &Past) -> Result<String, Fail> {
     Ok(text)
 }
 
-/// What is wrong of a row; an empty text where nothing is.
-fn wrong_of(rt: &(impl Abort + AllocGlobal), bytes: &[u8], row: &str) -> Result<String, Fail> {
+/// That a row is as it says.
+fn assert_row(rt: &(impl Abort + AllocGlobal), bytes: &[u8], row: &str) -> Result<(), Fail> {
     let events = column(row, 2).split_ascii_whitespace().count();
     for many in 0..events {
         try_front(rt, bytes, row, many)?;
     }
     let past = try_front(rt, bytes, row, events)?;
     assert_answered(rt, row, &past);
-    let got = summary(rt.alloc(), &past)?;
-    if got.as_str() == column(row, 3) {
-        return Ok(String::new(rt.alloc()));
-    }
-    let got = got.as_str();
-    Ok(format!(in rt.alloc(); "\n{row}: {got}")?)
+    let summary = summary(rt.alloc(), &past)?;
+    let got = summary.as_str();
+    assert!(rt; got == column(row, 3), "{row}: {got}");
+    Ok(())
 }
 
-/// The rows that aren't as they say; an empty text where all are.
-fn wrong_rows(rt: &(impl Abort + AllocGlobal), rows: &str) -> Result<String, Fail> {
+/// That all rows are as they say.
+fn assert_rows(rt: &(impl Abort + AllocGlobal), rows: &str) -> Result<(), Fail> {
     let bytes = opening(rt.alloc())?;
-    let mut wrong = String::new(rt.alloc());
     for row in rows.split('\n') {
-        let text = wrong_of(rt, bytes.as_slice(), row)?;
-        wrong.push_str(text.as_str())?;
+        assert_row(rt, bytes.as_slice(), row)?;
     }
-    Ok(wrong)
+    Ok(())
 }
 
 #[test]
 fn cuts_are_taken_in_any_order(rt: HostRuntime) -> Result<(), Fail> {
-    let wrong = wrong_rows(&rt, CUTS)?;
-    assert!(rt; wrong.is_empty(), "{wrong}");
-    Ok(())
+    assert_rows(&rt, CUTS)
 }
 
 #[test]
 fn links_come_before_what_they_lead_to(rt: HostRuntime) -> Result<(), Fail> {
-    let wrong = wrong_rows(&rt, LINKS)?;
-    assert!(rt; wrong.is_empty(), "{wrong}");
-    Ok(())
+    assert_rows(&rt, LINKS)
 }
 
 #[test]
 fn rights_and_domains_go_and_come(rt: HostRuntime) -> Result<(), Fail> {
-    let wrong = wrong_rows(&rt, RIGHTS_AND_DOMAINS)?;
-    assert!(rt; wrong.is_empty(), "{wrong}");
-    Ok(())
+    assert_rows(&rt, RIGHTS_AND_DOMAINS)
 }
 
 #[test]
 fn disks_fail_and_batches_settle(rt: HostRuntime) -> Result<(), Fail> {
-    let wrong = wrong_rows(&rt, DISKS)?;
-    assert!(rt; wrong.is_empty(), "{wrong}");
-    Ok(())
+    assert_rows(&rt, DISKS)
 }

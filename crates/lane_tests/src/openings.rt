@@ -1,10 +1,17 @@
 //! Worlds to begin with, which a journal holds.
 
-use crate::requests::{read_row, tokens};
-use edge_traits::MemDisk;
-use flush_journal::{Batch, Journal, Recovered};
+ghost use Rattle.std.specs.Prelude.{◌≡◌, IfOk, None};
+ghost use Rattle.flush_journal.specs.Standing.{pending_of};
+ghost use Rattle.hall.specs.JournalDesks.{HoldsWorld};
+ghost use Rattle.hall.specs.Passes.{IsNewWorld};
+
+use crate::requests::{answer_to, tokens};
+use edge_traits::{Disk, MemDisk};
+use flush_journal::{Batch, Journal};
+use hall::installed_worlds_are_new;
 use object_records::keys::{next_body, next_key, run_body, run_key};
 use service_core::World;
+use service_core::journals::{Begun, begin_world};
 use std::alloc::Global;
 use std::test::Fail;
 
@@ -35,62 +42,50 @@ fn first_batch(alloc: Global) -> Result<Batch, Fail> {
     Ok(batch)
 }
 
-pub(crate) fn append(journal: &mut Journal<MemDisk>, batch: Batch) -> Result<(), Fail> {
+/// Whether a batch was appended, where none was pending.
+pub(crate) fn is_appended(journal: &mut Journal<MemDisk>, batch: Batch) -> Result<bool, Fail> {
     if journal.pending() {
         return Err(Fail::from("a batch is pending"));
     }
-    match journal.append(batch) {
-        Ok(()) => Ok(()),
-        Err(_) => Err(Fail::from("an append")),
-    }
+    Ok(journal.append(batch).is_ok())
 }
 
-/// What a journal on a disk holds.
-pub(crate) fn recovered(
+fn append(journal: &mut Journal<MemDisk>, batch: Batch) -> Result<(), Fail> {
+    if is_appended(journal, batch)? {
+        return Ok(());
+    }
+    Err(Fail::from("an append"))
+}
+
+/// The world that the journal on a disk holds, in the next run, with the journal, which has begun the run.
+pub(crate) fn begun_world<D: Disk + Drop>(
     alloc: Global,
-    disk: MemDisk,
-) -> Result<(Journal<MemDisk>, Recovered), Fail> {
-    match Journal::recover(alloc, disk) {
-        Ok(found) => Ok(found),
-        Err(_) => Err(Fail::from("no journal")),
-    }
-}
-
-pub(crate) fn installed(alloc: Global, kept: Recovered) -> Result<World, Fail> {
-    match World::install(alloc, 2, kept) {
-        Ok(world) => Ok(world),
-        Err(_) => Err(Fail::from("no world")),
+    disk: D,
+) -> Result<(World, Journal<D>), Fail>
+    ensures new { IfOk result (λ begun. IsNewWorld begun.0) }
+    ensures idle { IfOk result (λ begun. pending_of begun.1 ≡ None) }
+    ensures holds { IfOk result (λ begun. D.honest → HoldsWorld D.Disk begun.1 begun.0) }
+{
+    installed_worlds_are_new();
+    match begin_world(alloc, disk) {
+        Ok(Begun { journal, world }) => Ok((world, journal)),
+        Err(_) => Err(Fail::from("no run")),
     }
 }
 
 /// A journal of two lanes with the first records.
 fn first_journal(alloc: Global) -> Result<Journal<MemDisk>, Fail> {
-    let disk = MemDisk::new(alloc, Vec::new(alloc), ROOM, Vec::new(alloc))?;
-    let Ok(mut journal) = Journal::create(disk, 2) else {
+    let Ok(mut journal) = Journal::create(disk_of(alloc, b"", Vec::new(alloc))?, 2) else {
         return Err(Fail::from("no journal"));
     };
     append(&mut journal, first_batch(alloc)?)?;
     Ok(journal)
 }
 
-fn begin_run(world: &mut World, journal: &mut Journal<MemDisk>) -> Result<(), Fail> {
-    if journal.pending() {
-        return Err(Fail::from("a batch is pending"));
-    }
-    match world.begin_run(journal) {
-        Ok(()) => Ok(()),
-        Err(_) => Err(Fail::from("a run")),
-    }
-}
-
 fn step_all(alloc: Global, world: &mut World, rows: &str) -> Result<(), Fail> {
     let tokens = tokens(alloc)?;
     for row in rows.split('\n') {
-        let (caller, request) = read_row(alloc, &tokens, row)?;
-        if !world.has_room() {
-            return Err(Fail::from("no room"));
-        }
-        let _ = world.step(&caller, &request);
+        let _ = answer_to(alloc, &tokens, world, row)?;
     }
     Ok(())
 }
@@ -102,9 +97,7 @@ pub(crate) fn opening(alloc: Global) -> Result<Vec<u8>, Fail> {
 
 /// The bytes of a journal that holds the world that some rows made, in run 1.
 pub(crate) fn made_by(alloc: Global, rows: &str) -> Result<Vec<u8>, Fail> {
-    let (mut journal, kept) = recovered(alloc, first_journal(alloc)?.into_disk())?;
-    let mut world = installed(alloc, kept)?;
-    begin_run(&mut world, &mut journal)?;
+    let (mut world, journal) = begun_world(alloc, first_journal(alloc)?.into_disk())?;
     step_all(alloc, &mut world, rows)?;
     kept_bytes(alloc, world, journal)
 }
@@ -132,8 +125,8 @@ pub(crate) fn disk_of(alloc: Global, bytes: &[u8], failing: Vec<u64>) -> Result<
 
 /// The world that a journal of these bytes holds, in the next run.
 pub(crate) fn world_on(alloc: Global, bytes: &[u8]) -> Result<World, Fail> {
-    let (_, kept) = recovered(alloc, disk_of(alloc, bytes, Vec::new(alloc))?)?;
-    installed(alloc, kept)
+    let (world, _) = begun_on(alloc, bytes, Vec::new(alloc))?;
+    Ok(world)
 }
 
 /// The same with its journal, which has begun the run, on a disk of which some calls fail.
@@ -142,8 +135,5 @@ pub(crate) fn begun_on(
     bytes: &[u8],
     failing: Vec<u64>,
 ) -> Result<(World, Journal<MemDisk>), Fail> {
-    let (mut journal, kept) = recovered(alloc, disk_of(alloc, bytes, failing)?)?;
-    let mut world = installed(alloc, kept)?;
-    begin_run(&mut world, &mut journal)?;
-    Ok((world, journal))
+    begun_world(alloc, disk_of(alloc, bytes, failing)?)
 }

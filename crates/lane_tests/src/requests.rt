@@ -5,9 +5,9 @@ ghost use Rattle.object_ops.specs.Conditions.{IsSoundOp};
 
 use access_lists::{Caller, Names, Right};
 use object_ids::Name;
-use object_ops::{Refusal, Reply, Request, refusal_json};
+use object_ops::{Refusal, Reply, Request, on_text, refusal_json};
 use rest_requests::{RequestParts, Tokens, read_request};
-use service_core::What;
+use service_core::{What, World};
 use std::alloc::{AllocError, Global};
 use std::test::Fail;
 
@@ -53,16 +53,6 @@ pub(crate) fn row_of(name: &str) -> &'static str {
     ""
 }
 
-/// The row with this text; an empty one where there is none.
-pub(crate) fn row_as(text: &str) -> &'static str {
-    for row in REQUESTS.split('\n') {
-        if row == text {
-            return row;
-        }
-    }
-    ""
-}
-
 /// A user of some groups; nothing where memory ran out.
 fn user(alloc: Global, name: &str, groups: &str) -> Option<Caller> {
     let mut names = Names::new(alloc);
@@ -78,9 +68,11 @@ fn user(alloc: Global, name: &str, groups: &str) -> Option<Caller> {
 /// The users of the laboratory; nothing where memory ran out.
 pub(crate) fn known(alloc: Global) -> Option<Tokens> {
     let mut tokens = Tokens::new(alloc).ok()?;
-    tokens.put(b"alice", user(alloc, "alice", "lab")?).ok()?;
-    tokens.put(b"bob", user(alloc, "bob", "lab ops")?).ok()?;
-    tokens.put(b"carol", user(alloc, "carol", "lab")?).ok()?;
+    for (name, groups) in [("alice", "lab"), ("bob", "lab ops"), ("carol", "lab")] {
+        tokens
+            .put(name.as_bytes(), user(alloc, name, groups)?)
+            .ok()?;
+    }
     Some(tokens)
 }
 
@@ -168,4 +160,34 @@ pub(crate) fn answer_text(alloc: Global, path: &str, what: &What) -> Option<Stri
         What::Denied { right } => denial_text(alloc, path, *right).ok(),
         What::NoMemory => None,
     }
+}
+
+/// What a world answers to a request.
+pub(crate) fn answer_of(
+    alloc: Global,
+    world: &mut World,
+    caller: &Caller,
+    request: &Request,
+) -> Result<String, Fail>
+    requires { IsSoundOp request.now.op }
+{
+    if !world.has_room() {
+        return Err(Fail::from("no room"));
+    }
+    let answer = world.step(caller, request);
+    match answer_text(alloc, on_text(request), &answer.what) {
+        Some(text) => Ok(text),
+        None => Err(Fail::from("no memory")),
+    }
+}
+
+/// What it answers to the request of a row.
+pub(crate) fn answer_to(
+    alloc: Global,
+    tokens: &Tokens,
+    world: &mut World,
+    row: &str,
+) -> Result<String, Fail> {
+    let (caller, request) = read_row(alloc, tokens, row)?;
+    answer_of(alloc, world, &caller, &request)
 }

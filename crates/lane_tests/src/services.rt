@@ -6,16 +6,16 @@ ghost use Rattle.object_ops.specs.Conditions.{IsSoundOp};
 
 use crate::kept::Past;
 use crate::lanes::{Lane, Task};
-use crate::openings::{begun_on, world_on};
+use crate::openings::{begun_on, is_appended, world_on};
 use crate::pictures::{Picture, picture_of};
-use crate::requests::{answer_text, denial_text, read_row, refusal_text, reply_text, tokens};
+use crate::requests::{answer_of, denial_text, read_row, refusal_text, reply_text, tokens};
 use access_lists::Caller;
 use edge_traits::MemDisk;
 use flush_journal::{Batch, Journal};
 use object_ops::{Grant, Request, on_text};
 use register::{CutTickets, Register, Tickets, Turn, Verdict};
 use rest_requests::Tokens;
-use service_core::{Owners, What, World};
+use service_core::{Owners, World};
 use std::alloc::{AllocError, Global};
 use std::mem;
 use std::test::Fail;
@@ -64,8 +64,6 @@ pub(crate) struct Service {
     entries: Vec<Entry>,
     pictures: Vec<Picture>,
     desk: Desk,
-    /// The lanes of all tickets so far, in the order in which these were given.
-    given: Vec<u32>,
 }
 
 /// Tickets of at most two turns, spent.
@@ -190,15 +188,7 @@ pub(crate) fn begun_service(
         entries: Vec::new(alloc),
         pictures,
         desk: Desk::new(),
-        given: Vec::new(alloc),
     })
-}
-
-pub(crate) fn what_text(alloc: Global, path: &str, what: &What) -> Result<String, Fail> {
-    match answer_text(alloc, path, what) {
-        Some(text) => Ok(text),
-        None => Err(Fail::from("no memory")),
-    }
 }
 
 fn count_of(given: &Given) -> u8 {
@@ -256,11 +246,7 @@ impl Service {
     fn answer(&mut self, caller: &Caller, request: &Request) -> Result<String, Fail>
         requires { IsSoundOp request.now.op }
     {
-        if !self.world.has_room() {
-            return Err(Fail::from("no room"));
-        }
-        let answer = self.world.step(caller, request);
-        let wanted = what_text(self.alloc, on_text(request), &answer.what)?;
+        let wanted = answer_of(self.alloc, &mut self.world, caller, request)?;
         self.pictures.push(picture_of(self.alloc, &self.world)?)?;
         Ok(wanted)
     }
@@ -319,7 +305,6 @@ impl Service {
 
     fn hand(&mut self, turn: Turn, is_cut: bool) -> Result<(), Fail> {
         let place = self.entries.len();
-        self.given.push(turn.lane)?;
         match turn.lane {
             0 => self.first.give(turn, place, is_cut),
             _ => self.second.give(turn, place, is_cut),
@@ -363,19 +348,6 @@ impl Service {
         }
     }
 
-    /// All turns whose tickets are out, in the order in which these were given, as all before them were taken.
-    pub(crate) fn turn_all(&mut self) -> Result<(), Fail> {
-        let first = self.first.passed.len();
-        let passed = first.saturating_add(self.second.passed.len());
-        for at in passed..self.given.len() {
-            let Some(number) = self.given.as_slice().get(at).copied() else {
-                return Err(Fail::from("no ticket was given"));
-            };
-            self.turn(number)?;
-        }
-        Ok(())
-    }
-
     fn next_task(&self, number: u32) -> Result<Task, Fail> {
         match number {
             0 => self.first.next_task(),
@@ -409,11 +381,8 @@ impl Service {
         if !self.rests() || !self.desk.ready {
             return Err(Fail::from("nothing may be appended"));
         }
-        if self.journal.pending() {
-            return Err(Fail::from("a batch is pending"));
-        }
         let batch = mem::replace(&mut self.building, Batch::new(self.alloc));
-        let done = self.journal.append(batch).is_ok();
+        let done = is_appended(&mut self.journal, batch)?;
         self.desk.pending = Some(self.desk.whole);
         if done {
             self.settled();

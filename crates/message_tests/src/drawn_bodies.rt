@@ -2,9 +2,10 @@
 //! alike.
 
 use crate::rows::column;
-use json_trees::{KeptTree, Tree};
+use json_trees::Tree;
 use request_bodies::{BodyFault, ValueBody, body_of, value_body_of};
 use serde_json::Value;
+use shapes::KeptDims;
 use std::alloc::{AllocError, Global};
 
 /// What stands in drawn bodies: the words of a key, and of a value.
@@ -56,10 +57,18 @@ fn drawn_body(alloc: Global, draws: &mut Draws) -> Result<String, AllocError> {
     Ok(text)
 }
 
-/// The tree that is kept, if any.
-fn kept_tree(alloc: Global, kept: &Option<KeptTree>) -> Result<Option<Value>, AllocError> {
+/// The tree of the points, if any.
+fn points_tree(alloc: Global, body: &ValueBody) -> Result<Option<Value>, AllocError> {
+    match &body.points {
+        Some(kept) => Ok(Some(kept.tree().to_value(alloc)?)),
+        None => Ok(None),
+    }
+}
+
+/// The tree of a list of numbers, if any.
+fn dims_tree(alloc: Global, kept: &Option<KeptDims>) -> Result<Option<Value>, AllocError> {
     match kept {
-        Some(kept) => Ok(Some(kept.to_value(alloc)?)),
+        Some(kept) => Ok(Some(kept.tree().to_value(alloc)?)),
         None => Ok(None),
     }
 }
@@ -85,16 +94,16 @@ fn is_kept(
     alloc: Global,
     tree: &Value,
     key: &str,
-    kept: &Option<KeptTree>,
+    kept: &Option<KeptDims>,
 ) -> Result<bool, AllocError> {
-    is_same(alloc, tree.get(key), kept_tree(alloc, kept)?)
+    is_same(alloc, tree.get(key), dims_tree(alloc, kept)?)
 }
 
 fn are_same(alloc: Global, tree: &Tree, body: &ValueBody) -> Result<bool, AllocError> {
     let tree = tree.value();
     Ok(
         is_same(alloc, tree.get("value"), elements_tree(alloc, body)?)?
-            && is_kept(alloc, tree, "points", &body.points)?
+            && is_same(alloc, tree.get("points"), points_tree(alloc, body)?)?
             && is_kept(alloc, tree, "start", &body.start)?
             && is_kept(alloc, tree, "stop", &body.stop)?
             && is_kept(alloc, tree, "step", &body.step)?,

@@ -1,9 +1,6 @@
 //! Messages as they are taken from a link, one after another, and the bytes of answers (RFC 9112).
-//!
-//! In the tables `^` stands for the end of a line, `_` for a tab and `$` for a byte that is no character. A line that
-//! begins with blanks goes on with the row before it.
 
-use crate::rows::{column, number, unfolded};
+use crate::rows::column;
 use edge_traits::{MemSink, MemSource};
 use http_wire::{
     Extra, Inbox, Message, MessageFault, Methods, Taken, no_memory_reply, write_reply,
@@ -23,55 +20,6 @@ static STREAM: &str =
 static MESSAGES: &str =
     "PUT /acls/bob?domain=/a {\"read\": true} open, GET /  open, POST /groups {} open, \
      DELETE /x  closes, GET /last  open, end";
-
-/// Single messages, and what is taken.
-static HEADS: &str = r#"GET / HTTP/1.1^^|GET /  open, end
-GET / HTTP/1.0^^|GET /  closes, end
-GET / HTTP/1.1^Connection: close^^|GET /  closes, end
-GET / HTTP/1.0^Connection: close^^|GET /  closes, end
-GET / HTTP/1.1^connection: Keep-Alive, Close^^|GET /  closes, end
-GET / HTTP/1.0^connection: Keep-Alive, Close^^|GET /  closes, end
-GET / HTTP/1.1^Connection:  keep-alive ,_close ^^|GET /  closes, end
-GET / HTTP/1.0^Connection:  keep-alive ,_close ^^|GET /  closes, end
-GET / HTTP/1.1^Connection: keep-alive^Connection: x, CLOSE^^|GET /  closes, end
-GET / HTTP/1.0^Connection: keep-alive^Connection: x, CLOSE^^|GET /  closes, end
-GET / HTTP/1.1^Connection: ,,close,^^|GET /  closes, end
-GET / HTTP/1.0^Connection: ,,close,^^|GET /  closes, end
-GET / HTTP/1.1^Connection: keep-alive, upgrade^^|GET /  open, end
-GET / HTTP/1.0^Connection: keep-alive, upgrade^^|GET /  closes, end
-GET / HTTP/1.1^Connection: closed^^|GET /  open, end
-GET / HTTP/1.0^Connection: closed^^|GET /  closes, end
-GET / HTTP/1.1^Connection: not close^^|GET /  open, end
-GET / HTTP/1.0^Connection: not close^^|GET /  closes, end
-GET / HTTP/1.1^Connection: clo,se^^|GET /  open, end
-GET / HTTP/1.0^Connection: clo,se^^|GET /  closes, end
-GET / HTTP/1.1^Connection:^^|GET /  open, end
-GET / HTTP/1.0^Connection:^^|GET /  closes, end
-GET / HTTP/1.1^X-Connection: close^^|GET /  open, end
-GET / HTTP/1.0^X-Connection: close^^|GET /  closes, end
-PUT / HTTP/1.1^Content-Length: 1^Content-length: 1^^|refused BadLength
-PUT / HTTP/1.1^Content-Length: +1^^|refused BadLength
-PUT / HTTP/1.1^Content-Length: -1^^|refused BadLength
-PUT / HTTP/1.1^Content-Length: ^^|refused BadLength
-PUT / HTTP/1.1^Content-Length: 1, 1^^|refused BadLength
-PUT / HTTP/1.1^Content-Length: 00000000000000000001^^|refused BadLength
-PUT / HTTP/1.1^Content-Length: 16777217^^|refused BodyTooLong
-PUT / HTTP/1.1^Content-Length: 9999999999999999999^^|refused BodyTooLong
-PUT / HTTP/1.1^Content-Length: 0^transfer-encoding: chunked^^|refused TransferCoding
-PUT / HTTP/1.1^Transfer-Encoding: chunked^Content-Length: 16777217^^|refused BodyTooLong
-PUT / HTTP/1.1^$: 1^^|refused BadHead"#;
-
-/// A front, a piece and how many times it stands behind it, a middle, a second piece and how many times, and a back;
-/// and what is taken.
-static LIMITS: &str = r#"GET / HTTP/1.1^|Abc: def^|63|Pad: |x|0|^^|GET /  open, end
-GET / HTTP/1.1^|Abc: def^|64|Pad: |x|0|^^|refused HeadTooLong
-GET / HTTP/1.1^|Abc: def^|0|Pad: |x|8167|^^|GET /  open, end
-GET / HTTP/1.1^|Abc: def^|0|Pad: |x|8168|^^|refused HeadTooLong
-|$|1|||||refused BadHead
-|$|8191|||||refused BadHead
-|$|8192|||||refused BadHead
-|x|8191|||||cut 8191
-|x|8192|||||refused HeadTooLong"#;
 
 /// A source of these bytes in pieces, whose reads of these numbers fail.
 fn source(
@@ -154,73 +102,6 @@ fn a_read_that_fails_is_a_fault(rt: HostRuntime) -> Result<(), Fail> {
     for failing in [0, 1, 4, 8] {
         let failing = source(alloc, STREAM.as_bytes(), 10, &[failing])?;
         assert_eq!(rt; all_taken(alloc, failing)?.as_str(), "fault");
-    }
-    Ok(())
-}
-
-/// A text with its ends of lines.
-fn spelled(alloc: Global, text: &str) -> Result<String, AllocError> {
-    let text = text.replace(alloc, "^", "\r\n")?;
-    text.replace(alloc, "_", "\t")?.replace(alloc, "$", "\u{1}")
-}
-
-#[test]
-fn fields_close_a_link_or_are_refused(rt: HostRuntime) -> Result<(), Fail> {
-    let alloc = rt.alloc();
-    let rows = unfolded(alloc, HEADS)?;
-    for row in rows.as_str().split('\n') {
-        let text = spelled(alloc, column(row, 0))?;
-        let found = all_taken(alloc, source(alloc, text.as_bytes(), 9, &[])?)?;
-        assert!(rt; found.as_str() == column(row, 1), "{row}");
-    }
-    Ok(())
-}
-
-/// The bytes of a row.
-fn long_text(alloc: Global, row: &str) -> Result<String, Fail> {
-    let first = column(row, 1).repeat(alloc, number(column(row, 2)))?;
-    let second = column(row, 4).repeat(alloc, number(column(row, 5)))?;
-    let text = format!(in alloc;
-        "{}{first}{}{second}{}",
-        column(row, 0),
-        column(row, 3),
-        column(row, 6)
-    )?;
-    Ok(spelled(alloc, text.as_str())?)
-}
-
-#[test]
-fn messages_at_their_limits_are_the_last(rt: HostRuntime) -> Result<(), Fail> {
-    let alloc = rt.alloc();
-    let rows = unfolded(alloc, LIMITS)?;
-    for row in rows.as_str().split('\n') {
-        let text = long_text(alloc, row)?;
-        let found = all_taken(alloc, source(alloc, text.as_bytes(), 4096, &[])?)?;
-        assert!(rt; found.as_str() == column(row, 7), "{row}");
-    }
-    Ok(())
-}
-
-/// A message two of whose fields have one name, and one without a value.
-const FIELDS: &str =
-    "GET / HTTP/1.1\r\nAuthorization:  Bearer one \r\nauthorization: Bearer two\r\nX:\r\n\r\n";
-
-#[test]
-fn the_first_field_of_a_name_counts(rt: HostRuntime) -> Result<(), Fail> {
-    let mut inbox = Inbox::new(rt.alloc())?;
-    let mut source = source(rt.alloc(), FIELDS.as_bytes(), 4096, &[])?;
-    match inbox.take(rt.alloc(), &mut source) {
-        Taken::Message { spans, body } => {
-            let message = Message {
-                inbox: &inbox,
-                spans,
-                body: body.as_slice(),
-            };
-            assert!(rt; message.header("AUTHORIZATION").unwrap_or(b"") == b"Bearer one".as_slice());
-            assert!(rt; message.header("x").is_some());
-            assert!(rt; message.header("Host").is_none());
-        }
-        _ => assert!(rt; false),
     }
     Ok(())
 }

@@ -1,26 +1,13 @@
-//! Tests of worlds, by the requests that messages are: tables of rows, drawn requests on worlds that journals keep,
-//! stops, and the records of which no world is made.
+//! Tests of worlds that journals keep: stops in the midst of a write, and the records of which no world is made.
 #![tactic(auto)]
 
-#[cfg(test)]
-mod array_rows;
-#[cfg(test)]
-mod cut_rows;
-#[cfg(test)]
-mod drawn;
-#[cfg(test)]
-mod drawn_worlds;
-#[cfg(test)]
-mod first_journals;
-#[cfg(test)]
-mod limits;
-#[cfg(test)]
-mod messages;
 #[cfg(test)]
 mod pictures;
 #[cfg(test)]
 mod record_rows;
 #[cfg(test)]
-mod world_rows;
+mod requests;
+#[cfg(test)]
+mod stops;
 #[cfg(test)]
 mod worlds;

@@ -1,9 +1,7 @@
 //! Records beside a good world's: which of them are at fault, and what is made of the others.
 
-use crate::worlds::{
-    bytes_of, installed, keep, new_journal, push, push_words, read_back, recovered,
-};
-use flush_journal::{Batch, Recovered};
+use crate::worlds::{bytes_of, installed, push_words, read_back};
+use flush_journal::Batch;
 use register::InstallFault;
 use service_core::World;
 use std::process::Abort;
@@ -11,7 +9,7 @@ use std::process::Abort;
 /// The records of a world in two lanes, each with its key and its body: bytes as hexadecimal digits, and a text
 /// behind a quote. The domain 1 stands at `/home/lab` and the domain 2 at `/old`, the domain 3 is gone, and the next
 /// is 4.
-const GOOD: &str = r#"01 00000001
+static GOOD: &str = r#"01 00000001
 05 0000000000000004
 02'/ '{"acls":{},"class":"folder","owner":"default"}
 02'/home '{"acls":{"alice":{"create":true,"delete":true,"read":true,"readACL":true,"update":true,"updateACL":true}},"class":"folder","owner":"alice"}
@@ -181,7 +179,7 @@ ff 'x
 'run 'x"#;
 
 /// Changes of the good records, each behind what is then made of them.
-const ANSWERS: &str = r#"'whole
+static ANSWERS: &str = r#"'whole
 'whole 02'/a '{"acls":{},"class":"folder","owner":"default"}
 'whole 05 0001000000000000
 'whole 030000000000000380008000010000000005 '{}
@@ -273,190 +271,4 @@ fn the_first_of_several_faults_decides(rt: HostRuntime) {
         let (wanted, changes) = row.split_once(' ').unwrap_or((row, ""));
         try_changes(&rt, changes, wanted);
     }
-}
-
-/// The most members that a list may have, the key of its record, what stands in the body before the members, in each
-/// of them before and after its number, and behind them.
-type Full = (
-    u32,
-    &'static str,
-    &'static str,
-    &'static str,
-    &'static str,
-    &'static str,
-);
-
-static LISTS: [Full; 4] = [
-    (
-        1024,
-        "030000000000000180008000010000000005",
-        r#"{"attributes":["#,
-        r#"{"name":"a"#,
-        r#"","type":"H5T_STD_I8LE","value":1}"#,
-        "]}",
-    ),
-    (
-        64,
-        "030200000000000180008000010000000005",
-        r#"{"type":{"class":"H5T_COMPOUND","fields":["#,
-        r#"{"name":"f"#,
-        r#"","type":"H5T_STD_I8LE"}"#,
-        "]}}",
-    ),
-    // Texts of 65,535 bytes: 16 of them have at most 1,048,576.
-    (
-        16,
-        "030200000000000180008000010000000005",
-        r#"{"type":{"class":"H5T_COMPOUND","fields":["#,
-        r#"{"name":"f"#,
-        r#"","type":{"class":"H5T_STRING","length":65535}}"#,
-        "]}}",
-    ),
-    (
-        1024,
-        "02'/a",
-        r#"{"acls":{"#,
-        r#""u"#,
-        r#"":{"create":true,"delete":true,"read":true,"readACL":true,"update":true,"updateACL":true}"#,
-        r#"},"class":"folder","owner":"a"}"#,
-    ),
-];
-
-fn add_member(rt: &(impl Abort + AllocGlobal), text: &mut String, list: &Full, number: u32) {
-    let comma = if number == 0 { "" } else { "," };
-    let (_, _, _, before, after, _) = list;
-    let member = format!(in rt.alloc(); "{comma}{before}{number}{after}");
-    text.push_str(member.expect(rt, "a text").as_str())
-        .expect(rt, "a text");
-}
-
-/// A body with so many members.
-fn body_with(rt: &(impl Abort + AllocGlobal), list: &Full, members: u32) -> String {
-    let (_, _, front, _, _, back) = list;
-    let mut text = String::from_str(rt.alloc(), front).expect(rt, "a text");
-    for number in 0..members {
-        add_member(rt, &mut text, list, number);
-    }
-    text.push_str(back).expect(rt, "a text");
-    text
-}
-
-/// How an installation ends where a list has so many members.
-fn ending_with(rt: &(impl Abort + AllocGlobal), list: &Full, members: u32) -> Vec<u8> {
-    let mut batch = Batch::new(rt.alloc());
-    push_words(rt, &mut batch, GOOD);
-    push(
-        rt,
-        &mut batch,
-        bytes_of(rt, list.1).as_slice(),
-        body_with(rt, list, members).as_bytes(),
-    );
-    ending(rt, installed(rt, read_back(rt, batch)))
-}
-
-fn try_list(rt: &(impl Abort + AllocGlobal), list: &Full) {
-    let (most, key, ..) = list;
-    let more = most.saturating_add(1);
-    assert!(rt; ending_with(rt, list, *most).as_slice() == b"whole".as_slice());
-    assert!(rt; ending_with(rt, list, more).as_slice() == bytes_of(rt, key).as_slice());
-}
-
-#[test]
-fn lists_are_no_longer_than_their_limits(rt: HostRuntime) {
-    for list in LISTS.iter() {
-        try_list(&rt, list);
-    }
-}
-
-// ---- one byte changed
-
-/// One byte is changed, which one and how by a number.
-fn flip(bytes: &mut [u8], number: usize) {
-    if bytes.is_empty() {
-        return;
-    }
-    let at = number.wrapping_mul(7) % bytes.len();
-    bytes[at] ^= 1 << (number % 8);
-}
-
-/// A record of the batch, of which one byte is changed where it is to be.
-fn push_damaged(
-    rt: &(impl Abort + AllocGlobal),
-    batch: &mut Batch,
-    line: &str,
-    change: Option<usize>,
-) {
-    let (key, body) = line.split_once(' ').unwrap_or((line, ""));
-    let (mut key, mut body) = (bytes_of(rt, key), bytes_of(rt, body));
-    if let Some(number) = change {
-        if number % 3 == 0 {
-            flip(key.as_mut_slice(), number);
-        } else {
-            flip(body.as_mut_slice(), number);
-        }
-    }
-    push(rt, batch, key.as_slice(), body.as_slice());
-}
-
-/// The good records, of which one byte is changed.
-fn damaged(rt: &(impl Abort + AllocGlobal), number: usize) -> Recovered {
-    let mut batch = Batch::new(rt.alloc());
-    for (at, line) in GOOD.lines().enumerate() {
-        let change = if at == number % 13 {
-            Some(number)
-        } else {
-            None
-        };
-        push_damaged(rt, &mut batch, line, change);
-    }
-    read_back(rt, batch)
-}
-
-/// Of an installed world the next cut writes the record of the run, and no other.
-fn cuts_its_run(rt: &(impl Abort + AllocGlobal), mut world: World) {
-    let mut journal = new_journal(rt, Vec::new(rt.alloc()));
-    keep(rt, &mut world, &mut journal);
-    assert_eq!(rt; journal.report().end, 38);
-    let (_, kept) = recovered(rt, journal.into_disk());
-    assert!(rt; kept.get(&[1]) == Some(world.run().to_be_bytes().as_slice()));
-}
-
-fn may_be_missing(key: &[u8]) -> bool {
-    match key {
-        [1] | [2, b'/'] | [5] => true,
-        _ => false,
-    }
-}
-
-/// Whether a world was installed, of which the next cut writes the record of the run alone. Else a key is named that
-/// is held or may be missing.
-fn is_read(
-    rt: &(impl Abort + AllocGlobal),
-    kept: &Recovered,
-    installed: Result<World, InstallFault>,
-) -> bool {
-    match installed {
-        Ok(world) => {
-            cuts_its_run(rt, world);
-            true
-        }
-        Err(InstallFault::BadRecord { key }) => {
-            assert!(rt; may_be_missing(key.as_slice()) || kept.get(key.as_slice()).is_some());
-            false
-        }
-        Err(_) => panic!(rt; "another end"),
-    }
-}
-
-#[test]
-fn records_with_another_byte_are_refused_or_read(rt: HostRuntime) {
-    let mut worlds = 0u8;
-    for number in 0..200 {
-        let kept = damaged(&rt, number);
-        let installed = installed(&rt, damaged(&rt, number));
-        if is_read(&rt, &kept, installed) {
-            worlds = worlds.saturating_add(1);
-        }
-    }
-    assert!(rt; worlds >= 20 && worlds <= 100, "{worlds} worlds of 200");
 }

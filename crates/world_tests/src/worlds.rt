@@ -9,7 +9,7 @@ use std::process::Abort;
 const ROOM: u64 = 8_000_000;
 
 /// The records of a world in run 0 over the folder `/`, where everybody has all rights.
-pub(crate) const FIRST: &str = r#"01 00000000
+static FIRST: &str = r#"01 00000000
 05 0000000000000001
 02'/ '{"acls":{"default":{"create":true,"delete":true,"read":true,"readACL":true,"update":true,"updateACL":true}},"class":"folder","owner":"default"}"#;
 
@@ -37,7 +37,7 @@ pub(crate) fn bytes_of(rt: &(impl Abort + AllocGlobal), word: &str) -> Vec<u8> {
     bytes
 }
 
-pub(crate) fn push(rt: &impl Abort, batch: &mut Batch, key: &[u8], body: &[u8]) {
+fn push(rt: &impl Abort, batch: &mut Batch, key: &[u8], body: &[u8]) {
     assert!(rt; !key.is_empty() && key.len() < 65_536 && body.len() < 65_536_000);
     assert!(rt; batch.push(key, body).is_ok());
 }
@@ -56,38 +56,44 @@ pub(crate) fn push_words(rt: &(impl Abort + AllocGlobal), batch: &mut Batch, wor
     }
 }
 
-/// A journal of two lanes that holds nothing, on a disk of which some calls fail.
-pub(crate) fn new_journal(rt: &(impl Abort + AllocGlobal), failing: Vec<u64>) -> Journal<MemDisk> {
-    let Ok(disk) = MemDisk::new(rt.alloc(), Vec::new(rt.alloc()), ROOM, failing) else {
-        panic!(rt; "a disk");
-    };
-    match Journal::create(disk, 2) {
+/// A disk without bytes, of which a call may fail.
+fn new_disk(rt: &(impl Abort + AllocGlobal), failing: Option<u64>) -> MemDisk {
+    let mut calls = Vec::new(rt.alloc());
+    if let Some(call) = failing {
+        calls.push(call).expect(rt, "a call");
+    }
+    match MemDisk::new(rt.alloc(), Vec::new(rt.alloc()), ROOM, calls) {
+        Ok(disk) => disk,
+        Err(_) => panic!(rt; "a disk"),
+    }
+}
+
+/// A journal of two lanes that holds nothing, on a disk of which a call may fail.
+fn new_journal(rt: &(impl Abort + AllocGlobal), failing: Option<u64>) -> Journal<MemDisk> {
+    match Journal::create(new_disk(rt, failing), 2) {
         Ok(journal) => journal,
         Err(_) => panic!(rt; "a journal"),
     }
 }
 
-pub(crate) fn append(rt: &impl Abort, journal: &mut Journal<MemDisk>, batch: Batch) {
+fn append(rt: &impl Abort, journal: &mut Journal<MemDisk>, batch: Batch) {
     assert!(rt; !journal.pending());
     assert!(rt; journal.append(batch).is_ok());
 }
 
-/// The journal on a disk, and what it holds.
-pub(crate) fn recovered(
-    rt: &(impl Abort + AllocGlobal),
-    disk: MemDisk,
-) -> (Journal<MemDisk>, Recovered) {
+/// What the journal on a disk holds.
+pub(crate) fn recovered(rt: &(impl Abort + AllocGlobal), disk: MemDisk) -> Recovered {
     match Journal::recover(rt.alloc(), disk) {
-        Ok(found) => found,
+        Ok((_, kept)) => kept,
         Err(_) => panic!(rt; "what is held"),
     }
 }
 
 /// What a journal holds behind one batch.
 pub(crate) fn read_back(rt: &(impl Abort + AllocGlobal), batch: Batch) -> Recovered {
-    let mut journal = new_journal(rt, Vec::new(rt.alloc()));
+    let mut journal = new_journal(rt, None);
     append(rt, &mut journal, batch);
-    recovered(rt, journal.into_disk()).1
+    recovered(rt, journal.into_disk())
 }
 
 /// The world of two lanes that is made of these records, or why there is none.
@@ -99,7 +105,7 @@ pub(crate) fn installed(
 }
 
 /// The first records as a batch.
-pub(crate) fn first_batch(rt: &(impl Abort + AllocGlobal)) -> Batch {
+fn first_batch(rt: &(impl Abort + AllocGlobal)) -> Batch {
     let mut batch = Batch::new(rt.alloc());
     push_words(rt, &mut batch, FIRST);
     batch
@@ -113,21 +119,26 @@ pub(crate) fn opened(rt: &(impl Abort + AllocGlobal)) -> World {
     }
 }
 
+/// What changed of a world since its last cut.
+pub(crate) fn cut_of(rt: &(impl Abort + AllocGlobal), world: &mut World) -> Batch {
+    let mut batch = Batch::new(rt.alloc());
+    assert!(rt; world.cut(&mut batch).is_ok());
+    batch
+}
+
 /// What changed of a world since its last cut is written to a journal.
 pub(crate) fn keep(
     rt: &(impl Abort + AllocGlobal),
     world: &mut World,
     journal: &mut Journal<MemDisk>,
 ) {
-    let mut batch = Batch::new(rt.alloc());
-    assert!(rt; world.cut(&mut batch).is_ok());
-    append(rt, journal, batch);
+    append(rt, journal, cut_of(rt, world));
 }
 
-/// A journal that holds the first records, on a disk of which some calls fail.
+/// A journal that holds the first records, on a disk of which a call may fail.
 pub(crate) fn first_journal(
     rt: &(impl Abort + AllocGlobal),
-    failing: Vec<u64>,
+    failing: Option<u64>,
 ) -> Journal<MemDisk> {
     let mut journal = new_journal(rt, failing);
     append(rt, &mut journal, first_batch(rt));

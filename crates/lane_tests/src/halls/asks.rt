@@ -5,18 +5,17 @@ ghost use Rattle.hall.specs.Passes.{IsPassOf, who};
 
 use crate::halls::worlds::MemDesk;
 use crate::requests::{answer_text, known, read_ask};
-use hall::{DeskWork, Hall, KeptAnswer, OpenGate, Pass, work_for};
+use hall::{Hall, KeptAnswer, OpenGate, Pass};
 use object_ops::on_text;
 use rest_requests::Tokens;
 use std::alloc::Global;
 use std::sync::Wait;
 
-/// What a row was answered, at which place, and what was kept before that.
+/// What a row was answered, and at which place.
 #[derive(Drop)]
 pub(crate) struct Told {
     pub(crate) place: u64,
     pub(crate) text: String,
-    pub(crate) kept: Option<DeskWork>,
 }
 
 /// Asks one row; nothing where it is no request, or memory ran out.
@@ -34,14 +33,12 @@ fn ask_row<W: Wait>(
 {
     let (caller, request) = read_ask(alloc, tokens, row)?;
     let mut gate = OpenGate;
-    let KeptAnswer { answer, kept } = hall.ask_kept(rt, pass, &mut gate, &caller, &request);
+    let KeptAnswer { answer, kept: _ } = hall.ask_kept(rt, pass, &mut gate, &caller, &request);
     let text = answer_text(alloc, on_text(&request), &answer.what)?;
-    let place = answer.place;
-    let kept = match kept {
-        Ok(()) => work_for(&request.op, place, &answer.what),
-        Err(_) => None,
-    };
-    Some(Told { place, text, kept })
+    Some(Told {
+        place: answer.place,
+        text,
+    })
 }
 
 /// Asks the rows, one behind the other; nothing where one of them is no request, or memory ran out.

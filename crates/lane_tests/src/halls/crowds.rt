@@ -182,18 +182,17 @@ fn over_hall<R: Threads + Wait + Sync>(
     Left { world, disk, heard }
 }
 
-/// Callers ask one hall over the world of a journal at the same time, each its own rows. Some calls of the journal's disk fail.
+/// Callers ask one hall over the world of a journal at the same time, each its own rows.
 pub(crate) fn over_journal<R: Threads + Wait + Sync>(
     rt: &R,
     alloc: Global,
     bytes: &[u8],
-    failing: Vec<u64>,
     scripts: Vec<Vec<String>>,
 ) -> Result<Left, Fail>
     requires { vec_len scripts ≤ 16 }
 {
     let members = Vec::with_capacity(alloc, scripts.len())?;
-    match hall_on(alloc, bytes, failing, scripts.len() as u32 + 1) {
+    match hall_on(alloc, bytes, scripts.len() as u32 + 1) {
         Ok((hall, pass)) => Ok(over_hall(rt, alloc, hall, pass, scripts, members)),
         Err(fail) => {
             members.destroy_empty();

@@ -155,7 +155,7 @@ fn served<R: Threads + Wait + Sync>(
 {
     let bytes = workshop(alloc)?;
     let clerks = Vec::with_capacity(alloc, 2)?;
-    match hall_on(alloc, bytes.as_slice(), Vec::new(alloc), 3) {
+    match hall_on(alloc, bytes.as_slice(), 3) {
         Ok((hall, pass)) => Ok(over_hall(rt, alloc, hall, pass, tokens, first, second, clerks)),
         Err(fail) => {
             clerks.destroy_empty();

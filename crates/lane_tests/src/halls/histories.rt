@@ -2,13 +2,10 @@
 
 use crate::halls::crowds::{Heard, Left, heard_at, over_journal};
 use crate::halls::worlds::workshop;
-use crate::openings::{begun_on, kept_bytes, recovered, world_on};
+use crate::openings::{begun_on, begun_world, kept_bytes, world_on};
 use crate::pictures::{Picture, picture_of};
-use crate::requests::{read_row, tokens};
-use crate::services::what_text;
+use crate::requests::{answer_to, tokens};
 use edge_traits::MemDisk;
-use object_ops::on_text;
-use rest_requests::Tokens;
 use service_core::World;
 use std::alloc::{AllocError, Global};
 use std::process::Abort;
@@ -72,16 +69,6 @@ fn scripts_of(alloc: Global, callers: usize, rows: usize) -> Result<Vec<Vec<Stri
     Ok(scripts)
 }
 
-/// What a world answers to a row.
-fn answer_of(alloc: Global, tokens: &Tokens, world: &mut World, row: &str) -> Result<String, Fail> {
-    let (caller, request) = read_row(alloc, tokens, row)?;
-    if !world.has_room() {
-        return Err(Fail::from("no room"));
-    }
-    let answer = world.step(&caller, &request);
-    what_text(alloc, on_text(&request), &answer.what)
-}
-
 /// One world is asked what was asked at each of so many places, and answers it so.
 fn assert_replayed(
     rt: &(impl Abort + AllocGlobal),
@@ -95,7 +82,7 @@ fn assert_replayed(
         let Some((row, told)) = heard_at(heard, place as u64) else {
             return Err(Fail::from("nothing was answered at a place"));
         };
-        let wanted = answer_of(alloc, &tokens, world, row)?;
+        let wanted = answer_to(alloc, &tokens, world, row)?;
         let got = told.text.as_str();
         assert!(rt;
             got == wanted.as_str(),
@@ -117,12 +104,12 @@ fn left_by(
     if scripts.len() > 16 {
         return Err(Fail::from("too many callers"));
     }
-    over_journal(rt, alloc, bytes, Vec::new(alloc), scripts)
+    over_journal(rt, alloc, bytes, scripts)
 }
 
 /// What a journal tells once it has all that changed of a world.
 fn kept_picture(alloc: Global, world: World, disk: MemDisk) -> Result<Picture, Fail> {
-    let (journal, _) = recovered(alloc, disk)?;
+    let (_, journal) = begun_world(alloc, disk)?;
     let bytes = kept_bytes(alloc, world, journal)?;
     picture_of(alloc, &world_on(alloc, bytes.as_slice())?)
 }
