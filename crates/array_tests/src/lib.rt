@@ -1,40 +1,12 @@
-//! Tests of the array crates: types, shapes, chunks, selections and values by rows worked out by
-//! hand, and arrays led through lists of calls beside a plain array.
+//! Tests of the array crates that no request shows: runs of selections in boxes, bytes that are
+//! elements or not, and values that are packed or not, by rows worked out by hand.
 #![tactic(auto)]
 
 #[cfg(test)]
-mod array_lists;
-#[cfg(test)]
-mod attribute_rows;
-#[cfg(test)]
-mod coordinates;
-#[cfg(test)]
-mod draws;
-#[cfg(test)]
-mod kept_rows;
-#[cfg(test)]
-mod layout_rows;
-#[cfg(test)]
-mod link_rows;
+mod byte_rows;
 #[cfg(test)]
 mod packed_rows;
 #[cfg(test)]
-mod plain;
-#[cfg(test)]
-mod point_rows;
-#[cfg(test)]
 mod run_rows;
 #[cfg(test)]
-mod shape_rows;
-#[cfg(test)]
-mod slab_rows;
-#[cfg(test)]
 mod tables;
-#[cfg(test)]
-mod trials;
-#[cfg(test)]
-mod twins;
-#[cfg(test)]
-mod type_rows;
-#[cfg(test)]
-mod value_rows;

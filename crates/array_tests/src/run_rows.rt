@@ -4,11 +4,11 @@ ghost use Rattle.std.specs.Prelude.{◌≡◌, ◌<◌, ◌+◌, ◌^◌, [], �
 ghost use Rattle.std.specs.List.{AllZip};
 ghost use Rattle.chunk_layout.specs.Chunks.{IsChunk};
 ghost use Rattle.hyperslab.specs.Selected.{IsSlab};
+ghost use Rattle.shapes.specs.Shapes.{IsSound};
 
-use crate::shape_rows::shape_in;
-use crate::tables::{column, had, number};
+use crate::tables::{column, had, tree};
 use hyperslab::{Run, Slab, read_select, whole};
-use shapes::{Dims, Shape};
+use shapes::{Dims, Shape, read_shape};
 use std::process::Abort;
 
 fn run_text(rt: &(impl Abort + AllocGlobal), run: &Run) -> String {
@@ -38,6 +38,13 @@ fn told(rt: &(impl Abort + AllocGlobal), slab: &Slab, origin: &Dims, chunk: &Dim
     text
 }
 
+/// The shape that a text spells.
+fn shape_of(rt: &(impl Abort + AllocGlobal), text: &str) -> Shape
+    ensures { IsSound result }
+{
+    read_shape(Some(&tree(rt, text)), None).expect(rt, "a shape")
+}
+
 /// Whether a row's selection has these runs in a box.
 fn has_runs(
     rt: &(impl Abort + AllocGlobal),
@@ -51,8 +58,7 @@ fn has_runs(
     requires ranks { length origin.now ≡ length chunk.now }
     requires ends { AllZip (λ o n. o + n < 2 ^ 64) origin.now chunk.now }
 {
-    let shape = shape_in(rt, grid, "").expect(rt, "a shape");
-    let slab = read_select(column(row, 0), &shape).expect(rt, "a selection");
+    let slab = read_select(column(row, 0), &shape_of(rt, grid)).expect(rt, "a selection");
     assert!(rt; slab.start.len() == chunk.len());
     told(rt, &slab, origin, chunk).as_str() == runs
 }
@@ -61,7 +67,7 @@ fn has_runs(
 fn digit(rt: &(impl Abort + AllocGlobal), row: &str, place: u8) -> u64
     ensures { result < 16 }
 {
-    u64::from(number(rt, column(row, place)) % 16)
+    tree(rt, column(row, place)).as_u64().expect(rt, "a number") % 16
 }
 
 fn pair(first: u64, second: u64) -> Dims

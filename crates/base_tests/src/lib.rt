@@ -1,26 +1,8 @@
-//! Tests of the crates that the array service stands on: containers, trees, ends of links and disks,
-//! ids, access lists, domains, the journal, command lines and configurations.
+//! Tests of what the journal stands on: ends over readers, writers and files, the disk in memory, and a journal whose
+//! disk fails at each of its calls.
 #![tactic(auto)]
 
 #[cfg(test)]
-mod access_rows;
-#[cfg(test)]
-mod configuration_rows;
-#[cfg(test)]
-mod container_rows;
-#[cfg(test)]
-mod domain_rows;
-#[cfg(test)]
 mod edge_rows;
 #[cfg(test)]
-mod id_rows;
-#[cfg(test)]
-mod journal_calls;
-#[cfg(test)]
 mod journal_rows;
-#[cfg(test)]
-mod tables;
-#[cfg(test)]
-mod tree_rows;
-#[cfg(test)]
-mod word_rows;
