@@ -24,12 +24,9 @@ fn happen(service: &mut Service, word: &str) -> Result<(), Fail> {
     match word {
         "cut" => service.draw_cut(),
         "reg" => service.cut_register(),
-        "0" => service.turn(0),
-        "1" => service.turn(1),
-        "app" => expect(service.append()?, true),
-        "app!" => expect(service.append()?, false),
-        "set" => expect(service.settle(), true),
-        "set!" => expect(service.settle(), false),
+        "0" | "1" => service.turn(u32::from(word == "1")),
+        "app" | "app!" => expect(service.append()?, word == "app"),
+        "set" | "set!" => expect(service.settle(), word == "set"),
         name => ask(service, name),
     }
 }

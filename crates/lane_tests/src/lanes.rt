@@ -3,13 +3,13 @@
 ghost use Rattle.std.specs.Prelude.{◌≡◌, IsTrue};
 ghost use Rattle.object_ops.specs.Conditions.{IsSoundOp};
 
-use crate::requests::{read_row, reply_text};
+use crate::requests::request_of;
 use crate::services::Entry;
 use crate::steps::{has_fresh, is_step_of};
 use chunk_owner::{Owner, touched};
 use flush_journal::Batch;
 use object_ids::{Kind, ObjectId, lane};
-use object_ops::{Grant, Op, Reply, Step, on_text};
+use object_ops::{Grant, Op, Reply, Request, Step, on_text};
 use register::Turn;
 use rest_requests::Tokens;
 use std::alloc::Global;
@@ -43,7 +43,7 @@ pub(crate) struct Lane {
     number: u32,
     owner: Owner,
     tasks: Vec<Task>,
-    pub(crate) passed: Vec<Item>,
+    passed: Vec<Item>,
     ghost own: { owner.lane ≡ number },
     ghost two: { owner.lanes ≡ 2 },
 }
@@ -108,6 +108,10 @@ impl Lane {
         }
     }
 
+    pub(crate) fn into_passed(self) -> Vec<Item> {
+        self.passed
+    }
+
     /// What the next ticket is for is done.
     fn pass(&mut self, task: Task, unmade: Option<ObjectId>) -> Result<(), Fail> {
         self.passed.push(item_of(task, unmade))?;
@@ -150,8 +154,7 @@ impl Lane {
 
     fn forget(&mut self, entry: &mut Entry, grant: Grant) -> Result<(), Fail> {
         self.owner.forget(grant.number);
-        entry.reply = reply_text(self.alloc, "", &Reply::done(self.alloc, 200))?;
-        Ok(())
+        entry.tell(self.alloc, "", &Reply::done(self.alloc, 200))
     }
 
     fn link(&mut self, tokens: &Tokens, entry: &mut Entry, grant: Grant) -> Result<(), Fail> {
@@ -185,9 +188,21 @@ impl Lane {
         step: Step,
         grant: Grant,
     ) -> Result<bool, Fail> {
-        let (_, request) = read_row(self.alloc, tokens, entry.row)?;
-        let reply = self.act(&request.op, step, &grant)?;
-        entry.reply = reply_text(self.alloc, on_text(&request), &reply)?;
+        let request = request_of(self.alloc, tokens, entry.row)?;
+        self.step_of(&request, entry, step, &grant)
+    }
+
+    fn step_of(
+        &mut self,
+        request: &Request,
+        entry: &mut Entry,
+        step: Step,
+        grant: &Grant,
+    ) -> Result<bool, Fail>
+        requires { IsSoundOp request.now.op }
+    {
+        let reply = self.act(&request.op, step, grant)?;
+        entry.tell(self.alloc, on_text(request), &reply)?;
         Ok(is_done(&reply))
     }
 

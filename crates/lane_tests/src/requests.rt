@@ -126,6 +126,16 @@ pub(crate) fn read_row(alloc: Global, tokens: &Tokens, row: &str) -> Result<(Cal
     }
 }
 
+/// The request of a row.
+pub(crate) fn request_of(alloc: Global, tokens: &Tokens, row: &str) -> Result<Request, Fail>
+    ensures { IfOk result (λ request. IsSoundOp request.op) }
+{
+    match read_ask(alloc, tokens, row) {
+        Some((_, request)) => Ok(request),
+        None => Err(Fail::from("a row is no request")),
+    }
+}
+
 // ---- answers
 
 fn with_status(alloc: Global, status: u16, body: &str) -> Result<String, AllocError> {

@@ -12,7 +12,7 @@ use crate::requests::{answer_of, denial_text, read_row, refusal_text, reply_text
 use access_lists::Caller;
 use edge_traits::MemDisk;
 use flush_journal::{Batch, Journal};
-use object_ops::{Grant, Request, on_text};
+use object_ops::{Grant, Reply, Request, on_text};
 use register::{CutTickets, Register, Tickets, Turn, Verdict};
 use rest_requests::Tokens;
 use service_core::{Owners, World};
@@ -51,18 +51,32 @@ pub(crate) struct Desk {
     pending: Option<Reach>,
 }
 
+/// One world that is asked the same, with those who ask, and its pictures behind so many requests.
+#[derive(Drop)]
+struct Beside {
+    tokens: Tokens,
+    world: World,
+    pictures: Vec<Picture>,
+}
+
+/// A world taken apart, and its journal.
+struct Apart {
+    register: Register,
+    first: Lane,
+    second: Lane,
+    journal: Journal<MemDisk>,
+}
+
 #[derive(Drop)]
 pub(crate) struct Service {
     alloc: Global,
-    tokens: Tokens,
-    world: World,
+    beside: Beside,
     register: Register,
     first: Lane,
     second: Lane,
     journal: Journal<MemDisk>,
     building: Batch,
     entries: Vec<Entry>,
-    pictures: Vec<Picture>,
     desk: Desk,
 }
 
@@ -120,6 +134,7 @@ fn last_lane(alloc: Global, owners: &mut Owners, number: u32) -> Result<Lane, Fa
     }
 }
 
+/// The register and the two lanes of a world.
 fn taken_apart(alloc: Global, world: World) -> Result<(Register, Lane, Lane), Fail> {
     let (register, mut owners) = world.parts();
     if register.lanes() != 2 {
@@ -165,30 +180,59 @@ fn first_pictures(alloc: Global, world: &World) -> Result<Vec<Picture>, Fail> {
     Ok(pictures)
 }
 
-/// The service over a journal of these bytes, of whose disk some calls fail.
-pub(crate) fn begun_service(
-    alloc: Global,
-    bytes: &[u8],
-    failing: Vec<u64>,
-) -> Result<Service, Fail> {
-    let (begun, journal) = begun_on(alloc, bytes, failing)?;
-    let (register, first, second) = taken_apart(alloc, begun)?;
-    let tokens = tokens(alloc)?;
+/// The world that a journal of these bytes holds, which was asked nothing yet.
+fn begun_beside(alloc: Global, bytes: &[u8]) -> Result<Beside, Fail> {
     let world = world_on(alloc, bytes)?;
     let pictures = first_pictures(alloc, &world)?;
-    Ok(Service {
-        alloc,
-        tokens,
+    Ok(Beside {
+        tokens: tokens(alloc)?,
         world,
+        pictures,
+    })
+}
+
+/// The parts of the world that a journal of these bytes holds, of whose disk some calls fail.
+fn begun_apart(alloc: Global, bytes: &[u8], failing: Vec<u64>) -> Result<Apart, Fail> {
+    let (world, journal) = begun_on(alloc, bytes, failing)?;
+    let (register, first, second) = taken_apart(alloc, world)?;
+    Ok(Apart {
+        register,
+        first,
+        second,
+        journal,
+    })
+}
+
+/// The service of these parts, at the first place.
+fn service_of(alloc: Global, beside: Beside, apart: Apart) -> Service {
+    let Apart {
+        register,
+        first,
+        second,
+        journal,
+    } = apart;
+    Service {
+        alloc,
+        beside,
         register,
         first,
         second,
         journal,
         building: Batch::new(alloc),
         entries: Vec::new(alloc),
-        pictures,
         desk: Desk::new(),
-    })
+    }
+}
+
+/// The service over a journal of these bytes, of whose disk some calls fail.
+pub(crate) fn begun_service(
+    alloc: Global,
+    bytes: &[u8],
+    failing: Vec<u64>,
+) -> Result<Service, Fail> {
+    let beside = begun_beside(alloc, bytes)?;
+    let apart = begun_apart(alloc, bytes, failing)?;
+    Ok(service_of(alloc, beside, apart))
 }
 
 fn count_of(given: &Given) -> u8 {
@@ -205,6 +249,28 @@ impl Entry {
             linked: None,
             grant: None,
         }
+    }
+
+    /// It is replied to so.
+    pub(crate) fn tell(&mut self, alloc: Global, path: &str, reply: &Reply) -> Result<(), Fail> {
+        self.reply = reply_text(alloc, path, reply)?;
+        Ok(())
+    }
+}
+
+impl Beside {
+    /// What the one world answers, of which a picture is kept.
+    fn answer(&mut self, alloc: Global, caller: &Caller, request: &Request) -> Result<String, Fail>
+        requires { IsSoundOp request.now.op }
+    {
+        let wanted = answer_of(alloc, &mut self.world, caller, request)?;
+        self.keep_picture(alloc)?;
+        Ok(wanted)
+    }
+
+    fn keep_picture(&mut self, alloc: Global) -> Result<(), Fail> {
+        self.pictures.push(picture_of(alloc, &self.world)?)?;
+        Ok(())
     }
 }
 
@@ -236,19 +302,16 @@ fn take_turn(
 impl Service {
     /// A request of a name at the next place, which is decided there, and answered by the one world.
     pub(crate) fn ask(&mut self, row: &'static str) -> Result<(), Fail> {
-        let (caller, request) = read_row(self.alloc, &self.tokens, row)?;
-        let wanted = self.answer(&caller, &request)?;
-        let entry = Entry::new(self.alloc, row, wanted);
-        self.enter(entry, &caller, &request)
+        let (caller, request) = read_row(self.alloc, &self.beside.tokens, row)?;
+        self.ask_as(row, &caller, &request)
     }
 
-    /// What the one world answers, of which a picture is kept.
-    fn answer(&mut self, caller: &Caller, request: &Request) -> Result<String, Fail>
+    /// The request of a row.
+    fn ask_as(&mut self, row: &'static str, caller: &Caller, request: &Request) -> Result<(), Fail>
         requires { IsSoundOp request.now.op }
     {
-        let wanted = answer_of(self.alloc, &mut self.world, caller, request)?;
-        self.pictures.push(picture_of(self.alloc, &self.world)?)?;
-        Ok(wanted)
+        let wanted = self.beside.answer(self.alloc, caller, request)?;
+        self.enter(Entry::new(self.alloc, row, wanted), caller, request)
     }
 
     fn enter(&mut self, entry: Entry, caller: &Caller, request: &Request) -> Result<(), Fail> {
@@ -371,8 +434,8 @@ impl Service {
     fn take(&mut self, number: u32, task: Task) -> Result<(), Fail> {
         let entries = self.entries.as_mut_slice();
         match number {
-            0 => take_turn(&mut self.first, &self.tokens, entries, task),
-            _ => take_turn(&mut self.second, &self.tokens, entries, task),
+            0 => take_turn(&mut self.first, &self.beside.tokens, entries, task),
+            _ => take_turn(&mut self.second, &self.beside.tokens, entries, task),
         }
     }
 
@@ -417,15 +480,15 @@ impl Service {
             second,
             journal,
             entries,
-            pictures,
+            beside,
             desk,
             ..
         } = self;
         let past = Past {
             entries,
-            pictures,
-            first: first.passed,
-            second: second.passed,
+            pictures: beside.pictures,
+            first: first.into_passed(),
+            second: second.into_passed(),
             own: desk.own,
             pending: desk.pending,
         };

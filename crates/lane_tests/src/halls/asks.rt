@@ -2,12 +2,15 @@
 
 ghost use Rattle.std.specs.Prelude.{◌≡◌};
 ghost use Rattle.hall.specs.Passes.{IsPassOf, who};
+ghost use Rattle.object_ops.specs.Conditions.{IsSoundOp};
 
 use crate::halls::worlds::MemDesk;
 use crate::requests::{answer_text, known, read_ask};
+use access_lists::Caller;
 use hall::{Hall, KeptAnswer, OpenGate, Pass};
-use object_ops::on_text;
+use object_ops::{Request, on_text};
 use rest_requests::Tokens;
+use service_core::Answer;
 use std::alloc::Global;
 use std::sync::Wait;
 
@@ -16,6 +19,33 @@ use std::sync::Wait;
 pub(crate) struct Told {
     pub(crate) place: u64,
     pub(crate) text: String,
+}
+
+/// Asks through a gate that is always open.
+fn ask<W: Wait>(
+    rt: &W,
+    hall: &Hall<MemDesk>,
+    pass: &mut Pass<MemDesk>,
+    caller: &Caller,
+    request: &Request,
+) -> Answer
+    requires of_this_hall { IsPassOf hall.now pass.old }
+    requires op { IsSoundOp request.now.op }
+    ensures of_this_hall { IsPassOf hall.now pass.new }
+    ensures same { who pass.new ≡ who pass.old }
+{
+    let mut gate = OpenGate;
+    let KeptAnswer { answer, kept: _ } = hall.ask_kept(rt, pass, &mut gate, caller, request);
+    answer
+}
+
+/// What a row of this path was answered; nothing where memory ran out.
+fn told_by(alloc: Global, path: &str, answer: &Answer) -> Option<Told> {
+    let text = answer_text(alloc, path, &answer.what)?;
+    Some(Told {
+        place: answer.place,
+        text,
+    })
 }
 
 /// Asks one row; nothing where it is no request, or memory ran out.
@@ -32,13 +62,50 @@ fn ask_row<W: Wait>(
     ensures same { who pass.new ≡ who pass.old }
 {
     let (caller, request) = read_ask(alloc, tokens, row)?;
-    let mut gate = OpenGate;
-    let KeptAnswer { answer, kept: _ } = hall.ask_kept(rt, pass, &mut gate, &caller, &request);
-    let text = answer_text(alloc, on_text(&request), &answer.what)?;
-    Some(Told {
-        place: answer.place,
-        text,
-    })
+    let answer = ask(rt, hall, pass, &caller, &request);
+    told_by(alloc, on_text(&request), &answer)
+}
+
+/// Asks one row, whose answer is put behind those of others; whether it was told.
+fn ask_next<W: Wait>(
+    rt: &W,
+    alloc: Global,
+    hall: &Hall<MemDesk>,
+    pass: &mut Pass<MemDesk>,
+    tokens: &Tokens,
+    row: &str,
+    told: &mut Vec<Told>,
+) -> bool
+    requires of_this_hall { IsPassOf hall.now pass.old }
+    ensures of_this_hall { IsPassOf hall.now pass.new }
+    ensures same { who pass.new ≡ who pass.old }
+{
+    match ask_row(rt, alloc, hall, pass, tokens, row) {
+        Some(answer) => told.push(answer).is_ok(),
+        None => false,
+    }
+}
+
+/// Asks the rows, one behind the other; whether all were told.
+fn ask_each<W: Wait>(
+    rt: &W,
+    alloc: Global,
+    hall: &Hall<MemDesk>,
+    pass: &mut Pass<MemDesk>,
+    tokens: &Tokens,
+    rows: &[String],
+    told: &mut Vec<Told>,
+) -> bool
+    requires of_this_hall { IsPassOf hall.now pass.old }
+    ensures of_this_hall { IsPassOf hall.now pass.new }
+    ensures same { who pass.new ≡ who pass.old }
+{
+    'rows: for row in rows {
+        if !ask_next(rt, alloc, hall, pass, tokens, row.as_str(), told) {
+            return false;
+        }
+    }
+    true
 }
 
 /// Asks the rows, one behind the other; nothing where one of them is no request, or memory ran out.
@@ -55,9 +122,8 @@ pub(crate) fn ask_rows<W: Wait>(
 {
     let tokens = known(alloc)?;
     let mut told = Vec::new(alloc);
-    'rows: for row in rows {
-        let answer = ask_row(rt, alloc, hall, pass, &tokens, row.as_str())?;
-        told.push(answer).ok()?;
+    if ask_each(rt, alloc, hall, pass, &tokens, rows, &mut told) {
+        return Some(told);
     }
-    Some(told)
+    None
 }

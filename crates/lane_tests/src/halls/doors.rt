@@ -9,7 +9,7 @@ ghost use Rattle.service_core.specs.Worlds.{State};
 
 use crate::halls::patient_gate::PatientGate;
 use crate::halls::worlds::{MemDesk, hall_on, workshop};
-use crate::requests::known;
+use crate::requests::tokens;
 use edge_traits::{MemDoor, MemLink, MemSink, MemSource};
 use hall::{Hall, Pass};
 use rest_requests::Tokens;
@@ -118,6 +118,31 @@ fn dismiss(
     clerks.destroy_empty();
 }
 
+/// Serves both doors with the first pass of a hall for three, which then has all numbers again. The second post comes first.
+fn serve_both<R: Threads + Wait + Sync>(
+    rt: &R,
+    alloc: Global,
+    hall: &Hall<MemDesk>,
+    pass: &mut Pass<MemDesk>,
+    tokens: &Tokens,
+    first: Post,
+    second: Post,
+    mut clerks: Vec<Clerk>,
+) -> Vec<Post>
+    requires giver { IsGiver hall.now 2 pass.old }
+    requires first { (first.ends.items ≡ []) × (1 ≤ vec_capacity first.ends) }
+    requires second { (second.ends.items ≡ []) × (1 ≤ vec_capacity second.ends) }
+    requires room { (clerks.items ≡ []) × (2 ≤ vec_capacity clerks) }
+    ensures of_this_hall { IsPassOf hall.now pass.new }
+    ensures names { length (names_of pass.new) ≡ 3 }
+{
+    let mut posts = Vec::new(alloc);
+    hire_both(hall, pass, first, second, &mut clerks);
+    work_all(rt, alloc, hall, tokens, &mut clerks);
+    dismiss(hall, pass, clerks, &mut posts);
+    posts
+}
+
 /// Serves both doors over a hall with its first pass, to its end.
 fn over_hall<R: Threads + Wait + Sync>(
     rt: &R,
@@ -127,17 +152,14 @@ fn over_hall<R: Threads + Wait + Sync>(
     tokens: &Tokens,
     first: Post,
     second: Post,
-    mut clerks: Vec<Clerk>,
+    clerks: Vec<Clerk>,
 ) -> Vec<Post>
     requires begun { (s : State) × HasBegun hall pass s 3 }
     requires first { (first.ends.items ≡ []) × (1 ≤ vec_capacity first.ends) }
     requires second { (second.ends.items ≡ []) × (1 ≤ vec_capacity second.ends) }
     requires room { (clerks.items ≡ []) × (2 ≤ vec_capacity clerks) }
 {
-    let mut posts = Vec::new(alloc);
-    hire_both(&hall, &mut pass, first, second, &mut clerks);
-    work_all(rt, alloc, &hall, tokens, &mut clerks);
-    dismiss(&hall, &mut pass, clerks, &mut posts);
+    let posts = serve_both(rt, alloc, &hall, &mut pass, tokens, first, second, clerks);
     let (_world, _desk) = hall.close(pass);
     posts
 }
@@ -213,19 +235,39 @@ static ANSWERED: [&str; 2] = [
     "HTTP/1.1 200 OK\r\nContent-Type: application/json\r\nContent-Length: 35\r\n\r\n{\"value\":[[0,0],[0,0],[0,0],[0,0]]}HTTP/1.1 200 OK\r\nContent-Type: application/json\r\nContent-Length: 35\r\n\r\n{\"value\":[[0,0],[0,0],[0,0],[0,0]]}",
 ];
 
+/// The posts of both links, each behind its gate.
+fn both_posts(alloc: Global) -> Result<(Post, Post), AllocError>
+    ensures first { IfOk result (λ posts. (posts.0.ends.items ≡ []) × (1 ≤ vec_capacity posts.0.ends)) }
+    ensures second { IfOk result (λ posts. (posts.1.ends.items ≡ []) × (1 ≤ vec_capacity posts.1.ends)) }
+{
+    let (shut, open) = gates(alloc)?;
+    let first = post_at(alloc, shut, ASKED[0])?;
+    let second = post_at(alloc, open, ASKED[1])?;
+    Ok((first, second))
+}
+
+/// Both links as they were left, the second first.
+fn both_served<R: Threads + Wait + Sync>(rt: &R, alloc: Global) -> Result<Vec<Post>, Fail> {
+    let tokens = tokens(alloc)?;
+    let (first, second) = both_posts(alloc)?;
+    served(rt, alloc, &tokens, first, second)
+}
+
+/// Whether these are both, the second first, and each link was answered as it should.
+fn are_answered(posts: &[Post]) -> bool {
+    for (post, answer) in posts.iter().zip([ANSWERED[1], ANSWERED[0]]) {
+        if !post.has_answer(answer) {
+            return false;
+        }
+    }
+    posts.len() == 2
+}
+
 /// The first link reads an object of lane 1, behind a gate that stays shut until the second link asks again, so until its read of an
 /// object of lane 0 was answered. And that is answered only once the first stands before its gate.
 #[test]
 fn a_lane_that_waits_holds_up_no_other(rt: HostRuntime) -> Result<(), Fail> {
-    let alloc = rt.alloc();
-    let tokens = known(alloc).expect(&rt, "tokens");
-    let (shut, open) = gates(alloc)?;
-    let first = post_at(alloc, shut, ASKED[0])?;
-    let second = post_at(alloc, open, ASKED[1])?;
-    let posts = served(&rt, alloc, &tokens, first, second)?;
-    assert!(rt; posts.len() == 2);
-    for (post, answer) in posts.iter().zip([ANSWERED[1], ANSWERED[0]]) {
-        assert!(rt; post.has_answer(answer));
-    }
+    let posts = both_served(&rt, rt.alloc())?;
+    assert!(rt; are_answered(posts.as_slice()));
     Ok(())
 }

@@ -2,10 +2,11 @@
 
 use crate::halls::crowds::{Heard, Left, heard_at, over_journal};
 use crate::halls::worlds::workshop;
-use crate::openings::{begun_on, begun_world, kept_bytes, world_on};
+use crate::openings::{begun_world, kept_bytes, world_on};
 use crate::pictures::{Picture, picture_of};
 use crate::requests::{answer_to, tokens};
 use edge_traits::MemDisk;
+use rest_requests::Tokens;
 use service_core::World;
 use std::alloc::{AllocError, Global};
 use std::process::Abort;
@@ -69,6 +70,26 @@ fn scripts_of(alloc: Global, callers: usize, rows: usize) -> Result<Vec<Vec<Stri
     Ok(scripts)
 }
 
+fn assert_told(rt: &impl Abort, place: u64, row: &str, got: &str, wanted: &str) {
+    assert!(rt; got == wanted, "{place}: {row}: {got} for {wanted}");
+}
+
+/// One world is asked what was asked at a place, and answers it so.
+fn assert_place(
+    rt: &(impl Abort + AllocGlobal),
+    world: &mut World,
+    heard: &[Heard],
+    tokens: &Tokens,
+    place: u64,
+) -> Result<(), Fail> {
+    let Some((row, told)) = heard_at(heard, place) else {
+        return Err(Fail::from("nothing was answered at a place"));
+    };
+    let wanted = answer_to(rt.alloc(), tokens, world, row)?;
+    assert_told(rt, place, row, told.text.as_str(), wanted.as_str());
+    Ok(())
+}
+
 /// One world is asked what was asked at each of so many places, and answers it so.
 fn assert_replayed(
     rt: &(impl Abort + AllocGlobal),
@@ -76,18 +97,9 @@ fn assert_replayed(
     heard: &[Heard],
     places: usize,
 ) -> Result<(), Fail> {
-    let alloc = rt.alloc();
-    let tokens = tokens(alloc)?;
+    let tokens = tokens(rt.alloc())?;
     for place in 0..places {
-        let Some((row, told)) = heard_at(heard, place as u64) else {
-            return Err(Fail::from("nothing was answered at a place"));
-        };
-        let wanted = answer_to(alloc, &tokens, world, row)?;
-        let got = told.text.as_str();
-        assert!(rt;
-            got == wanted.as_str(),
-            "{place}: {row}: {got} for {wanted}"
-        );
+        assert_place(rt, world, heard, &tokens, place as u64)?;
     }
     Ok(())
 }
@@ -107,11 +119,34 @@ fn left_by(
     over_journal(rt, alloc, bytes, scripts)
 }
 
+/// What one world is behind so many places, where it answers alike.
+fn replayed_picture(
+    rt: &(impl Abort + AllocGlobal),
+    bytes: &[u8],
+    heard: &[Heard],
+    places: usize,
+) -> Result<Picture, Fail> {
+    let mut world = world_on(rt.alloc(), bytes)?;
+    assert_replayed(rt, &mut world, heard, places)?;
+    picture_of(rt.alloc(), &world)
+}
+
 /// What a journal tells once it has all that changed of a world.
 fn kept_picture(alloc: Global, world: World, disk: MemDisk) -> Result<Picture, Fail> {
     let (_, journal) = begun_world(alloc, disk)?;
     let bytes = kept_bytes(alloc, world, journal)?;
     picture_of(alloc, &world_on(alloc, bytes.as_slice())?)
+}
+
+/// Whether the journal that callers left tells this.
+fn keeps(alloc: Global, left: Left, wanted: &Picture) -> Result<bool, Fail> {
+    let Left {
+        world,
+        disk,
+        heard: _,
+    } = left;
+    let found = kept_picture(alloc, world, disk)?;
+    Ok(found.is_as(wanted))
 }
 
 /// All that was answered at so many places is answered alike by one world, and the journal tells that world.
@@ -121,13 +156,8 @@ fn assert_left(
     left: Left,
     places: usize,
 ) -> Result<(), Fail> {
-    let alloc = rt.alloc();
-    let Left { world, disk, heard } = left;
-    let (mut one, _journal) = begun_on(alloc, bytes, Vec::new(alloc))?;
-    assert_replayed(rt, &mut one, heard.as_slice(), places)?;
-    let wanted = picture_of(alloc, &one)?;
-    let found = kept_picture(alloc, world, disk)?;
-    assert!(rt; found.is_as(&wanted));
+    let wanted = replayed_picture(rt, bytes, left.heard.as_slice(), places)?;
+    assert!(rt; keeps(rt.alloc(), left, &wanted)?);
     Ok(())
 }
 

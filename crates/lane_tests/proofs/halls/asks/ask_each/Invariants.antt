@@ -1,6 +1,6 @@
 use Rattle.std.proofs.Common.{◌≡◌}
 use Rattle.hall.specs.Passes.{IsPassOf, who}
-use Rattle.lane_tests.proofs.halls.asks.ask_rows.Given as goal
+use Rattle.lane_tests.proofs.halls.asks.ask_each.Given as goal
 
 abbrev pub invariant-rows : goal.invariant-rows
 invariant-rows g l = record {
