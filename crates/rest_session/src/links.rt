@@ -3,14 +3,12 @@
 
 mod end;
 pub mod laws;
-mod lent;
 mod response;
 mod serve;
 mod service;
 mod writing;
 
 pub use end::{BUDGET, LinkEnd};
-pub use lent::Lent;
 pub use response::{Response, ResponseBody};
 pub use serve::serve_link;
 pub use service::Service;

@@ -28,7 +28,7 @@ pub trait Service {
     /// What has to hold where a message is answered. It holds again behind the answer.
     ghost ready: { Self → Type 0 } = { λ _. Unit {0} };
 
-    /// What no answer changes, as the reference through which a lent service is reached.
+    /// What no answer changes, as the references to what is lent to the service.
     ghost Fixed: { Type 0 };
 
     ghost fixed: { Self → Fixed };
